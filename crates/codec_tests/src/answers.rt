@@ -6,7 +6,7 @@ use std::process::Abort;
 use std::test::Fail;
 use zk_answers::{
     Form, ServerFrame, ServerRef, borrow_event_under, borrow_reply_under, fits, form_of,
-    front_reply, read_connected, read_event, read_reply, reply_head, scan_connected, scan_event,
+    quick_reply, read_connected, read_event, read_reply, reply_head, scan_connected, scan_event,
     scan_reply, write_server,
 };
 use zk_asks::{Ask, ClientFrame, read_ask};
@@ -89,7 +89,7 @@ fn reply_seen<'a>(form: &Form, payload: &'a [u8]) -> Result<ServerRef<'a>, ItemF
     borrow_reply_under(form, &head, payload)
 }
 
-/// Whether `front_reply` returns that the payload is a reply to `form`.
+/// Whether `quick_reply` returns that the payload is a reply to `form`.
 fn is_front(form: &Form, payload: &[u8]) -> bool {
     let Ok(head) = reply_head(payload) else {
         return false;
@@ -97,7 +97,7 @@ fn is_front(form: &Form, payload: &[u8]) -> bool {
     if head.xid == -1 {
         return false;
     }
-    front_reply(form, &head, payload)
+    quick_reply(form, &head, payload)
 }
 
 /// The event, if the payload is one.
@@ -176,7 +176,7 @@ fn told(alloc: Global, call: &str, form: &Form, payload: &[u8]) -> Result<String
     }
 }
 
-/// The payload is what the row says; borrowed, scanned and by `front_reply` it is judged alike.
+/// The payload is what the row says; borrowed, scanned and by `quick_reply` it is judged alike.
 fn judged(
     rt: &impl Abort,
     alloc: Global,

@@ -8,8 +8,8 @@ use std::alloc::Global;
 use std::process::Abort;
 use std::test::Fail;
 use zk_asks::{
-    Asked, ClientFrame, allowed, ask_laws, asked_laws, first_laws, form_laws, front_ask,
-    front_multi, opening_laws, read_ask, read_first, scan_ask, scan_first, write_client,
+    Asked, ClientFrame, allowed, ask_laws, asked_laws, first_laws, form_laws, opening_laws,
+    quick_ask, quick_multi, read_ask, read_first, scan_ask, scan_first, write_client,
 };
 use zk_jute::ItemFault;
 use zk_records::{Op, PartOp, Profile};
@@ -161,20 +161,20 @@ fn xids_of_operations(rt: HostRuntime) {
 const TWO: &str =
     "000000010000000e0000000200ffffffff000000022f61ffffffff0000000d00ffffffff000000022f6100000003ffffffff01ffffffff";
 
-/// The xid and the operation that `front_ask` returns.
+/// The xid and the operation that `quick_ask` returns.
 fn front_of(payload: &[u8]) -> Option<(i32, Op)> {
-    let (xid, front) = front_ask(Profile::V34, payload)?;
+    let (xid, front) = quick_ask(Profile::V34, payload)?;
     Some((xid, front.op))
 }
 
-/// The xid, the operation and the parts that `front_multi` returns.
+/// The xid, the operation and the parts that `quick_multi` returns.
 fn front_parts(payload: &[u8]) -> Option<(i32, Op, u32, [Option<PartOp>; 3])> {
-    let (xid, multi) = front_multi(Profile::V34, payload)?;
+    let (xid, multi) = quick_multi(Profile::V34, payload)?;
     let parts = [multi.part(0), multi.part(1), multi.part(2)];
     Some((xid, multi.op(), multi.parts(), parts))
 }
 
-/// `front_ask` and `front_multi` decide.
+/// `quick_ask` and `quick_multi` decide.
 #[test]
 fn fronts(rt: HostRuntime) -> Result<(), Fail> {
     let exists = front_of(b"\0\0\0\x01\0\0\0\x03\0\0\0\x02/a\x01");

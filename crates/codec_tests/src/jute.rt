@@ -2,7 +2,7 @@
 use std::process::Abort;
 use std::test::Fail;
 use zk_jute::{
-    BlobRef, Ends, ItemFault, Items, Payload, Reason, Stands, TextList, TextRef, bool_at, end_of,
+    BlobRef, Decode, Ends, ItemFault, Items, Payload, Reason, TextList, TextRef, bool_at, end_of,
     int_at, long_at, scan,
 };
 
@@ -134,6 +134,6 @@ fn place_within_a_pair(rt: HostRuntime) {
         place: 6,
         reason: Reason::Short,
     };
-    let answer = <(bool, (bool, TextList)) as Stands<Payload>>::read_in(&cut, 0);
+    let answer = <(bool, (bool, TextList)) as Decode<Payload>>::read_in(&cut, 0);
     assert_eq!(rt; answer.err(), Some(fault));
 }

@@ -6,7 +6,7 @@ use std::fmt::Debug;
 use std::process::Abort;
 use std::test::Fail;
 use zk_jute::{
-    Blob, ItemFault, Kept, List, Spell, Stands, Text, Wire, laws, read_flagged, reason_name,
+    Blob, Decode, ItemFault, Kept, List, Spell, Text, Wire, laws, read_flagged, reason_name,
 };
 use zk_records::{
     Acl, AclBody, AuthAsk, CheckAsk, ChildrenBody, ConnectRequest, ConnectResponse, CreateAsk,
@@ -42,7 +42,7 @@ fn again<T: Spell + Debug>(alloc: Global, value: &T, bytes: &[u8]) -> Result<Str
 }
 
 /// The value of the bytes, which is written again as they are, or what is wrong with them, in words.
-fn told<'a, T: Wire + Stands<Kept<'a>> + Debug>(
+fn told<'a, T: Wire + Decode<Kept<'a>> + Debug>(
     alloc: Global,
     bytes: &'a [u8],
 ) -> Result<String, Fail> {
@@ -116,7 +116,7 @@ fn change_told(alloc: Global, name: &str, bytes: &[u8]) -> Result<String, Fail> 
 }
 
 /// The value and the boolean of the bytes, or what is wrong with them, in words.
-fn flagged_told<'a, T: Wire + Stands<Kept<'a>> + Debug>(
+fn flagged_told<'a, T: Wire + Decode<Kept<'a>> + Debug>(
     alloc: Global,
     bytes: &'a [u8],
 ) -> Result<String, Fail> {

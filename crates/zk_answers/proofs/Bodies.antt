@@ -5,10 +5,12 @@ use Rattle.zk_jute.specs.Item.{Item, bytes_of, HaveBytes}
 use Rattle.zk_jute.specs.Wired.{Wired}
 use Rattle.zk_jute.proofs.Layouts.{bytes_only}
 use Rattle.zk_records.specs.declared.op.Op.{Op}
+use Rattle.zk_records.specs.declared.op.Op.TheVariants as ops
 use Rattle.zk_records.specs.declared.op.PartOp.{PartOp}
 use Rattle.zk_answers.specs.Held.{Body, PartDone}
 use Rattle.zk_answers.specs.declared.frame.BodyOf.TheVariants as body
 use Rattle.zk_answers.specs.Rows.{Row, holds, bare, multi, row_of, Content, remake, items_in}
+use Rattle.zk_answers.specs.Results.{AnswerAll}
 use Rattle.zk_answers.specs.Frames.{BodyFits}
 use Rattle.zk_answers.specs.Rows.{op_of_body, body_items}
 use Rattle.zk_answers.specs.Faults.{IsOfShape, shape_in, body_shape}
@@ -21,21 +23,26 @@ IsMade op b = (x : Content (row_of op)) × (remake (row_of op) x ≡ b) × (item
 pub is_made : (b : Body) → IsMade (op_of_body b) b
 unfolding IsMade
 is_made (body.Create path) = (path, refl, refl)
-is_made body.Delete = (tt, refl, refl)
-is_made (body.Exists s) = (s, refl, refl)
 is_made (body.GetData blob s) = (record { blob = blob; stat = s }, refl, refl)
-is_made (body.SetData s) = (s, refl, refl)
 is_made (body.GetAcl acl s) = (record { acl = acl; stat = s }, refl, refl)
-is_made (body.SetAcl s) = (s, refl, refl)
-is_made (body.GetChildren names) = (names, refl, refl)
-is_made (body.Sync path) = (path, refl, refl)
-is_made body.Ping = (tt, refl, refl)
 is_made (body.GetChildren2 names s) = (record { names = names; stat = s }, refl, refl)
-is_made (body.Multi dones) = (dones, refl, refl)
 is_made (body.Create2 path s) = (record { path = path; stat = s }, refl, refl)
-is_made body.Auth = (tt, refl, refl)
-is_made body.SetWatches = (tt, refl, refl)
-is_made body.CloseSession = (tt, refl, refl)
+is_made _ = (_, refl, refl)
+
+-- what is made of an operation's content is a body of it, with the content's items
+pub made_is : (op : Op) (x : Content (row_of op)) → (op_of_body (remake (row_of op) x) ≡ op) × (body_items (remake (row_of op) x) ≡ items_in (row_of op) x)
+made_is ops.Create x = (refl, refl)
+made_is _ x = (refl, refl)
+
+-- as many results as parts, each its part's own or an error
+abbrev pub RowFits : (r : Row) → List PartOp → Content r → Type 0
+RowFits (holds make w) parts x = Unit {0}
+RowFits (bare b) parts x = Unit {0}
+RowFits multi parts x = AnswerAll parts x
+
+pub made_fits : (op : Op) (parts : List PartOp) (x : Content (row_of op)) → RowFits (row_of op) parts x → BodyFits parts (remake (row_of op) x)
+made_fits ops.Multi parts x fits = fits
+made_fits _ parts x fits = tt
 
 row_is : (r : Row) (x : Content r) (parts : List PartOp) → BodyFits parts (remake r x) → HaveBytes (items_in r x) → IsOfShape (shape_in r parts) (items_in r x)
 row_is (holds make w) x parts fits have = (w.unfolds x, have)

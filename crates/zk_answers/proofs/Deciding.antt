@@ -5,14 +5,14 @@ use Rattle.std.specs.List.{flat_map}
 use Rattle.std.proofs.lemmas.List.{append-nil}
 use Rattle.zk_jute.specs.declared.fault.Reason.TheVariants.{Trailing, EventErr, BadPart}
 use Rattle.zk_jute.specs.Item.{Int, Item, AnInt, bytes_of, HaveBytes}
-use Rattle.zk_jute.specs.Layout.{Layout, End, One, IsValueOf}
-use Rattle.zk_jute.specs.Wired.{Wired, ustring, vector}
+use Rattle.zk_jute.specs.Layout.{Layout, End, One, Unfolds, IsValueOf}
+use Rattle.zk_jute.specs.Wired.{ustring, vector}
 use Rattle.zk_jute.specs.Flagged.{flag_items}
 use Rattle.zk_jute.proofs.Steps.{IsBytes}
 use Rattle.zk_jute.proofs.Layouts.{have_both, bytes_both}
 use Rattle.zk_jute.proofs.Covers.{Covers, int_covered, text_covered, vector_covered}
 use Rattle.zk_jute.proofs.Deciding.{Starts, HasFault, layout_decided, left, whole_of, IsFlaggedWhole, flagged_decided}
-use Rattle.zk_records.specs.Records.{connect_response, reply_header, multi_header, watcher_event, stat, data_body, acl_body, children_body, create_body}
+use Rattle.zk_records.specs.Records.{connect_response, reply_header, multi_header, watcher_event}
 use Rattle.zk_records.specs.declared.header.ReplyHeader.{ReplyHeader}
 use Rattle.zk_records.specs.declared.header.MultiHeader.{MultiHeader}
 use Rattle.zk_records.specs.declared.op.Op.{Op}
@@ -25,13 +25,14 @@ use Rattle.zk_asks.proofs.Choices.{int_decided, is_header}
 use Rattle.zk_asks.proofs.Deciding.{flag_has}
 use Rattle.zk_answers.specs.Held.{PartDone, Body, Reply, ServerFrame}
 use Rattle.zk_answers.specs.declared.frame.PartDoneOf.TheVariants as done
-use Rattle.zk_answers.specs.declared.frame.BodyOf.TheVariants as body
 use Rattle.zk_answers.specs.declared.frame.OutcomeOf.TheVariants as outcome
 use Rattle.zk_answers.specs.declared.frame.ServerFrameOf.TheVariants as frame
 use Rattle.zk_answers.specs.Results.{result_header, error_header, done_items, multi_items, Answers, AnswerAll, result_layout, IsDoneFault, in_mark, bad_mark, in_result, in_error, other_error, behind_result, behind_error}
-use Rattle.zk_answers.specs.Rows.{op_of_body, body_items}
-use Rattle.zk_answers.specs.Faults.{IsConnectedFault, IsHead, IsHeadFault, Shape, Fields, Results, IsRestFault, in_shape, past_shape, body_shape, rest_shape, IsReplyFault, in_rest, IsEventFault, bad_err, in_event}
+use Rattle.zk_answers.specs.Rows.{Row, holds, bare, multi, row_of, Content, remake, items_in, op_of_body, body_items}
+use Rattle.zk_answers.specs.Faults.{IsConnectedFault, IsHead, IsHeadFault, Shape, Fields, Results, IsRestFault, in_shape, past_shape, shape_in, body_shape, rest_shape, IsReplyFault, in_rest, IsEventFault, bad_err, in_event}
 use Rattle.zk_answers.specs.Frames.{event_header, header_of, IsConnected, IsEvent, IsSent, IsReplyTo, BodyFits, payload}
+use Rattle.zk_answers.proofs.Bodies.{made_is, RowFits, made_fits}
+use Rattle.zk_answers.proofs.Dones.{Result, done_of, result_items, items_of, own_made}
 use Rattle.zk_answers.proofs.Replies.{failed_shape}
 
 -- ---- the first payload
@@ -123,11 +124,22 @@ record IsOneDone (op : PartOp) (items : List Item) : Type 0 where
   answers : Answers op done
   same : done_items done ≡ marked (result_header op) ++ items
 
+texts_covered : Covers (vector ustring)
+texts_covered = vector_covered ustring text_covered
+
+nothing_covered : (items : List Item) → Unfolds End items → Unit {0} × ([] ≡ items)
+nothing_covered items u = (tt, sym u)
+
+ruleset records = (text_covered, stat_covered, nothing_covered, data_body_covered, acl_body_covered, children_body_covered, create_body_covered, texts_covered, tt)
+
+result_covers : (op : PartOp) (items : List Item) → Unfolds (result_layout op) items → (x : Result op) × (result_items op x ≡ items)
+result_covers parts.Create = text_covered
+result_covers _ = search records
+
 done_covered : (op : PartOp) (items : List Item) → IsValueOf (result_layout op) items → IsOneDone op items
-done_covered parts.Create items v = let x = text_covered items v.0 in record { done = done.Created x.0; answers = refl; same = ap (λ (z : List Item). marked (result_header parts.Create) ++ z) x.1 }
-done_covered parts.Delete items v = record { done = done.Deleted; answers = refl; same = sym (append-nil (marked (result_header parts.Delete))) ∙ ap (λ (z : List Item). marked (result_header parts.Delete) ++ z) (sym v.0) }
-done_covered parts.SetData items v = let x = stat_covered items v.0 in record { done = done.DataSet x.0; answers = refl; same = ap (λ (z : List Item). marked (result_header parts.SetData) ++ z) x.1 }
-done_covered parts.Check items v = record { done = done.Checked; answers = refl; same = sym (append-nil (marked (result_header parts.Check))) ∙ ap (λ (z : List Item). marked (result_header parts.Check) ++ z) (sym v.0) }
+done_covered op items v =
+    let x = result_covers op items v.0 in
+    record { done = done_of op x.0; answers = (own_made op x.0).1; same = items_of op x.0 ∙ ap (λ (z : List Item). marked (result_header op) ++ z) x.1 }
 
 -- one result more in front
 tells_more : (op : PartOp) (left : List PartOp) (bytes rest : List ℕ) (items : List Item) (d : PartDone) → Answers op d → done_items d ≡ items → HaveBytes items → bytes ≡ bytes_of items ++ rest → Tells left rest → Tells (op ∷ left) bytes
@@ -234,49 +246,48 @@ record BodyIs (op : Op) (left : List PartOp) (bytes : List ℕ) : Type 0 where
   have : HaveBytes (body_items body)
   whole : bytes ≡ bytes_of (body_items body)
 
-held : {X : Type 0} (make : X → Body) (w : Wired X) → Covers w → (op : Op) (left : List PartOp) → ((x : X) → op_of_body (make x) ≡ op) → ((x : X) → BodyFits left (make x)) → ((x : X) → w.items x ≡ body_items (make x)) → (bytes : List ℕ) → IsBytes bytes
-    → BodyIs op left bytes ⊎ HasFault (IsRestFault (Fields w.layout)) bytes
-held make w covers op left is fit same bytes fits = elim (fields_decided w.layout bytes fits) [
-  | inl s ↦
-      let x = covers s.items s.value.0 in
-      let items : s.items ≡ body_items (make x.0) = sym x.1 ∙ same x.0 in
-      inl (record { body = make x.0; is = is x.0; fits = fit x.0; have = subst HaveBytes items s.value.1; whole = s.whole ∙ ap bytes_of items })
-  | inr f ↦ inr f
-]
+-- the bytes are those of a row's content
+record HoldsRow (r : Row) (left : List PartOp) (bytes : List ℕ) : Type 0 where
+  content : Content r
+  fits : RowFits r left content
+  have : HaveBytes (items_in r content)
+  whole : bytes ≡ bytes_of (items_in r content)
 
-nothing : (b : Body) (op : Op) (left : List PartOp) → op_of_body b ≡ op → BodyFits left b → body_items b ≡ [] → (bytes : List ℕ) → IsBytes bytes → BodyIs op left bytes ⊎ HasFault (IsRestFault (Fields End)) bytes
-nothing b op left is fit none bytes fits = elim (fields_decided End bytes fits) [
-  | inl s ↦ inl (record { body = b; is = is; fits = fit; have = subst HaveBytes (sym none) tt; whole = s.whole ∙ ap bytes_of (s.value.0 ∙ sym none) })
-  | inr f ↦ inr f
-]
+abbrev Covered : Row → Type 0
+Covered (holds make w) = Covers w
+Covered (bare b) = Unit {0}
+Covered multi = Unit {0}
 
-multi_decided : (left : List PartOp) (bytes : List ℕ) → IsBytes bytes → BodyIs ops.Multi left bytes ⊎ HasFault (IsRestFault (Results left)) bytes
-multi_decided left bytes fits = elim (dones_decided left bytes fits) [ inl m ↦ last m (empty m.rest) | inr f ↦ inr (f.0, f.1, in_shape bytes f.0 f.1 f.2) ] where
-  empty : (rest : List ℕ) → (rest ≡ []) ⊎ (rest ≡ [] → ⊥)
-  empty [] = inl refl
-  empty (b ∷ rest) = inr (λ e. absurd cc)
+covered : (op : Op) → Covered (row_of op)
+covered ops.Create = text_covered
+covered _ = search records
 
-  last : (m : Tells left bytes) → ((m.rest ≡ []) ⊎ (m.rest ≡ [] → ⊥)) → BodyIs ops.Multi left bytes ⊎ HasFault (IsRestFault (Results left)) bytes
-  last m (inl none) = inl (record { body = body.Multi m.dones; is = refl; fits = m.all; have = m.have; whole = whole_of bytes m.rest (multi_items m.dones) m.splits none })
+multi_decided : (asked : List PartOp) (bytes : List ℕ) → IsBytes bytes → HoldsRow multi asked bytes ⊎ HasFault (IsRestFault (Results asked)) bytes
+multi_decided asked bytes fits = elim (dones_decided asked bytes fits) [ inl m ↦ last m (left m.rest) | inr f ↦ inr (f.0, f.1, in_shape bytes f.0 f.1 f.2) ] where
+  last : (m : Tells asked bytes) → ((m.rest ≡ []) ⊎ (m.rest ≡ [] → ⊥)) → HoldsRow multi asked bytes ⊎ HasFault (IsRestFault (Results asked)) bytes
+  last m (inl none) = inl (record { content = m.dones; fits = m.all; have = m.have; whole = whole_of bytes m.rest (multi_items m.dones) m.splits none })
   last m (inr some) = inr (length (bytes_of (multi_items m.dones)), Trailing, past_shape bytes m.rest (multi_items m.dones) (m.dones, m.all, m.have, refl) m.splits some)
 
+row_decided : (r : Row) → Covered r → (left : List PartOp) (bytes : List ℕ) → IsBytes bytes → HoldsRow r left bytes ⊎ HasFault (IsRestFault (shape_in r left)) bytes
+row_decided (holds make w) covers left bytes fits = elim (fields_decided w.layout bytes fits) [
+  | inl s ↦
+      let x = covers s.items s.value.0 in
+      inl (record { content = x.0; fits = tt; have = subst HaveBytes (sym x.1) s.value.1; whole = s.whole ∙ ap bytes_of (sym x.1) })
+  | inr f ↦ inr f
+]
+row_decided (bare b) covers left bytes fits = elim (fields_decided End bytes fits) [
+  | inl s ↦ inl (record { content = tt; fits = tt; have = tt; whole = s.whole ∙ ap bytes_of s.value.0 })
+  | inr f ↦ inr f
+]
+row_decided multi covers left bytes fits = multi_decided left bytes fits
+
 body_decided : (op : Op) (left : List PartOp) (bytes : List ℕ) → IsBytes bytes → BodyIs op left bytes ⊎ HasFault (IsRestFault (body_shape op left)) bytes
-body_decided ops.Create left bytes fits = held body.Create ustring text_covered ops.Create left (λ x. refl) (λ x. tt) (λ x. refl) bytes fits
-body_decided ops.Delete left bytes fits = nothing body.Delete ops.Delete left refl tt refl bytes fits
-body_decided ops.Exists left bytes fits = held body.Exists stat stat_covered ops.Exists left (λ x. refl) (λ x. tt) (λ x. refl) bytes fits
-body_decided ops.GetData left bytes fits = held (λ x. body.GetData x.blob x.stat) data_body data_body_covered ops.GetData left (λ x. refl) (λ x. tt) (λ x. refl) bytes fits
-body_decided ops.SetData left bytes fits = held body.SetData stat stat_covered ops.SetData left (λ x. refl) (λ x. tt) (λ x. refl) bytes fits
-body_decided ops.GetAcl left bytes fits = held (λ x. body.GetAcl x.acl x.stat) acl_body acl_body_covered ops.GetAcl left (λ x. refl) (λ x. tt) (λ x. refl) bytes fits
-body_decided ops.SetAcl left bytes fits = held body.SetAcl stat stat_covered ops.SetAcl left (λ x. refl) (λ x. tt) (λ x. refl) bytes fits
-body_decided ops.GetChildren left bytes fits = held body.GetChildren (vector ustring) (vector_covered ustring text_covered) ops.GetChildren left (λ x. refl) (λ x. tt) (λ x. refl) bytes fits
-body_decided ops.Sync left bytes fits = held body.Sync ustring text_covered ops.Sync left (λ x. refl) (λ x. tt) (λ x. refl) bytes fits
-body_decided ops.Ping left bytes fits = nothing body.Ping ops.Ping left refl tt refl bytes fits
-body_decided ops.GetChildren2 left bytes fits = held (λ x. body.GetChildren2 x.names x.stat) children_body children_body_covered ops.GetChildren2 left (λ x. refl) (λ x. tt) (λ x. refl) bytes fits
-body_decided ops.Multi left bytes fits = multi_decided left bytes fits
-body_decided ops.Create2 left bytes fits = held (λ x. body.Create2 x.path x.stat) create_body create_body_covered ops.Create2 left (λ x. refl) (λ x. tt) (λ x. refl) bytes fits
-body_decided ops.Auth left bytes fits = nothing body.Auth ops.Auth left refl tt refl bytes fits
-body_decided ops.SetWatches left bytes fits = nothing body.SetWatches ops.SetWatches left refl tt refl bytes fits
-body_decided ops.CloseSession left bytes fits = nothing body.CloseSession ops.CloseSession left refl tt refl bytes fits
+body_decided op left bytes fits = elim (row_decided (row_of op) (covered op) left bytes fits) [
+  | inl s ↦
+      let m = made_is op s.content in
+      inl (record { body = remake (row_of op) s.content; is = m.0; fits = made_fits op left s.content s.fits; have = subst HaveBytes (sym m.1) s.have; whole = s.whole ∙ ap bytes_of (sym m.1) })
+  | inr f ↦ inr f
+]
 
 -- ---- a reply
 

@@ -1,6 +1,6 @@
 -- A result of a part: what its header and its items are.
 use Rattle.std.proofs.Common.{◌≡◌, ℕ, ◌⊎◌, inl, inr, List, [], ◌∷◌, ◌++◌, refl, sym, ap, subst, ◌∙◌, append_assoc, arith}
-use Rattle.std.specs.Prelude.{ℤ, pos, negsuc}
+use Rattle.std.specs.Prelude.{ℤ, negsuc}
 use Rattle.std.specs.List.{flat_map}
 use Rattle.std.proofs.lemmas.Int.{ints}
 use Rattle.std.proofs.lemmas.List.{append-nil}
@@ -15,11 +15,12 @@ use Rattle.zk_records.specs.declared.header.MultiHeader.{MultiHeader}
 use Rattle.zk_records.specs.declared.stat.Stat.{Stat}
 use Rattle.zk_records.specs.declared.op.PartOp.{PartOp}
 use Rattle.zk_records.specs.declared.op.PartOp.TheVariants as parts
+use Rattle.zk_records.specs.Codes.{part_number}
 use Rattle.zk_records.specs.Records.{multi_header, stat}
 use Rattle.zk_answers.specs.Held.{PartDone}
 use Rattle.zk_answers.specs.declared.frame.PartDoneOf.TheVariants as done
 use Rattle.zk_asks.specs.Parts.{end_header, marked}
-use Rattle.zk_answers.specs.Results.{result_header, error_header, done_items, multi_items, result_layout, Answers}
+use Rattle.zk_answers.specs.Results.{result_header, error_header, done_items, multi_items, result_layout, result_of, Own, Answers}
 
 -- ---- headers
 
@@ -31,9 +32,7 @@ mark_same a b e = multi_header.tells_apart a b e
 
 pub result_bytes : (op : PartOp) → HaveBytes (marked (result_header op))
 result_bytes parts.Create = (omega (arith, ints), (tt, (omega (arith, ints), tt)))
-result_bytes parts.Delete = (omega (arith, ints), (tt, (omega (arith, ints), tt)))
-result_bytes parts.SetData = (omega (arith, ints), (tt, (omega (arith, ints), tt)))
-result_bytes parts.Check = (omega (arith, ints), (tt, (omega (arith, ints), tt)))
+result_bytes _ = (omega (arith, ints), (tt, (omega (arith, ints), tt)))
 
 pub end_bytes : HaveBytes (marked end_header)
 end_bytes = (omega (arith, ints), (tt, (omega (arith, ints), tt)))
@@ -44,11 +43,12 @@ result_mark op = mark_is (result_header op) (result_bytes op)
 pub end_mark : IsValueOf multi_header.layout (marked end_header)
 end_mark = mark_is end_header end_bytes
 
+pub not_failed : (op : PartOp) → negsuc 0 ≡ part_number op → ⊥
+not_failed parts.Create e = absurd cc
+not_failed _ e = absurd cc
+
 pub not_error : (op : PartOp) (e : ℤ) → result_header op ≡ error_header e → ⊥
-not_error parts.Create e same = let kind : pos 1 ≡ negsuc 0 = ap (λ (h : MultiHeader). h.kind) same in absurd cc
-not_error parts.Delete e same = let kind : pos 2 ≡ negsuc 0 = ap (λ (h : MultiHeader). h.kind) same in absurd cc
-not_error parts.SetData e same = let kind : pos 5 ≡ negsuc 0 = ap (λ (h : MultiHeader). h.kind) same in absurd cc
-not_error parts.Check e same = let kind : pos 13 ≡ negsuc 0 = ap (λ (h : MultiHeader). h.kind) same in absurd cc
+not_error op e same = not_failed op (sym (ap (λ (h : MultiHeader). h.kind) same))
 
 pub error_same : (e d : ℤ) → error_header e ≡ error_header d → e ≡ d
 error_same e d same = ap (λ (h : MultiHeader). h.err) same
@@ -57,9 +57,8 @@ error_same e d same = ap (λ (h : MultiHeader). h.err) same
 
 abbrev pub Result : PartOp → Type 0
 Result parts.Create = Text
-Result parts.Delete = Unit {0}
 Result parts.SetData = Stat
-Result parts.Check = Unit {0}
+Result _ = Unit {0}
 
 abbrev pub done_of : (op : PartOp) → Result op → PartDone
 done_of parts.Create path = done.Created path
@@ -69,38 +68,36 @@ done_of parts.Check _ = done.Checked
 
 abbrev pub result_items : (op : PartOp) → Result op → List Item
 result_items parts.Create path = text_items path
-result_items parts.Delete _ = []
 result_items parts.SetData s = stat.items s
-result_items parts.Check _ = []
+result_items _ x = []
 
 pub result_is : (op : PartOp) (x : Result op) → Unfolds (result_layout op) (result_items op x)
 result_is parts.Create path = text_unfolds path
-result_is parts.Delete _ = refl
 result_is parts.SetData s = stat.unfolds s
-result_is parts.Check _ = refl
+result_is _ x = refl
 
 pub result_apart : (op : PartOp) (x y : Result op) → result_items op x ≡ result_items op y → x ≡ y
 result_apart parts.Create x y e = text_apart x y e
-result_apart parts.Delete x y e = refl
 result_apart parts.SetData x y e = stat.tells_apart x y e
-result_apart parts.Check x y e = refl
+result_apart _ x y e = refl
 
 pub items_of : (op : PartOp) (x : Result op) → done_items (done_of op x) ≡ marked (result_header op) ++ result_items op x
-items_of parts.Create x = refl
 items_of parts.Delete x = sym (append-nil (marked (result_header parts.Delete)))
-items_of parts.SetData x = refl
 items_of parts.Check x = sym (append-nil (marked (result_header parts.Check)))
+items_of _ x = refl
+
+-- what is made of a part's own result is its own, and is one that answers it
+pub own_made : (op : PartOp) (x : Result op) → Own op (done_of op x) × Answers op (done_of op x) × (result_of (done_of op x) ≡ result_items op x)
+own_made parts.Create x = (refl, refl, refl)
+own_made _ x = (refl, refl, refl)
 
 -- the part's own result, or an error
 abbrev pub Done : PartOp → PartDone → Type 0
 Done op d = ((x : Result op) × (d ≡ done_of op x)) ⊎ ((e : ℤ) × (d ≡ done.PartFailed e))
 
 pub done_is : (op : PartOp) (d : PartDone) → Answers op d → Done op d
-done_is op (done.Created path) a = subst (λ (o : PartOp). Done o (done.Created path)) (sym a) (inl (path, refl))
-done_is op done.Deleted a = subst (λ (o : PartOp). Done o done.Deleted) (sym a) (inl (tt, refl))
-done_is op (done.DataSet s) a = subst (λ (o : PartOp). Done o (done.DataSet s)) (sym a) (inl (s, refl))
-done_is op done.Checked a = subst (λ (o : PartOp). Done o done.Checked) (sym a) (inl (tt, refl))
 done_is op (done.PartFailed e) a = inr (e, refl)
+done_is op d a = subst (λ (o : PartOp). Done o d) (sym a) (inl (_, refl))
 
 -- ---- results in order
 

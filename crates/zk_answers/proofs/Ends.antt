@@ -5,46 +5,50 @@ use Rattle.std.proofs.Math.Seq.{drop-append_seam}
 use Rattle.std.proofs.lemmas.List.{length-append}
 use Rattle.std.proofs.lemmas.Option.{IfSome_then}
 use Rattle.zk_jute.specs.Item.{Item, bytes_of, HaveBytes}
-use Rattle.zk_jute.specs.Layout.{Layout, End, IsValueOf}
+use Rattle.zk_jute.specs.Layout.{IsValueOf}
 use Rattle.zk_jute.specs.Told.{StandsAt}
-use Rattle.zk_jute.specs.Wired.{Wired}
 use Rattle.zk_records.specs.Records.{reply_header}
 use Rattle.zk_records.specs.declared.header.ReplyHeader.{ReplyHeader}
 use Rattle.zk_records.specs.declared.op.Op.{Op}
 use Rattle.zk_records.specs.declared.op.PartOp.{PartOp}
-use Rattle.zk_answers.specs.Held.{Body, Outcome, PartDone}
+use Rattle.zk_answers.specs.Held.{Body, Outcome}
 use Rattle.zk_answers.specs.declared.frame.OutcomeOf.TheVariants as outcome
 use Rattle.zk_answers.specs.Results.{Own, result_of, result_layout}
-use Rattle.zk_answers.specs.Rows.{op_of_body, body_items}
-use Rattle.zk_answers.specs.Frames.{BodyFits, OutcomeFits, IsOutcome, err_of, rest_items}
+use Rattle.zk_answers.specs.Rows.{row_of, Content, remake, items_in}
+use Rattle.zk_answers.specs.Frames.{OutcomeFits, IsOutcome, err_of, rest_items}
 use Rattle.zk_answers.specs.Faults.{IsHead}
 use Rattle.zk_answers.specs.Fronts.{IsBodyAlone, IsReplyUnder, IsResultAt}
 use Rattle.zk_answers.specs.Scanned.{IsBodyAt}
+use Rattle.zk_answers.proofs.Bodies.{made_is, RowFits, made_fits}
+use Rattle.zk_answers.proofs.Dones.{Result, done_of, result_items, result_is, own_made}
 use Rattle.zk_answers.proofs.Heads.{head_is}
 use Rattle.zk_answers.proofs.Refusals.{reply_found}
 
 module _ (src : List ℕ) (place : ℕ) (op : Op) where
-  -- of one record
-  pub of_record : {X : Type 0} (w : Wired X) (make : X → Body) → ((x : X) → op_of_body (make x) ≡ op) → ((x : X) (parts : List PartOp) → BodyFits parts (make x)) → ((x : X) → body_items (make x) ≡ w.items x)
-      → (end : Option ℕ) → IfSome end (λ n. (x : X) × HaveBytes (w.items x) × StandsAt (w.items x) src place n) → IfSome end (λ n. IsBodyAlone op src place n)
-  of_record w make is fits same end h =
-      IfSome_then end h (λ n s. (
-        make s.0,
-        is s.0,
-        fits s.0,
-        subst (λ (i : List Item). HaveBytes i) (sym (same s.0)) s.1,
-        subst (λ (i : List Item). StandsAt i src place n) (sym (same s.0)) s.2,
+  -- of what an operation's reply is made of
+  pub row_ends : (end : Option ℕ) (o : Op) → op ≡ o → ((x : Content (row_of o)) (parts : List PartOp) → RowFits (row_of o) parts x)
+      → IfSome end (λ n. (x : Content (row_of o)) × HaveBytes (items_in (row_of o) x) × StandsAt (items_in (row_of o) x) src place n) → IfSome end (λ n. IsBodyAlone op src place n)
+  row_ends end o e fits h =
+      IfSome_then end h (λ n s.
+      let m = made_is o s.0 in (
+        remake (row_of o) s.0,
+        m.0 ∙ sym e,
+        λ parts. made_fits o parts s.0 (fits s.0 parts),
+        subst HaveBytes (sym m.1) s.1,
+        subst (λ (i : List Item). StandsAt i src place n) (sym m.1) s.2,
       ))
 
   -- of nothing
-  pub of_nothing : (b : Body) → op_of_body b ≡ op → ((parts : List PartOp) → BodyFits parts b) → body_items b ≡ [] → IsBodyAlone op src place place
-  of_nothing b is fits same = (
-    b,
-    is,
-    fits,
-    subst (λ (i : List Item). HaveBytes i) (sym same) tt,
-    subst (λ (i : List Item). StandsAt i src place place) (sym same) (refl, omega arith),
-  )
+  pub nothing_ends : (o : Op) → op ≡ o → (x : Content (row_of o)) → ((parts : List PartOp) → RowFits (row_of o) parts x) → items_in (row_of o) x ≡ [] → IsBodyAlone op src place place
+  nothing_ends o e x fits is =
+      let m = made_is o x in
+      let nothing = sym (m.1 ∙ is) in (
+        remake (row_of o) x,
+        m.0 ∙ sym e,
+        λ parts. made_fits o parts x (fits parts),
+        subst HaveBytes nothing tt,
+        subst (λ (i : List Item). StandsAt i src place place) nothing (refl, omega arith),
+      )
 
 module _ (src : List ℕ) (header : ReplyHeader) (rest : List ℕ) (h : IsHead src header rest) where
   -- a header's 16 bytes are there
@@ -69,22 +73,23 @@ module _ (src : List ℕ) (header : ReplyHeader) (rest : List ℕ) (h : IsHead s
   done_there op parts b end x err t all = reply_there op parts (outcome.Done b) end x (t.0, t.1) tt (sym err) t.2 t.3 all
 
 module _ (src : List ℕ) (place : ℕ) (part : PartOp) where
-  -- of a part's own result
-  pub of_result : {X : Type 0} (w : Wired X) (make : X → PartDone) → w.layout ≡ result_layout part → ((x : X) → Own part (make x)) → ((x : X) → result_of (make x) ≡ w.items x)
-      → (end : Option ℕ) → IfSome end (λ n. (x : X) × HaveBytes (w.items x) × StandsAt (w.items x) src place n) → IfSome end (λ n. IsResultAt part src place n)
-  of_result w make laid own same end h =
-      IfSome_then end h (λ n s. (
-        make s.0,
-        own s.0,
-        subst (λ (i : List Item). IsValueOf (result_layout part) i) (sym (same s.0)) (subst (λ (l : Layout). IsValueOf l (w.items s.0)) laid (w.unfolds s.0, s.1)),
-        subst (λ (i : List Item). StandsAt i src place n) (sym (same s.0)) s.2,
-      ))
+  -- of what a part's own result is made of
+  abbrev AResult : PartOp → ℕ → Type 0
+  AResult o n = (x : Result o) × HaveBytes (result_items o x) × StandsAt (result_items o x) src place n
+
+  result_at : (o : PartOp) → part ≡ o → (n : ℕ) → AResult o n → IsResultAt part src place n
+  result_at o e n s =
+      let d = done_of o s.0 in
+      let m = own_made o s.0 in (
+        d,
+        subst (λ (p : PartOp). Own p d) (sym e) m.0,
+        subst (λ (p : PartOp). IsValueOf (result_layout p) (result_of d)) (sym e) (subst (IsValueOf (result_layout o)) (sym m.2) (result_is o s.0, s.1)),
+        subst (λ (i : List Item). StandsAt i src place n) (sym m.2) s.2,
+      )
+
+  pub result_ends : (end : Option ℕ) (o : PartOp) → part ≡ o → IfSome end (λ n. AResult o n) → IfSome end (λ n. IsResultAt part src place n)
+  result_ends end o e h = IfSome_then end h (result_at o e)
 
   -- of none
-  pub of_no_result : (d : PartDone) → End ≡ result_layout part → Own part d → result_of d ≡ [] → IsResultAt part src place place
-  of_no_result d laid own none = (
-    d,
-    own,
-    subst (λ (i : List Item). IsValueOf (result_layout part) i) (sym none) (subst (λ (l : Layout). IsValueOf l []) laid (refl, tt)),
-    subst (λ (i : List Item). StandsAt i src place place) (sym none) (refl, omega arith),
-  )
+  pub no_result_ends : (o : PartOp) → part ≡ o → (x : Result o) → result_items o x ≡ [] → IsResultAt part src place place
+  no_result_ends o e x none = result_at o e place (x, subst HaveBytes (sym none) tt, subst (λ (i : List Item). StandsAt i src place place) (sym none) (refl, omega arith))

@@ -119,8 +119,8 @@ module _ (src : List ℕ) (h : ReplyHeader) (after : ℕ) (f : HeaderStands src 
 
 -- ---- a body that is known to stand there
 
-pub row_known : (k : Bool) (src : List ℕ) (place : ℕ) (a b : Op) → a ≡ b → Known k (OneStands (items_in (row_of a)) src place) → Known k (OneStands (items_in (row_of b)) src place)
-row_known k src place a b e h = subst (λ (op : Op). Known k (OneStands (items_in (row_of op)) src place)) e h
+pub row_known : (k : Bool) (src : List ℕ) (place : ℕ) {a b : Op} → a ≡ b → Known k (OneStands (items_in (row_of a)) src place) → Known k (OneStands (items_in (row_of b)) src place)
+row_known k src place e h = subst (λ (op : Op). Known k (OneStands (items_in (row_of op)) src place)) e h
 
 others_fit : (b : Body) → op_of_body b ≢ ops.Multi → BodyFits [] b
 others_fit (body.Multi dones) n = absurd (n refl)

@@ -1,6 +1,6 @@
 -- Results that lie in a payload: what stands there is their value, and what reads them.
 use Rattle.std.proofs.Common.{◌≡◌, ℕ, ◌+◌, ◌≤◌, List, [], ◌∷◌, ◌++◌, length, drop, Some, None, Ok, Err, inr, refl, sym, ap, subst, ◌∙◌, arith}
-use Rattle.std.specs.Prelude.{ℤ, negsuc, Bool, Result, IfOk, IfErr, ◌≢◌}
+use Rattle.std.specs.Prelude.{ℤ, Bool, Result, IfOk, IfErr, ◌≢◌}
 use Rattle.std.specs.List.{flat_map}
 use Rattle.std.proofs.lemmas.List.{append-nil}
 use Rattle.zk_jute.specs.declared.fault.ItemFault.{ItemFault}
@@ -34,7 +34,7 @@ use Rattle.zk_answers.specs.Held.{PartDone}
 use Rattle.zk_answers.specs.declared.frame.PartDoneOf.TheVariants as done
 use Rattle.zk_answers.specs.Results.{error_header, result_header, done_items, mark_before, result_of, result_layout, multi_items, Answers, AnswerAll, Own, IsDoneFault}
 use Rattle.zk_answers.specs.Shown.{stat_of, counts_value, stat_value, result_value, done_value, dones_at}
-use Rattle.zk_answers.proofs.Dones.{mark_is, mark_same}
+use Rattle.zk_answers.proofs.Dones.{mark_is, mark_same, not_failed}
 use Rattle.zk_answers.proofs.Outcomes.{result_inside}
 
 -- ---- the records
@@ -67,24 +67,17 @@ module _ (src : List ℕ) where
 -- ---- what a result is made of
 
 pub items_are : (d : PartDone) → done_items d ≡ marked (mark_before d) ++ result_of d
-items_are (done.Created path) = refl
 items_are done.Deleted = sym (append-nil (marked (result_header parts.Delete)))
-items_are (done.DataSet s) = refl
 items_are done.Checked = sym (append-nil (marked (result_header parts.Check)))
-items_are (done.PartFailed e) = refl
+items_are _ = refl
 
 nine : (d : PartDone) → length (bytes_of (marked (mark_before d))) ≡ 9
 nine (done.Created path) = refl
-nine done.Deleted = refl
-nine (done.DataSet s) = refl
-nine done.Checked = refl
-nine (done.PartFailed e) = refl
+nine _ = refl
 
 numbered : (op : PartOp) → part_numbered (part_number op) ≡ Some op
 numbered parts.Create = refl
-numbered parts.Delete = refl
-numbered parts.SetData = refl
-numbered parts.Check = refl
+numbered _ = refl
 
 -- a value that stands is told
 stands_told : {X : Type 0} (w : Wired X) (src : List ℕ) (v : ℕ → Read X) → IsValued w src v → (x : X) (place end : ℕ) → HaveBytes (w.items x) → place ≤ length src → StandsAt (w.items x) src place end → v place ≡ Ok (x, end)
@@ -94,10 +87,9 @@ stands_told w src v is x place end have le s =
 
 behind_told : (src : List ℕ) (d : PartDone) (place end : ℕ) → place ≤ length src → HaveBytes (result_of d) → StandsAt (result_of d) src place end → result_value (part_numbered (mark_before d).kind) src place ≡ Ok (d, end)
 behind_told src (done.Created path) place end le have s = ap (read_map done.Created) (stands_told ustring src (text_value src) (text_is_value src) path place end have le s)
-behind_told src done.Deleted place end le have s = let same : place ≡ end = omega (arith, s.1) in ap (λ (n : ℕ). Ok (done.Deleted, n)) same
 behind_told src (done.DataSet x) place end le have s = ap (read_map done.DataSet) (stands_told stat src (stat_value src) (stat_valued src) x place end have le s)
-behind_told src done.Checked place end le have s = let same : place ≡ end = omega (arith, s.1) in ap (λ (n : ℕ). Ok (done.Checked, n)) same
 behind_told src (done.PartFailed e) place end le have s = ap (read_map done.PartFailed) (stands_told int src (int_at src) (int_valued src) e place end have le s)
+behind_told src d place end le have s = let same : place ≡ end = omega (arith, s.1) in ap (λ (n : ℕ). Ok (d, n)) same
 
 module _ (src : List ℕ) (d : PartDone) (place end : ℕ) (le : place ≤ length src) (have : HaveBytes (done_items d)) (stands : StandsAt (done_items d) src place end) where
   abbrev mark : List Item
@@ -150,18 +142,10 @@ done_read src d place end le have stands = done_there src d place end le have st
 
 -- ---- what its header tells of a result
 
-not_failed : (op : PartOp) → negsuc 0 ≡ part_number op → ⊥
-not_failed parts.Create e = absurd cc
-not_failed parts.Delete e = absurd cc
-not_failed parts.SetData e = absurd cc
-not_failed parts.Check e = absurd cc
-
 pub own_of : (d : PartDone) (op : PartOp) → (mark_before d).kind ≡ part_number op → Own op d
-own_of (done.Created path) op e = sym (part_number_apart parts.Create op e)
-own_of done.Deleted op e = sym (part_number_apart parts.Delete op e)
-own_of (done.DataSet s) op e = sym (part_number_apart parts.SetData op e)
-own_of done.Checked op e = sym (part_number_apart parts.Check op e)
+own_of (done.Created path) op e = sym (part_number_apart _ op e)
 own_of (done.PartFailed n) op e = not_failed op e
+own_of _ op e = sym (part_number_apart _ op e)
 
 pub failed_of : (d : PartDone) → ((op : PartOp) → (mark_before d).kind ≢ part_number op) → (e : ℤ) × (d ≡ done.PartFailed e)
 failed_of (done.Created path) not = absurd (not parts.Create refl)
@@ -170,33 +154,29 @@ failed_of (done.DataSet s) not = absurd (not parts.SetData refl)
 failed_of done.Checked not = absurd (not parts.Check refl)
 failed_of (done.PartFailed e) not = (e, refl)
 
-own_kind : (op : PartOp) (d : PartDone) → Own op d → (mark_before d).kind ≡ part_number op
-own_kind op (done.Created path) own = ap part_number (sym own)
-own_kind op done.Deleted own = ap part_number (sym own)
-own_kind op (done.DataSet s) own = ap part_number (sym own)
-own_kind op done.Checked own = ap part_number (sym own)
-own_kind op (done.PartFailed e) own = absurd own
+own_mark : (op : PartOp) (d : PartDone) → Own op d → mark_before d ≡ result_header op
+own_mark op (done.Created path) own = ap result_header (sym own)
+own_mark op (done.PartFailed e) own = absurd own
+own_mark op _ own = ap result_header (sym own)
+
+pub own_kind : (op : PartOp) (d : PartDone) → Own op d → (mark_before d).kind ≡ part_number op
+own_kind op d own = ap (λ (h : MultiHeader). h.kind) (own_mark op d own)
 
 own_is : (op : PartOp) (d : PartDone) → Own op d → Unfolds (result_layout op) (result_of d)
 own_is op (done.Created path) own = subst (λ (o : PartOp). Unfolds (result_layout o) (text_items path)) (sym own) (text_unfolds path)
-own_is op done.Deleted own = subst (λ (o : PartOp). Unfolds (result_layout o) []) (sym own) refl
 own_is op (done.DataSet s) own = subst (λ (o : PartOp). Unfolds (result_layout o) (stat.items s)) (sym own) (stat.unfolds s)
-own_is op done.Checked own = subst (λ (o : PartOp). Unfolds (result_layout o) []) (sym own) refl
 own_is op (done.PartFailed e) own = absurd own
+own_is op _ own = subst (λ (o : PartOp). Unfolds (result_layout o) []) (sym own) refl
 
 created_of : (d : PartDone) → Own parts.Create d → (x : Text) × (result_of d ≡ text_items x)
 created_of (done.Created path) own = (path, refl)
-created_of done.Deleted own = absurd cc
-created_of (done.DataSet s) own = absurd cc
-created_of done.Checked own = absurd cc
 created_of (done.PartFailed e) own = absurd own
+created_of _ own = absurd cc
 
 set_of : (d : PartDone) → Own parts.SetData d → (x : Stat) × (result_of d ≡ stat.items x)
-set_of (done.Created path) own = absurd cc
-set_of done.Deleted own = absurd cc
 set_of (done.DataSet s) own = (s, refl)
-set_of done.Checked own = absurd cc
 set_of (done.PartFailed e) own = absurd own
+set_of _ own = absurd cc
 
 module _ (src : List ℕ) (place : ℕ) (op : PartOp) where
   stands_as : {X : Type 0} (w : Wired X) (own : PartOp) → ((d : PartDone) → Own own d → (x : X) × (result_of d ≡ w.items x)) → op ≡ own → (e : ℕ) × IsResultAt op src place e → OneStands w.items src place
@@ -277,19 +257,9 @@ dones_counted src = values_counted done_items src (done_value src) (done_read sr
 
 -- ---- a part's own result behind its header
 
-own_answers : (op : PartOp) (d : PartDone) → Own op d → Answers op d
-own_answers op (done.Created path) own = own
-own_answers op done.Deleted own = own
-own_answers op (done.DataSet s) own = own
-own_answers op done.Checked own = own
+pub own_answers : (op : PartOp) (d : PartDone) → Own op d → Answers op d
 own_answers op (done.PartFailed e) own = absurd own
-
-own_mark : (op : PartOp) (d : PartDone) → Own op d → mark_before d ≡ result_header op
-own_mark op (done.Created path) own = ap result_header (sym own)
-own_mark op done.Deleted own = ap result_header (sym own)
-own_mark op (done.DataSet s) own = ap result_header (sym own)
-own_mark op done.Checked own = ap result_header (sym own)
-own_mark op (done.PartFailed e) own = absurd own
+own_answers op _ own = own
 
 module _ (op : PartOp) (src : List ℕ) (place after : ℕ) (header : MultiHeader) where
   pub own_found : HaveBytes (marked header) → StandsAt (marked header) src place after → header ≡ result_header op

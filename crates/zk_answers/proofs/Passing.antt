@@ -22,12 +22,9 @@ use Rattle.zk_answers.proofs.Dones.{mark_same, end_mark}
 use Rattle.zk_jute.specs.Standing.{OneStands}
 use Rattle.zk_answers.proofs.Lying.{done_read, header_read, behind_there, mark_stands}
 
-not_end : (d : PartDone) → mark_before d ≡ end_header → ⊥
+pub not_end : (d : PartDone) → mark_before d ≡ end_header → ⊥
 not_end (done.Created path) e = let k : false ≡ true = ap (λ (h : MultiHeader). h.done) e in absurd cc
-not_end done.Deleted e = let k : false ≡ true = ap (λ (h : MultiHeader). h.done) e in absurd cc
-not_end (done.DataSet s) e = let k : false ≡ true = ap (λ (h : MultiHeader). h.done) e in absurd cc
-not_end done.Checked e = let k : false ≡ true = ap (λ (h : MultiHeader). h.done) e in absurd cc
-not_end (done.PartFailed n) e = let k : false ≡ true = ap (λ (h : MultiHeader). h.done) e in absurd cc
+not_end _ e = let k : false ≡ true = ap (λ (h : MultiHeader). h.done) e in absurd cc
 
 abbrev answered : PartDone → ℕ → Result (PartDone × ℕ) ItemFault
 answered d n = Ok (d, n)

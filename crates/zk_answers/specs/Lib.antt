@@ -1,7 +1,6 @@
 pub mod Results
 pub mod Rows
 pub mod Held
-pub mod Cases
 pub mod Known
 pub mod Scanned
 pub mod Shown

@@ -15,8 +15,8 @@ use Rattle.zk_records.specs.Records.{multi_header, stat}
 use Rattle.zk_asks.specs.Parts.{end_header, marked}
 use Rattle.zk_answers.specs.Held.{PartDone}
 use Rattle.zk_answers.specs.declared.frame.PartDoneOf.TheVariants as done
-use Rattle.zk_answers.specs.declared.multi.Mark.{Mark}
-use Rattle.zk_answers.specs.declared.multi.Mark.TheVariants as mark
+use Rattle.zk_answers.specs.declared.multi.ResultMark.{ResultMark}
+use Rattle.zk_answers.specs.declared.multi.ResultMark.TheVariants as mark
 
 -- the header before a part's result, and the one before an error
 abbrev pub result_header : PartOp → MultiHeader
@@ -117,7 +117,7 @@ pub data IsDoneFault : List PartOp → List ℕ → ℕ → Reason → Type 0 wh
       → IsDoneFault (op ∷ ops) bytes (length (bytes_of (error_items e e)) + behind) reason
 
 -- what comes after a header, while a part is left
-abbrev pub ItsPlace : PartOp → MultiHeader → Mark → Type 0
+abbrev pub ItsPlace : PartOp → MultiHeader → ResultMark → Type 0
 ItsPlace op header mark.Result = header ≡ result_header op
 ItsPlace op header mark.Error = header ≡ error_header header.err
 ItsPlace op header mark.Bad = (header ≢ result_header op) × ((e : ℤ) → header ≢ error_header e)

@@ -51,6 +51,25 @@ items_in (holds make w) x = w.items x
 items_in (bare b) x = []
 items_in multi x = multi_items x
 
+-- a body is what its row makes: what is given for each row is given for each body
+abbrev pub by_op {ℓ} : (P : Body → Type ℓ) → ((op : Op) (x : Content (row_of op)) → P (remake (row_of op) x)) → (b : Body) → P b
+by_op P f (body.Create p) = f ops.Create p
+by_op P f body.Delete = f ops.Delete tt
+by_op P f (body.Exists s) = f ops.Exists s
+by_op P f (body.GetData b s) = f ops.GetData (record { blob = b; stat = s })
+by_op P f (body.SetData s) = f ops.SetData s
+by_op P f (body.GetAcl a s) = f ops.GetAcl (record { acl = a; stat = s })
+by_op P f (body.SetAcl s) = f ops.SetAcl s
+by_op P f (body.GetChildren n) = f ops.GetChildren n
+by_op P f (body.Sync p) = f ops.Sync p
+by_op P f body.Ping = f ops.Ping tt
+by_op P f (body.GetChildren2 n s) = f ops.GetChildren2 (record { names = n; stat = s })
+by_op P f (body.Multi ds) = f ops.Multi ds
+by_op P f (body.Create2 p s) = f ops.Create2 (record { path = p; stat = s })
+by_op P f body.Auth = f ops.Auth tt
+by_op P f body.SetWatches = f ops.SetWatches tt
+by_op P f body.CloseSession = f ops.CloseSession tt
+
 -- ---- a body's operation, and its items
 
 abbrev pub op_of_body : {T B L A M : Type 0} → BodyOf T B L A M → Op
@@ -72,19 +91,4 @@ op_of_body body.SetWatches = ops.SetWatches
 op_of_body body.CloseSession = ops.CloseSession
 
 abbrev pub body_items : Body → List Item
-body_items (body.Create path) = ustring.items path
-body_items body.Delete = []
-body_items (body.Exists s) = stat.items s
-body_items (body.GetData blob s) = data_body.items (record { blob = blob; stat = s })
-body_items (body.SetData s) = stat.items s
-body_items (body.GetAcl acl s) = acl_body.items (record { acl = acl; stat = s })
-body_items (body.SetAcl s) = stat.items s
-body_items (body.GetChildren names) = (vector ustring).items names
-body_items (body.Sync path) = ustring.items path
-body_items body.Ping = []
-body_items (body.GetChildren2 names s) = children_body.items (record { names = names; stat = s })
-body_items (body.Multi dones) = multi_items dones
-body_items (body.Create2 path s) = create_body.items (record { path = path; stat = s })
-body_items body.Auth = []
-body_items body.SetWatches = []
-body_items body.CloseSession = []
+body_items = by_op (λ _. List Item) (λ op x. items_in (row_of op) x)

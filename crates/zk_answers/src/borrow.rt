@@ -11,16 +11,17 @@ ghost use Rattle.zk_answers.specs.Frames as sent;
 ghost use Rattle.zk_answers.specs.Scanned.{IsBodyAt, IsOutcomeAt};
 ghost use Rattle.zk_answers.specs.Faults.{IsShapeFault, body_shape, rest_shape, IsConnectedFault, IsHead, IsReplyFault, IsEventFault};
 
+use crate::body_rows;
 use crate::done_list::results_ref;
 use crate::frame::{
-    BodyOf, BodyRef, Failure, OutcomeOf, OutcomeRef, ReplyOf, ServerFrameOf, ServerRef, body_rows,
+    BodyOf, BodyRef, Failure, OutcomeOf, OutcomeRef, ReplyOf, ServerFrameOf, ServerRef,
 };
-use crate::front::HEADER;
+use crate::quick::HEADER;
 use zk_asks::Asked;
-use zk_jute::{ItemFault, Payload, PayloadOf, Reason, TextList, TextRef, read_ref, scan_flagged};
+use zk_jute::{ItemFault, Payload, PayloadOf, Reason, read_ref, scan_flagged};
 use zk_records::{
     AclBodyRef, ChildrenBodyRef, ConnectResponseRef, CreateBodyRef, DataBodyRef, Op, ReplyHeader,
-    Stat, WatcherEventRef,
+    WatcherEventRef, borrowed,
 };
 
 /// The body at `place` of a reply to `form`, and the place after it; judged, or known to be there.
@@ -37,10 +38,10 @@ pub(crate) fn body_ref<'a, F: Asked, const KNOWN: bool>(
     ensures within { IfOk result (λ x. x.1 ≤ length src.now.bytes.now) }
 {
     macro_rules! row {
-        ($($($one:ident)|+: $field:ident $only:ident),+;
-         $($both:ident: $pair:ident $first:ident),+; $($bare:ident)|+) => {
-            match form.op() {
-                $($(Op::$one => match read_ref::<_, $field>(src, place) {
+        ($form:ident: $($($one:ident)|+: $only:ident $name:ident $kind:ident),+;
+         $($both:ident: $first:ident $jute:ident $shape:ident $pair:ident),+; $($bare:ident)|+) => {
+            match $form.op() {
+                $($(Op::$one => match read_ref::<_, borrowed!($kind)>(src, place) {
                     Ok(($only, end)) => Ok((BodyOf::$one { $only }, end)),
                     Err(fault) => Err(fault),
                 },)+)+
@@ -56,7 +57,7 @@ pub(crate) fn body_ref<'a, F: Asked, const KNOWN: bool>(
             }
         };
     }
-    body_rows!(row)
+    body_rows!(row, form)
 }
 
 /// What follows a header with the error `err`: nothing if it isn't 0, else the body.

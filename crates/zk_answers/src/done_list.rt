@@ -15,10 +15,10 @@ ghost use Rattle.zk_answers.specs.Fronts.{IsResultAt, IsDoneAt};
 ghost use Rattle.zk_answers.specs.Shown.{dones_at};
 
 use crate::frame::{PartDoneOf, PartDoneRef};
-use crate::multi::{Mark, is_end, mark_of};
+use crate::multi::{ResultMark, is_end, result_mark_of};
 use std::marker::Model;
 use zk_asks::Asked;
-use zk_jute::{Ends, ItemFault, KnownPayload, Payload, PayloadOf, Reason, TextRef, read_ref};
+use zk_jute::{Ends, ItemFault, KnownPayload, Left, Payload, PayloadOf, Reason, TextRef, read_ref};
 use zk_records::{MultiHeader, PartOp, Stat, part_of};
 
 /// The results of a multi's parts, borrowed.
@@ -188,16 +188,16 @@ fn done_end(src: &Payload<'_>, place: usize, op: PartOp) -> Result<usize, ItemFa
     ensures within { IfOk result (λ end. end ≤ length src.now.bytes.now) }
 {
     let (header, after) = read_ref::<_, MultiHeader>(src, place)?;
-    match mark_of(&header, op) {
-        Mark::Bad => Err(ItemFault::at(place, Reason::BadPart)),
-        Mark::Error => {
+    match result_mark_of(&header, op) {
+        ResultMark::Bad => Err(ItemFault::at(place, Reason::BadPart)),
+        ResultMark::Error => {
             let (number, end) = read_ref::<_, i32>(src, after)?;
             if number != header.err {
                 return Err(ItemFault::at(place, Reason::BadPart));
             }
             Ok(end)
         }
-        Mark::Result => own_end(src, after, op),
+        ResultMark::Result => own_end(src, after, op),
     }
 }
 
@@ -252,4 +252,14 @@ pub(crate) fn results_ref<'a, F: Asked>(
         return Err(ItemFault::at(at, Reason::BadPart));
     }
     Ok((lying(src.bytes, form.parts() as usize, place), end))
+}
+
+impl<'a> Left for DoneItems<'a> {
+    type One = PartDoneRef<'a>;
+
+    ghost left = { λ dones. dones };
+
+    fn take(&mut self) -> Option<PartDoneRef<'a>> {
+        self.next()
+    }
 }

@@ -150,33 +150,33 @@ pub type ServerFrame = ServerFrameOf<Text, Blob, Body>;
 /// A borrowed `ServerFrame`.
 pub type ServerRef<'a> = ServerFrameOf<TextRef<'a>, BlobRef<'a>, BodyRef<'a>>;
 
-/// `body_rows!(row)` is `row!(..; ..; ..)` with the operations whose replies have one field, by what borrows it and its
-/// name; those that have one and a `Stat`, by the record of both and the name of the first; and those that have
-/// nothing. A multi has its results.
+/// `body_rows!(row, with)` is `row!(with: ..; ..; ..)` with the operations whose replies have one field, by its name here,
+/// its name in jute and its kind, as in `fields_of!`; those that have one and a `Stat`, by the first field, too, and the
+/// record of both, borrowed; and those that have nothing. A multi has its results.
+#[macro_export]
 macro_rules! body_rows {
-    ($row:ident) => {
+    ($row:ident, $($with:tt)+) => {
         $row!(
-            Create | Sync: TextRef path,
-            Exists | SetData | SetAcl: Stat stat,
-            GetChildren: TextList names;
-            GetData: DataBodyRef blob,
-            GetAcl: AclBodyRef acl,
-            GetChildren2: ChildrenBodyRef names,
-            Create2: CreateBodyRef path;
+            $($with)+:
+            Create | Sync: path PATH text,
+            Exists | SetData | SetAcl: stat NONE stat,
+            GetChildren: names CHILDREN texts;
+            GetData: blob DATA blob DataBodyRef,
+            GetAcl: acl ACL rights AclBodyRef,
+            GetChildren2: names CHILDREN texts ChildrenBodyRef,
+            Create2: path PATH text CreateBodyRef;
             Delete | Ping | Auth | SetWatches | CloseSession
         )
     };
 }
 
-pub(crate) use body_rows;
-
 fn op_of<T, B, L, A, M>(body: &BodyOf<T, B, L, A, M>) -> Op
     ensures { result ≡ op_of_body body.now }
 {
     macro_rules! row {
-        ($($($one:ident)|+: $field:ident $only:ident),+;
-         $($both:ident: $pair:ident $first:ident),+; $($bare:ident)|+) => {
-            match body {
+        ($body:ident: $($($one:ident)|+: $only:ident $name:ident $kind:ident),+;
+         $($both:ident: $first:ident $jute:ident $shape:ident $pair:ident),+; $($bare:ident)|+) => {
+            match $body {
                 $($(BodyOf::$one { .. } => Op::$one,)+)+
                 $(BodyOf::$both { .. } => Op::$both,)+
                 $(BodyOf::$bare => Op::$bare,)+
@@ -184,7 +184,7 @@ fn op_of<T, B, L, A, M>(body: &BodyOf<T, B, L, A, M>) -> Op
             }
         };
     }
-    body_rows!(row)
+    body_rows!(row, body)
 }
 
 impl<T, B, L, A, M> ReplyOf<BodyOf<T, B, L, A, M>> {

@@ -1,4 +1,4 @@
-//! `Mark`: what comes after a header within a multi's results (`MultiResponse`).
+//! `ResultMark`: what comes after a header within a multi's results (`MultiResponse`).
 ghost use Rattle.std.specs.Prelude.{◌≡◌, ◌↔◌, IsTrue};
 ghost use Rattle.zk_asks.specs.Parts.{end_header};
 ghost use Rattle.zk_answers.specs.Results.{ItsPlace};
@@ -7,23 +7,23 @@ use zk_records::{MultiHeader, PartOp, part_number};
 
 /// What comes after a header while a part is left: the part's record, an error, or what can't be read.
 #[derive(Drop)]
-pub(crate) enum Mark {
+pub(crate) enum ResultMark {
     Result,
     Error,
     Bad,
 }
 
-pub(crate) fn mark_of(header: &MultiHeader, op: PartOp) -> Mark
+pub(crate) fn result_mark_of(header: &MultiHeader, op: PartOp) -> ResultMark
     ensures { ItsPlace op header.now result }
 {
     if header.done {
-        Mark::Bad
+        ResultMark::Bad
     } else if header.kind == -1 {
-        Mark::Error
+        ResultMark::Error
     } else if header.kind == part_number(op) && header.err == 0 {
-        Mark::Result
+        ResultMark::Result
     } else {
-        Mark::Bad
+        ResultMark::Bad
     }
 }
 

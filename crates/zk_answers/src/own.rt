@@ -1,10 +1,11 @@
 //! Owned copies of borrowed server frames.
 ghost use Rattle.std.specs.Prelude.{◌≡◌};
 
+use crate::body_rows;
 use crate::done_list::DoneList;
 use crate::frame::{
     Body, BodyOf, BodyRef, Outcome, OutcomeOf, OutcomeRef, PartDone, PartDoneOf, PartDoneRef,
-    Reply, ReplyOf, ReplyRef, ServerFrame, ServerFrameOf, ServerRef, body_rows,
+    Reply, ReplyOf, ReplyRef, ServerFrame, ServerFrameOf, ServerRef,
 };
 use std::alloc::{AllocError, Global};
 use zk_jute::Items;
@@ -43,9 +44,9 @@ impl<'a> Own for BodyRef<'a> {
 
     fn own(&self, alloc: Global) -> Result<Body, AllocError> {
         macro_rules! row {
-            ($($($one:ident)|+: $field:ident $only:ident),+;
-             $($both:ident: $pair:ident $first:ident),+; $($bare:ident)|+) => {
-                match self {
+            ($body:ident: $($($one:ident)|+: $only:ident $name:ident $kind:ident),+;
+             $($both:ident: $first:ident $jute:ident $shape:ident $pair:ident),+; $($bare:ident)|+) => {
+                match $body {
                     $($(BodyOf::$one { $only } => Ok(BodyOf::$one { $only: $only.own(alloc)? }),)+)+
                     $(BodyOf::$both { $first, stat } => Ok(BodyOf::$both {
                         $first: $first.own(alloc)?,
@@ -56,7 +57,7 @@ impl<'a> Own for BodyRef<'a> {
                 }
             };
         }
-        body_rows!(row)
+        body_rows!(row, self)
     }
 }
 

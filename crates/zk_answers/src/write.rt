@@ -6,7 +6,8 @@ ghost use Rattle.zk_answers.specs.Results as results;
 ghost use Rattle.zk_answers.specs.Rows as rows;
 ghost use Rattle.zk_answers.specs.Frames as frames;
 
-use crate::frame::{Body, Outcome, PartDone, Reply, ServerFrame, body_rows};
+use crate::body_rows;
+use crate::frame::{Body, Outcome, PartDone, Reply, ServerFrame};
 use std::alloc::AllocError;
 use zk_jute::{Output, Spell};
 use zk_records::{MultiHeader, PartOp, ReplyHeader, part_number};
@@ -63,9 +64,9 @@ impl Spell for Body {
 
     fn put<O: Output>(&self, out: &mut O) -> Result<(), O::Error> {
         macro_rules! row {
-            ($($($one:ident)|+: $field:ident $only:ident),+;
-             $($both:ident: $pair:ident $first:ident),+; $($bare:ident)|+) => {
-                match self {
+            ($body:ident: $($($one:ident)|+: $only:ident $name:ident $kind:ident),+;
+             $($both:ident: $first:ident $jute:ident $shape:ident $pair:ident),+; $($bare:ident)|+) => {
+                match $body {
                     $($(Body::$one { $only } => $only.put(out),)+)+
                     $(Body::$both { $first, stat } => ($first, stat).put(out),)+
                     $(Body::$bare)|+ => Ok(()),
@@ -73,7 +74,7 @@ impl Spell for Body {
                 }
             };
         }
-        body_rows!(row)
+        body_rows!(row, self)
     }
 }
 

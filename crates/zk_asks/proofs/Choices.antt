@@ -1,17 +1,16 @@
 -- What is so or is not: numbers, operations, headers, and whether a request may have an xid.
 use Rattle.std.proofs.Common.{◌≡◌, ◌⊎◌, inl, inr, List, [], ◌∷◌, Bool, true, false, refl, ap}
 use Rattle.std.specs.Prelude.{ℤ}
-use Rattle.std.specs.List.{AllByRecursion}
+use Rattle.std.specs.List.{All}
+use Rattle.std.proofs.lemmas.List.Elements.{All-nil, All-cons}
 use Rattle.std.proofs.Math.IntN.{ℤ_discrete}
 use Rattle.zk_records.specs.declared.op.Op.{Op}
 use Rattle.zk_records.specs.declared.op.Op.TheVariants as ops
-use Rattle.zk_records.specs.declared.op.PartOp.{PartOp}
-use Rattle.zk_records.specs.declared.op.PartOp.TheVariants as parts
 use Rattle.zk_records.specs.declared.header.MultiHeader.{MultiHeader}
 use Rattle.zk_records.specs.declared.profile.Profile.{Profile}
 use Rattle.zk_records.specs.declared.profile.Profile.TheVariants as profiles
 use Rattle.zk_records.specs.Codes.{op_number, HasOp, IsNoOp}
-use Rattle.zk_records.proofs.Numbers.{every_op, op_number_apart}
+use Rattle.zk_records.proofs.Numbers.{every_op, every_part, each_op, each_part, op_number_apart}
 use Rattle.zk_asks.specs.Codes.{event_xid, ping_xid, auth_xid, watches_xid, IsAllowed}
 use Rattle.zk_asks.specs.Parts.{part_header, end_header, MayStand}
 
@@ -55,29 +54,11 @@ allowed_decided xid op =
     (if_decided (int_decided xid watches_xid) (op_decided op ops.SetWatches)))) in
     elim all [ inl p ↦ inl (p.0, p.1.0, p.1.1.0, p.1.1.1) | inr n ↦ inr (λ a. n (a.0, (a.1, (a.2, a.3)))) ]
 
-each_op : (P : Op → Type 0) → AllByRecursion P every_op → (op : Op) → P op
-each_op P h ops.Create = h.0
-each_op P h ops.Delete = h.1.0
-each_op P h ops.Exists = h.1.1.0
-each_op P h ops.GetData = h.1.1.1.0
-each_op P h ops.SetData = h.1.1.1.1.0
-each_op P h ops.GetAcl = h.1.1.1.1.1.0
-each_op P h ops.SetAcl = h.1.1.1.1.1.1.0
-each_op P h ops.GetChildren = h.1.1.1.1.1.1.1.0
-each_op P h ops.Sync = h.1.1.1.1.1.1.1.1.0
-each_op P h ops.Ping = h.1.1.1.1.1.1.1.1.1.0
-each_op P h ops.GetChildren2 = h.1.1.1.1.1.1.1.1.1.1.0
-each_op P h ops.Multi = h.1.1.1.1.1.1.1.1.1.1.1.0
-each_op P h ops.Create2 = h.1.1.1.1.1.1.1.1.1.1.1.1.0
-each_op P h ops.Auth = h.1.1.1.1.1.1.1.1.1.1.1.1.1.0
-each_op P h ops.SetWatches = h.1.1.1.1.1.1.1.1.1.1.1.1.1.1.0
-each_op P h ops.CloseSession = h.1.1.1.1.1.1.1.1.1.1.1.1.1.1.1.0
-
-among : {X : Type 0} (P : X → Type 0) → ((x : X) → Decided (P x)) → (xs : List X) → ((x : X) × P x) ⊎ AllByRecursion (λ x. P x → ⊥) xs
-among P decide [] = inr tt
+among : {X : Type 0} (P : X → Type 0) → ((x : X) → Decided (P x)) → (xs : List X) → ((x : X) × P x) ⊎ All (λ x. P x → ⊥) xs
+among P decide [] = inr (All-nil (λ x. P x → ⊥))
 among {X} P decide (x ∷ xs) = elim (decide x) [
   | inl p ↦ inl (x, p)
-  | inr n ↦ elim (among P decide xs) [ inl q ↦ inl q | inr none ↦ inr (n, none) ]
+  | inr n ↦ elim (among P decide xs) [ inl q ↦ inl q | inr none ↦ inr (All-cons (λ x. P x → ⊥) x xs n none) ]
 ]
 
 has_decided : (profile : Profile) (op : Op) → Decided (HasOp profile op)
@@ -102,19 +83,10 @@ header_decided h g =
       | inr n ↦ inr (λ e. n (ap (λ (z : MultiHeader). z.kind) e, (ap (λ (z : MultiHeader). z.done) e, ap (λ (z : MultiHeader). z.err) e)))
     ]
 
-abbrev all_parts : List PartOp
-all_parts = parts.Create ∷ parts.Delete ∷ parts.SetData ∷ parts.Check ∷ []
-
-each_part : (P : PartOp → Type 0) → AllByRecursion P all_parts → (op : PartOp) → P op
-each_part P h parts.Create = h.0
-each_part P h parts.Delete = h.1.0
-each_part P h parts.SetData = h.1.1.0
-each_part P h parts.Check = h.1.1.1.0
-
 -- which header may stand in a multi
 pub header_may : (h : MultiHeader) → Decided (MayStand h)
 header_may h =
-    elim (among (λ op. h ≡ part_header op) (λ op. header_decided h (part_header op)) all_parts) [
+    elim (among (λ op. h ≡ part_header op) (λ op. header_decided h (part_header op)) every_part) [
       | inl f ↦ inl (inl f)
       | inr none ↦ elim (header_decided h end_header) [
         | inl e ↦ inl (inr e)

@@ -6,14 +6,12 @@ use Rattle.std.proofs.lemmas.List.{length-append}
 use Rattle.zk_jute.specs.declared.fault.Reason.TheVariants.{Trailing, UnknownOp, XidOp, BadPart}
 use Rattle.zk_jute.specs.Item.{Item, bytes_of, HaveBytes}
 use Rattle.zk_jute.specs.Layout.{IsValueOf}
-use Rattle.zk_jute.specs.Wired.{Wired}
-use Rattle.zk_jute.specs.Faults.{IsFault}
 use Rattle.zk_jute.specs.Flagged.{flag_items}
 use Rattle.zk_jute.proofs.Steps.{IsBytes}
 use Rattle.zk_jute.proofs.Layouts.{have_both, bytes_both, has_byte}
 use Rattle.zk_jute.proofs.Covers.{Covers}
 use Rattle.zk_jute.proofs.Deciding.{Starts, HasFault, layout_decided, left, whole_of, IsFlaggedWhole, flagged_decided}
-use Rattle.zk_records.specs.Records.{connect_request, request_header, multi_header, create_ask, delete_ask, watch_ask, set_data_ask, path_ask, set_acl_ask, auth_ask, set_watches_ask}
+use Rattle.zk_records.specs.Records.{connect_request, request_header, multi_header}
 use Rattle.zk_records.specs.declared.header.RequestHeader.{RequestHeader}
 use Rattle.zk_records.specs.declared.header.MultiHeader.{MultiHeader}
 use Rattle.zk_records.specs.declared.op.Op.{Op}
@@ -24,16 +22,16 @@ use Rattle.zk_records.specs.declared.profile.Profile.{Profile}
 use Rattle.zk_records.specs.Codes.{op_number, HasOp}
 use Rattle.zk_records.proofs.Covered.{connect_request_covered, request_header_covered, multi_header_covered, create_ask_covered, delete_ask_covered, watch_ask_covered, set_data_ask_covered, path_ask_covered, set_acl_ask_covered, auth_ask_covered, set_watches_ask_covered, check_ask_covered}
 use Rattle.zk_asks.specs.Held.{Ask, Part, ClientFrame}
-use Rattle.zk_asks.specs.declared.frame.AskOf.TheVariants as ask
-use Rattle.zk_asks.specs.declared.frame.PartOf.TheVariants as part
 use Rattle.zk_asks.specs.declared.frame.ClientFrameOf.TheVariants as frame
 use Rattle.zk_asks.specs.Codes.{IsAllowed}
-use Rattle.zk_asks.specs.Parts.{part_layout, part_header, end_header, marked, op_of_part, record_of, part_items, multi_items}
-use Rattle.zk_asks.specs.Rows.{op_of_ask, body_items}
+use Rattle.zk_asks.specs.Parts.{part_row, part_layout, part_header, end_header, marked, op_of_part, record_of, part_items, multi_items}
+use Rattle.zk_asks.specs.Rows.{Row, holds, bare, multi, row_of, Content, remake, items_in, body_in, op_of_ask, body_items}
 use Rattle.zk_asks.specs.Forms.{header_items, HasHeader}
-use Rattle.zk_asks.specs.Faults.{IsFirstFault, IsMultiFault, in_mark, bad_mark, in_part, behind_part, IsBodyFault, IsAskFault, in_header, unknown_op, bad_xid, in_body, behind_body}
+use Rattle.zk_asks.specs.Faults.{IsFirstFault, IsMultiFault, in_mark, bad_mark, in_part, behind_part, IsFaultOf, IsBodyFault, IsAskFault, in_header, unknown_op, bad_xid, in_body, behind_body}
 use Rattle.zk_asks.specs.Frames.{frame_items, IsFirst, IsLater, IsOfProfile, IsSent, payload}
 use Rattle.zk_asks.proofs.Choices.{number_decided, allowed_decided, header_may}
+use Rattle.zk_asks.proofs.Made.{made_is}
+use Rattle.zk_asks.proofs.Parts.{made_part}
 use Rattle.zk_asks.proofs.Later.{is_ask}
 
 pub flag_has : (flag : Option _) → HaveBytes (flag_items flag)
@@ -67,13 +65,23 @@ pub record Asks (op : Op) (bytes : List ℕ) : Type 0 where
   pub have : HaveBytes (body_items ask)
   pub splits : bytes ≡ bytes_of (body_items ask) ++ rest
 
-held : {X : Type 0} (make : X → Ask) (w : Wired X) → Covers w → (op : Op) → ((x : X) → op_of_ask (make x) ≡ op) → ((x : X) → w.items x ≡ body_items (make x)) → (bytes : List ℕ) → IsBytes bytes → Asks op bytes ⊎ HasFault (IsFault (IsValueOf w.layout)) bytes
-held make w covers op is same bytes fits = elim (layout_decided w.layout bytes fits) [ inl s ↦ inl (found s) | inr f ↦ inr f ] where
-  found : Starts w.layout bytes → Asks op bytes
-  found s =
-      let x = covers s.items s.value.0 in
-      let items : s.items ≡ body_items (make x.0) = sym x.1 ∙ same x.0 in
-      record { ask = make x.0; is = is x.0; rest = s.rest; have = subst HaveBytes items s.value.1; splits = s.splits ∙ ap (λ (z : List Item). bytes_of z ++ s.rest) items }
+-- the bytes are those of a row's content, and then a rest
+record HoldsRow (r : Row) (bytes : List ℕ) : Type 0 where
+  content : Content r
+  rest : List ℕ
+  have : HaveBytes (items_in r content)
+  splits : bytes ≡ bytes_of (items_in r content) ++ rest
+
+abbrev Covered : Row → Type 0
+Covered (holds make w) = Covers w
+Covered (bare a) = Unit {0}
+Covered (multi make) = Unit {0}
+
+ruleset records = (create_ask_covered, delete_ask_covered, watch_ask_covered, set_data_ask_covered, path_ask_covered, set_acl_ask_covered, auth_ask_covered, set_watches_ask_covered, check_ask_covered, tt)
+
+covered : (op : Op) → Covered (row_of op)
+covered ops.Create = create_ask_covered
+covered _ = search records
 
 -- ---- the parts of a multi
 
@@ -90,11 +98,15 @@ pub record IsOnePart (op : PartOp) (items : List Item) : Type 0 where
   pub is : op_of_part part ≡ op
   pub same : record_of part ≡ items
 
+part_covers : (op : PartOp) → Covers (part_row op).wired
+part_covers parts.Create = create_ask_covered
+part_covers _ = search records
+
 part_covered : (op : PartOp) (items : List Item) → IsValueOf (part_layout op) items → IsOnePart op items
-part_covered parts.Create items v = let x = create_ask_covered items v.0 in record { part = part.Create x.0; is = refl; same = x.1 }
-part_covered parts.Delete items v = let x = delete_ask_covered items v.0 in record { part = part.Delete x.0; is = refl; same = x.1 }
-part_covered parts.SetData items v = let x = set_data_ask_covered items v.0 in record { part = part.SetData x.0; is = refl; same = x.1 }
-part_covered parts.Check items v = let x = check_ask_covered items v.0 in record { part = part.Check x.0; is = refl; same = x.1 }
+part_covered op items v =
+    let x = part_covers op items v.0 in
+    let m = made_part op x.0 in
+    record { part = (part_row op).make x.0; is = m.0; same = m.1 ∙ x.1 }
 
 module _ (n : ℕ) (again : (bytes : List ℕ) → length bytes < n → IsBytes bytes → AsksParts bytes ⊎ HasFault IsMultiFault bytes) (bytes : List ℕ) (short : length bytes < suc n) where
   abbrev PartsDecided : Type 0
@@ -171,32 +183,27 @@ parts_decided : (n : ℕ) (bytes : List ℕ) → length bytes < n → IsBytes by
 parts_decided zero bytes short fits = absurd (omega (arith, short))
 parts_decided (suc n) bytes short fits = parts_step n (parts_decided n) bytes short fits
 
-multi_decided : (bytes : List ℕ) → IsBytes bytes → Asks ops.Multi bytes ⊎ HasFault IsMultiFault bytes
-multi_decided bytes fits = elim (parts_decided (suc (length bytes)) bytes (omega arith) fits) [
-  | inl m ↦ inl (record { ask = ask.Multi m.parts; is = refl; rest = m.rest; have = m.have; splits = m.splits })
+row_decided : (r : Row) → Covered r → (bytes : List ℕ) → IsBytes bytes → HoldsRow r bytes ⊎ HasFault (IsFaultOf (body_in r)) bytes
+row_decided (holds make w) covers bytes fits = elim (layout_decided w.layout bytes fits) [
+  | inl s ↦
+      let x = covers s.items s.value.0 in
+      inl (record { content = x.0; rest = s.rest; have = subst HaveBytes (sym x.1) s.value.1; splits = s.splits ∙ ap (λ (z : List Item). bytes_of z ++ s.rest) (sym x.1) })
+  | inr f ↦ inr f
+]
+row_decided (bare a) covers bytes fits = inl (record { content = tt; rest = bytes; have = tt; splits = refl })
+row_decided (multi make) covers bytes fits = elim (parts_decided (suc (length bytes)) bytes (omega arith) fits) [
+  | inl m ↦ inl (record { content = m.parts; rest = m.rest; have = m.have; splits = m.splits })
   | inr f ↦ inr f
 ]
 
-nothing : (a : Ask) (op : Op) → op_of_ask a ≡ op → body_items a ≡ [] → (bytes : List ℕ) → Asks op bytes
-nothing a op is none bytes = record { ask = a; is = is; rest = bytes; have = subst HaveBytes (sym none) tt; splits = ap (λ (z : List Item). bytes_of z ++ bytes) (sym none) }
-
 body_decided : (op : Op) (bytes : List ℕ) → IsBytes bytes → Asks op bytes ⊎ HasFault (IsBodyFault op) bytes
-body_decided ops.Create bytes fits = held ask.Create create_ask create_ask_covered ops.Create (λ x. refl) (λ x. refl) bytes fits
-body_decided ops.Delete bytes fits = held ask.Delete delete_ask delete_ask_covered ops.Delete (λ x. refl) (λ x. refl) bytes fits
-body_decided ops.Exists bytes fits = held ask.Exists watch_ask watch_ask_covered ops.Exists (λ x. refl) (λ x. refl) bytes fits
-body_decided ops.GetData bytes fits = held ask.GetData watch_ask watch_ask_covered ops.GetData (λ x. refl) (λ x. refl) bytes fits
-body_decided ops.SetData bytes fits = held ask.SetData set_data_ask set_data_ask_covered ops.SetData (λ x. refl) (λ x. refl) bytes fits
-body_decided ops.GetAcl bytes fits = held ask.GetAcl path_ask path_ask_covered ops.GetAcl (λ x. refl) (λ x. refl) bytes fits
-body_decided ops.SetAcl bytes fits = held ask.SetAcl set_acl_ask set_acl_ask_covered ops.SetAcl (λ x. refl) (λ x. refl) bytes fits
-body_decided ops.GetChildren bytes fits = held ask.GetChildren watch_ask watch_ask_covered ops.GetChildren (λ x. refl) (λ x. refl) bytes fits
-body_decided ops.Sync bytes fits = held ask.Sync path_ask path_ask_covered ops.Sync (λ x. refl) (λ x. refl) bytes fits
-body_decided ops.Ping bytes fits = inl (nothing ask.Ping ops.Ping refl refl bytes)
-body_decided ops.GetChildren2 bytes fits = held ask.GetChildren2 watch_ask watch_ask_covered ops.GetChildren2 (λ x. refl) (λ x. refl) bytes fits
-body_decided ops.Multi bytes fits = multi_decided bytes fits
-body_decided ops.Create2 bytes fits = held ask.Create2 create_ask create_ask_covered ops.Create2 (λ x. refl) (λ x. refl) bytes fits
-body_decided ops.Auth bytes fits = held ask.Auth auth_ask auth_ask_covered ops.Auth (λ x. refl) (λ x. refl) bytes fits
-body_decided ops.SetWatches bytes fits = held ask.SetWatches set_watches_ask set_watches_ask_covered ops.SetWatches (λ x. refl) (λ x. refl) bytes fits
-body_decided ops.CloseSession bytes fits = inl (nothing ask.CloseSession ops.CloseSession refl refl bytes)
+body_decided op bytes fits = elim (row_decided (row_of op) (covered op) bytes fits) [
+  | inl s ↦
+      let m = made_is op s.content in
+      let items = sym m.1 in
+      inl (record { ask = remake (row_of op) s.content; is = m.0; rest = s.rest; have = subst HaveBytes items s.have; splits = s.splits ∙ ap (λ (z : List Item). bytes_of z ++ s.rest) items })
+  | inr f ↦ inr f
+]
 
 -- ---- later payloads
 

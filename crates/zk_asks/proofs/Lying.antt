@@ -34,8 +34,9 @@ use Rattle.zk_asks.specs.Rows.{op_of_ask, body_items}
 use Rattle.zk_asks.specs.Frames.{IsSent, payload}
 use Rattle.zk_asks.specs.declared.frame.PartOf.TheVariants as part
 use Rattle.zk_asks.specs.Parts.{part_row, part_layout, part_header, end_header, marked, op_of_part, record_of, part_items, multi_items}
-use Rattle.zk_asks.specs.Shown.{create_of, delete_of, set_data_of, check_of, create_value, delete_value, set_data_value, check_value, part_numbered, record_value, part_value, parts_at}
-use Rattle.zk_asks.proofs.Parts.{record_is}
+use Rattle.zk_records.specs.Made as made
+use Rattle.zk_asks.specs.Shown.{create_value, delete_value, set_data_value, check_value, part_numbered, record_value, part_value, parts_at}
+use Rattle.zk_asks.proofs.Parts.{part_made, record_is}
 use Rattle.zk_asks.proofs.Parted.{record_same, op_same, mark_same}
 
 -- ---- the records
@@ -48,20 +49,20 @@ module _ (src : List ℕ) where
       let second = both_valued buffer (vector acl and int) src (blob_value src) (both_at (list_value acl_value src) (int_at src)) (blob_valued src) third in
       let value = both_at (blob_value src) (both_at (list_value acl_value src) (int_at src)) in
       both_valued ustring (buffer and (vector acl and int)) src (text_value src) value (text_is_value src) second place
-      ∙ recast (ustring and (buffer and (vector acl and int))) create_ask.items create_of (λ p. refl) (both_at (text_value src) value place)
+      ∙ recast (ustring and (buffer and (vector acl and int))) create_ask.items made.create_ask (λ p. refl) (both_at (text_value src) value place)
 
   delete_valued : IsValued delete_ask src (delete_value src)
   delete_valued place =
-      both_valued ustring int src (text_value src) (int_at src) (text_is_value src) (int_valued src) place ∙ recast (ustring and int) delete_ask.items delete_of (λ p. refl) (both_at (text_value src) (int_at src) place)
+      both_valued ustring int src (text_value src) (int_at src) (text_is_value src) (int_valued src) place ∙ recast (ustring and int) delete_ask.items made.delete_ask (λ p. refl) (both_at (text_value src) (int_at src) place)
 
   set_data_valued : IsValued set_data_ask src (set_data_value src)
   set_data_valued place =
       let value = both_at (blob_value src) (int_at src) in
       both_valued ustring (buffer and int) src (text_value src) value (text_is_value src) (both_valued buffer int src (blob_value src) (int_at src) (blob_valued src) (int_valued src)) place
-      ∙ recast (ustring and (buffer and int)) set_data_ask.items set_data_of (λ p. refl) (both_at (text_value src) value place)
+      ∙ recast (ustring and (buffer and int)) set_data_ask.items made.set_data_ask (λ p. refl) (both_at (text_value src) value place)
 
   check_valued : IsValued check_ask src (check_value src)
-  check_valued place = both_valued ustring int src (text_value src) (int_at src) (text_is_value src) (int_valued src) place ∙ recast (ustring and int) check_ask.items check_of (λ p. refl) (both_at (text_value src) (int_at src) place)
+  check_valued place = both_valued ustring int src (text_value src) (int_at src) (text_is_value src) (int_valued src) place ∙ recast (ustring and int) check_ask.items made.check_ask (λ p. refl) (both_at (text_value src) (int_at src) place)
 
   record_there : (p : Part) (place end : ℕ) → items_at (part_layout (op_of_part p)) src place ≡ Ok (record_of p, end) → record_value (Some (op_of_part p)) src place ≡ Ok (p, end)
   record_there (part.Create a) place end e = ap (read_map part.Create) (value_read create_ask (create_value src place) (items_at create_ask.layout src place) a end (create_valued place) e)
@@ -86,26 +87,16 @@ module _ (src : List ℕ) (place : ℕ) (op : PartOp) (p : Part) (end : ℕ) (is
 
 -- ---- a part
 
-pub part_known : (k : Bool) (src : List ℕ) (place : ℕ) (a b : PartOp) → a ≡ b → Known k (OneStands (part_row a).wired.items src place) → Known k (OneStands (part_row b).wired.items src place)
-part_known k src place a b e h = subst (λ (op : PartOp). Known k (OneStands (part_row op).wired.items src place)) e h
-
-part_made : (p : Part) → (x : (part_row (op_of_part p)).Content) × ((part_row (op_of_part p)).wired.items x ≡ record_of p)
-part_made (part.Create a) = (a, refl)
-part_made (part.Delete a) = (a, refl)
-part_made (part.SetData a) = (a, refl)
-part_made (part.Check a) = (a, refl)
+pub part_known : (k : Bool) (src : List ℕ) (place : ℕ) {a b : PartOp} → a ≡ b → Known k (OneStands (part_row a).wired.items src place) → Known k (OneStands (part_row b).wired.items src place)
+part_known k src place e h = subst (λ (op : PartOp). Known k (OneStands (part_row op).wired.items src place)) e h
 
 pub nine : (op : PartOp) → length (bytes_of (marked (part_header op))) ≡ 9
 nine parts.Create = refl
-nine parts.Delete = refl
-nine parts.SetData = refl
-nine parts.Check = refl
+nine _ = refl
 
 numbered : (op : PartOp) → part_numbered (part_number op) ≡ Some op
 numbered parts.Create = refl
-numbered parts.Delete = refl
-numbered parts.SetData = refl
-numbered parts.Check = refl
+numbered _ = refl
 
 module _ (p : Part) (src : List ℕ) (place end : ℕ) (le : place ≤ length src) (have : HaveBytes (part_items p)) (stands : StandsAt (part_items p) src place end) where
   abbrev op : PartOp
@@ -156,8 +147,8 @@ module _ (p : Part) (src : List ℕ) (place end : ℕ) (le : place ≤ length sr
       let same : op ≡ other = op_same op other (sym h.0 ∙ is) in
       let there : StandsAt (record_of p) src after end = subst (λ (n : ℕ). StandsAt (record_of p) src n end) (sym h.1) behind_header in
       let m = part_made p in
-      let have_record = subst HaveBytes (sym m.1) (have_parts (marked (part_header op)) (record_of p) have).1 in
-      subst (λ (o : PartOp). OneStands (part_row o).wired.items src after) same (m.0, end, have_record, subst (λ (i : List Item). StandsAt i src after end) (sym m.1) there)
+      let have_record = subst HaveBytes (sym m.2) (have_parts (marked (part_header op)) (record_of p) have).1 in
+      subst (λ (o : PartOp). OneStands (part_row o).wired.items src after) same (m.0, end, have_record, subst (λ (i : List Item). StandsAt i src after end) (sym m.2) there)
 
   -- the record behind it is the part's
   pub part_only : (header : MultiHeader) (after : ℕ) (other : PartOp) → IsValueOf multi_header.layout (marked header) → StandsAt (marked header) src place after → header ≡ part_header other

@@ -1,6 +1,7 @@
 -- An ask is its operation and what that holds.
 use Rattle.std.proofs.Common.{◌≡◌, refl}
 use Rattle.zk_records.specs.declared.op.Op.{Op}
+use Rattle.zk_records.specs.declared.op.Op.TheVariants as ops
 use Rattle.zk_asks.specs.Held.{Ask}
 use Rattle.zk_asks.specs.declared.frame.AskOf.TheVariants as ask
 use Rattle.zk_asks.specs.Rows.{row_of, Content, remake, items_in, op_of_ask, body_items}
@@ -12,18 +13,9 @@ IsMade op a = (x : Content (row_of op)) × (remake (row_of op) x ≡ a) × (item
 pub is_made : (a : Ask) → IsMade (op_of_ask a) a
 unfolding IsMade
 is_made (ask.Create x) = (x, refl, refl)
-is_made (ask.Delete x) = (x, refl, refl)
-is_made (ask.Exists x) = (x, refl, refl)
-is_made (ask.GetData x) = (x, refl, refl)
-is_made (ask.SetData x) = (x, refl, refl)
-is_made (ask.GetAcl x) = (x, refl, refl)
-is_made (ask.SetAcl x) = (x, refl, refl)
-is_made (ask.GetChildren x) = (x, refl, refl)
-is_made (ask.Sync x) = (x, refl, refl)
-is_made ask.Ping = (tt, refl, refl)
-is_made (ask.GetChildren2 x) = (x, refl, refl)
-is_made (ask.Multi x) = (x, refl, refl)
-is_made (ask.Create2 x) = (x, refl, refl)
-is_made (ask.Auth x) = (x, refl, refl)
-is_made (ask.SetWatches x) = (x, refl, refl)
-is_made ask.CloseSession = (tt, refl, refl)
+is_made _ = (_, refl, refl)
+
+-- what is made of an operation's content is an ask of it, with the content's items
+pub made_is : (op : Op) (x : Content (row_of op)) → (op_of_ask (remake (row_of op) x) ≡ op) × (body_items (remake (row_of op) x) ≡ items_in (row_of op) x)
+made_is ops.Create x = (refl, refl)
+made_is _ x = (refl, refl)

@@ -5,7 +5,7 @@ use Rattle.std.proofs.lemmas.Int.{ints}
 use Rattle.std.proofs.lemmas.List.{append-nil, length-append, append_cancel_left, map-append}
 use Rattle.zk_jute.specs.declared.fault.Reason.{Reason}
 use Rattle.zk_jute.specs.declared.fault.Reason.TheVariants.{BadPart}
-use Rattle.zk_jute.specs.Item.{Kind, Int, Boolean, Item, AnInt, ALong, ABoolean, AUstring, ABuffer, ACount, kind_of, bytes_of, HaveBytes}
+use Rattle.zk_jute.specs.Item.{Kind, Int, Boolean, Item, AnInt, ABoolean, kind_of, bytes_of, HaveBytes}
 use Rattle.zk_jute.specs.Layout.{IsValueOf, ◌then◌}
 use Rattle.zk_jute.specs.Apart.{cons_is, unfolds_only}
 use Rattle.zk_jute.specs.Faults.{IsNext, IsBad, IsFault, Opens}
@@ -30,19 +30,11 @@ use Rattle.zk_asks.proofs.Parted.{op_same, not_end, end_bytes, mark_bytes, part_
 
 int_is : (i : Item) → kind_of i ≡ Int → (n : ℤ) × (i ≡ AnInt n)
 int_is (AnInt n) e = (n, refl)
-int_is (ALong n) e = absurd cc
-int_is (ABoolean b) e = absurd cc
-int_is (AUstring t) e = absurd cc
-int_is (ABuffer b) e = absurd cc
-int_is (ACount n) e = absurd cc
+int_is _ e = absurd cc
 
 boolean_is : (i : Item) → kind_of i ≡ Boolean → (b : Bool) × (i ≡ ABoolean b)
-boolean_is (AnInt n) e = absurd cc
-boolean_is (ALong n) e = absurd cc
 boolean_is (ABoolean b) e = (b, refl)
-boolean_is (AUstring t) e = absurd cc
-boolean_is (ABuffer b) e = absurd cc
-boolean_is (ACount n) e = absurd cc
+boolean_is _ e = absurd cc
 
 pub mark_shape : (items : List Item) → IsValueOf multi_header.layout items → (h : MultiHeader) × (items ≡ marked h)
 unfolding ◌then◌
@@ -267,22 +259,8 @@ bad_cased (one_more op part others v w) h have not bytes rest e =
 
 -- a multi's parts are those of a multi alone
 of_multi : (op : Op) → body_of op ≡ Parts → op ≡ ops.Multi
-of_multi ops.Create e = absurd cc
-of_multi ops.Delete e = absurd cc
-of_multi ops.Exists e = absurd cc
-of_multi ops.GetData e = absurd cc
-of_multi ops.SetData e = absurd cc
-of_multi ops.GetAcl e = absurd cc
-of_multi ops.SetAcl e = absurd cc
-of_multi ops.GetChildren e = absurd cc
-of_multi ops.Sync e = absurd cc
-of_multi ops.Ping e = absurd cc
-of_multi ops.GetChildren2 e = absurd cc
 of_multi ops.Multi e = refl
-of_multi ops.Create2 e = absurd cc
-of_multi ops.Auth e = absurd cc
-of_multi ops.SetWatches e = absurd cc
-of_multi ops.CloseSession e = absurd cc
+of_multi _ e = absurd cc
 
 body_opened : (b : Body) (bytes : List ℕ) (p : ℕ) (r : Reason) → IsFaultOf b bytes p r → IsFault (IsHeaded b) bytes p r ⊎ ((b ≡ Parts) × BadAt bytes p r)
 body_opened (Fields l) bytes p r f = inl f

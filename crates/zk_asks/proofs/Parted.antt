@@ -9,19 +9,17 @@ use Rattle.zk_jute.specs.Item.{Item, bytes_of, HaveBytes}
 use Rattle.zk_jute.specs.Layout.{IsValueOf, Unfolds}
 use Rattle.zk_jute.specs.Apart.{unfolds_only}
 use Rattle.zk_jute.proofs.Layouts.{bytes_only, bytes_both, has_byte}
-use Rattle.zk_records.specs.Records.{multi_header, create_ask, delete_ask, set_data_ask, check_ask}
+use Rattle.zk_records.specs.Records.{multi_header}
 use Rattle.zk_records.specs.declared.header.MultiHeader.{MultiHeader}
 use Rattle.zk_records.specs.declared.op.PartOp.{PartOp}
 use Rattle.zk_records.specs.declared.op.PartOp.TheVariants as parts
 use Rattle.zk_asks.specs.Held.{Part}
-use Rattle.zk_asks.specs.declared.frame.PartOf.TheVariants as part
 use Rattle.zk_records.proofs.Numbers.{part_number_apart}
-use Rattle.zk_jute.specs.Wired.{Wired}
-use Rattle.zk_asks.specs.Parts.{part_layout, part_header, end_header, marked, MayStand, IsMulti, no_more, a_part}
+use Rattle.zk_asks.specs.Parts.{part_row, part_layout, part_header, end_header, marked, MayStand, IsMulti, no_more, a_part}
 use Rattle.zk_asks.specs.Faults.{IsMultiFault, in_mark, bad_mark, in_part, behind_part}
 use Rattle.zk_asks.specs.Parts.{record_of, op_of_part, part_items, multi_items}
 use Rattle.zk_jute.proofs.Sequels.{Same, Sequel, sequel_same, sequel_not}
-use Rattle.zk_asks.proofs.Parts.{record_is, mark_is}
+use Rattle.zk_asks.proofs.Parts.{IsMade, part_made, record_is, mark_is}
 
 -- ---- headers
 
@@ -33,9 +31,7 @@ not_end op e = let d : ◌≡◌ {A = Bool} false true = ap (λ (h : MultiHeader
 
 pub mark_bytes : (op : PartOp) → HaveBytes (marked (part_header op))
 mark_bytes parts.Create = (omega (arith, ints), (tt, (omega (arith, ints), tt)))
-mark_bytes parts.Delete = (omega (arith, ints), (tt, (omega (arith, ints), tt)))
-mark_bytes parts.SetData = (omega (arith, ints), (tt, (omega (arith, ints), tt)))
-mark_bytes parts.Check = (omega (arith, ints), (tt, (omega (arith, ints), tt)))
+mark_bytes _ = (omega (arith, ints), (tt, (omega (arith, ints), tt)))
 
 pub end_bytes : HaveBytes (marked end_header)
 end_bytes = (omega (arith, ints), (tt, (omega (arith, ints), tt)))
@@ -167,40 +163,12 @@ multi_only (a_part op part others v m) (a_part po trap more w k) x y e =
 
 -- ---- parts are told apart
 
--- what an operation's parts are made of
-record Row : Type 1 where
-  Content : Type 0
-  part : Content → Part
-  items : Content → List Item
-  apart : (x y : Content) → items x ≡ items y → x ≡ y
-
-row : {X : Type 0} → (X → Part) → Wired X → Row
-row {X} make w = record { Content = X; part = make; items = w.items; apart = w.tells_apart }
-
-row_of : PartOp → Row
-row_of parts.Create = row part.Create create_ask
-row_of parts.Delete = row part.Delete delete_ask
-row_of parts.SetData = row part.SetData set_data_ask
-row_of parts.Check = row part.Check check_ask
-
--- a part is its operation and its content
-IsMade : PartOp → Part → Type 0
-IsMade op p = (x : (row_of op).Content) × ((row_of op).part x ≡ p) × ((row_of op).items x ≡ record_of p)
-
-made : (p : Part) → IsMade (op_of_part p) p
-unfolding IsMade row_of row
-made (part.Create x) = (x, refl, refl)
-made (part.Delete x) = (x, refl, refl)
-made (part.SetData x) = (x, refl, refl)
-made (part.Check x) = (x, refl, refl)
-
 pub record_same : (p q : Part) → op_of_part p ≡ op_of_part q → record_of p ≡ record_of q → p ≡ q
-unfolding IsMade
 record_same p q same e =
-    let r = row_of (op_of_part p) in
-    let x = made p in
-    let y : IsMade (op_of_part p) q = subst (λ (op : PartOp). IsMade op q) (sym same) (made q) in
-    sym x.1 ∙ ap r.part (r.apart x.0 y.0 (x.2 ∙ e ∙ sym y.2)) ∙ y.1
+    let r = part_row (op_of_part p) in
+    let x = part_made p in
+    let y : IsMade (op_of_part p) q = subst (λ (op : PartOp). IsMade op q) (sym same) (part_made q) in
+    sym x.1 ∙ ap r.make (r.wired.tells_apart x.0 y.0 (x.2 ∙ e ∙ sym y.2)) ∙ y.1
 
 regroup : (p : Part) (ps : List Part) → multi_items (p ∷ ps) ≡ marked (part_header (op_of_part p)) ++ (record_of p ++ multi_items ps)
 regroup p ps = append_assoc (part_items p) (flat_map part_items ps) (marked end_header) ∙ append_assoc (marked (part_header (op_of_part p))) (record_of p) (multi_items ps)

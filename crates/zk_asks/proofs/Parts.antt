@@ -1,5 +1,5 @@
 -- Multi: what the loop refuses, and that it is what the parts' forms fix.
-use Rattle.std.proofs.Common.{◌≡◌, ℕ, ◌+◌, inl, inr, List, [], ◌∷◌, ◌++◌, length, drop, sym, ap, subst, ◌∙◌, append_assoc, arith}
+use Rattle.std.proofs.Common.{◌≡◌, ℕ, ◌+◌, inl, inr, List, [], ◌∷◌, ◌++◌, length, drop, refl, sym, ap, subst, ◌∙◌, append_assoc, arith}
 use Rattle.std.specs.List.{flat_map}
 use Rattle.std.proofs.lemmas.List.{length-append}
 use Rattle.zk_jute.specs.declared.fault.ItemFault.{ItemFault}
@@ -10,23 +10,34 @@ use Rattle.zk_jute.specs.Layout.{IsValueOf, Unfolds}
 use Rattle.zk_jute.specs.Reading.{told_place}
 use Rattle.zk_jute.specs.Told.{StandsAt, IsToldFault}
 use Rattle.zk_jute.proofs.Layouts.{bytes_both, have_parts}
-use Rattle.zk_records.specs.Records.{multi_header, create_ask, delete_ask, set_data_ask, check_ask}
+use Rattle.zk_records.specs.Records.{multi_header}
 use Rattle.zk_records.specs.declared.header.MultiHeader.{MultiHeader}
 use Rattle.zk_records.specs.declared.op.PartOp.{PartOp}
+use Rattle.zk_records.specs.declared.op.PartOp.TheVariants as parts
 use Rattle.zk_asks.specs.Held.{Part}
 use Rattle.zk_asks.specs.declared.frame.PartOf.TheVariants as part
-use Rattle.zk_asks.specs.Parts.{part_layout, part_header, end_header, marked, MayStand, IsMulti, no_more, a_part}
+use Rattle.zk_asks.specs.Parts.{part_row, part_layout, part_header, end_header, marked, MayStand, IsMulti, no_more, a_part}
 use Rattle.zk_asks.specs.Faults.{IsMultiFault, in_mark, bad_mark, in_part, behind_part}
 use Rattle.zk_asks.specs.Parts.{record_of, op_of_part, part_items, multi_items}
 use Rattle.zk_jute.specs.Told.{IsToldAt}
 
 -- ---- a part
 
+-- a part is its operation and its record
+abbrev pub IsMade : PartOp → Part → Type 0
+IsMade op p = (x : (part_row op).Content) × ((part_row op).make x ≡ p) × ((part_row op).wired.items x ≡ record_of p)
+
+pub part_made : (p : Part) → IsMade (op_of_part p) p
+part_made (part.Create x) = (x, refl, refl)
+part_made _ = (_, refl, refl)
+
+-- what is made of an operation's record is a part of it
+pub made_part : (op : PartOp) (x : (part_row op).Content) → (op_of_part ((part_row op).make x) ≡ op) × (record_of ((part_row op).make x) ≡ (part_row op).wired.items x)
+made_part parts.Create x = (refl, refl)
+made_part _ x = (refl, refl)
+
 pub record_is : (p : Part) → Unfolds (part_layout (op_of_part p)) (record_of p)
-record_is (part.Create a) = create_ask.unfolds a
-record_is (part.Delete a) = delete_ask.unfolds a
-record_is (part.SetData a) = set_data_ask.unfolds a
-record_is (part.Check a) = check_ask.unfolds a
+record_is p = let m = part_made p in subst (Unfolds (part_layout (op_of_part p))) m.2 ((part_row (op_of_part p)).wired.unfolds m.0)
 
 pub mark_is : (h : MultiHeader) → HaveBytes (marked h) → IsValueOf multi_header.layout (marked h)
 mark_is h have = (multi_header.unfolds h, have)

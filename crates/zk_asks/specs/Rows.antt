@@ -62,6 +62,25 @@ body_in (holds make w) = Fields w.layout
 body_in (bare a) = Fields End
 body_in (multi make) = Parts
 
+-- an ask is what its row makes: what is given for each row is given for each ask
+abbrev pub by_op {ℓ} : (P : Ask → Type ℓ) → ((op : Op) (x : Content (row_of op)) → P (remake (row_of op) x)) → (a : Ask) → P a
+by_op P f (ask.Create a) = f ops.Create a
+by_op P f (ask.Delete a) = f ops.Delete a
+by_op P f (ask.Exists a) = f ops.Exists a
+by_op P f (ask.GetData a) = f ops.GetData a
+by_op P f (ask.SetData a) = f ops.SetData a
+by_op P f (ask.GetAcl a) = f ops.GetAcl a
+by_op P f (ask.SetAcl a) = f ops.SetAcl a
+by_op P f (ask.GetChildren a) = f ops.GetChildren a
+by_op P f (ask.Sync a) = f ops.Sync a
+by_op P f ask.Ping = f ops.Ping tt
+by_op P f (ask.GetChildren2 a) = f ops.GetChildren2 a
+by_op P f (ask.Multi ps) = f ops.Multi ps
+by_op P f (ask.Create2 a) = f ops.Create2 a
+by_op P f (ask.Auth a) = f ops.Auth a
+by_op P f (ask.SetWatches a) = f ops.SetWatches a
+by_op P f ask.CloseSession = f ops.CloseSession tt
+
 -- ---- an ask's operation, and its items
 
 abbrev pub op_of_ask : {T B L A M : Type 0} → AskOf T B L A M → Op
@@ -83,22 +102,7 @@ op_of_ask (ask.SetWatches x) = ops.SetWatches
 op_of_ask ask.CloseSession = ops.CloseSession
 
 abbrev pub body_items : Ask → List Item
-body_items (ask.Create x) = create_ask.items x
-body_items (ask.Delete x) = delete_ask.items x
-body_items (ask.Exists x) = watch_ask.items x
-body_items (ask.GetData x) = watch_ask.items x
-body_items (ask.SetData x) = set_data_ask.items x
-body_items (ask.GetAcl x) = path_ask.items x
-body_items (ask.SetAcl x) = set_acl_ask.items x
-body_items (ask.GetChildren x) = watch_ask.items x
-body_items (ask.Sync x) = path_ask.items x
-body_items ask.Ping = []
-body_items (ask.GetChildren2 x) = watch_ask.items x
-body_items (ask.Multi x) = multi_items x
-body_items (ask.Create2 x) = create_ask.items x
-body_items (ask.Auth x) = auth_ask.items x
-body_items (ask.SetWatches x) = set_watches_ask.items x
-body_items ask.CloseSession = []
+body_items = by_op (λ _. List Item) (λ op x. items_in (row_of op) x)
 
 abbrev pub body_of : Op → Body
 body_of op = body_in (row_of op)

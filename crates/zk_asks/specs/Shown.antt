@@ -2,11 +2,11 @@
 use Rattle.std.specs.Prelude.{ℕ, ◌+◌, ℤ, List, [], ◌∷◌, Option, Some, None}
 use Rattle.std.specs.Map.{lookup}
 use Rattle.std.specs.Ordering.{int_eq}
-use Rattle.zk_jute.specs.Held.{Text, Blob, Vector}
 use Rattle.zk_jute.specs.declared.fault.Reason.TheVariants.{BadPart}
 use Rattle.zk_jute.specs.Reading.{Read, fault, ◌>>=◌, read_map, int_at}
 use Rattle.zk_jute.specs.Shown.{text_value, blob_value, list_value, both_at, values_at}
-use Rattle.zk_records.specs.Held.{Acl, CreateAsk, DeleteAsk, SetDataAsk, CheckAsk}
+use Rattle.zk_records.specs.Held.{CreateAsk, DeleteAsk, SetDataAsk, CheckAsk}
+use Rattle.zk_records.specs.Made as made
 use Rattle.zk_records.specs.Shown.{acl_value}
 use Rattle.zk_records.specs.Codes.{part_number}
 use Rattle.zk_records.specs.declared.op.PartOp.{PartOp}
@@ -16,29 +16,17 @@ use Rattle.zk_asks.specs.declared.frame.PartOf.TheVariants as part
 
 -- ---- the records
 
-abbrev pub create_of : Text × (Blob × (Vector Acl × ℤ)) → CreateAsk
-create_of p = record { path = p.0; blob = p.1.0; acl = p.1.1.0; flags = p.1.1.1 }
-
-abbrev pub delete_of : Text × ℤ → DeleteAsk
-delete_of p = record { path = p.0; version = p.1 }
-
-abbrev pub set_data_of : Text × (Blob × ℤ) → SetDataAsk
-set_data_of p = record { path = p.0; blob = p.1.0; version = p.1.1 }
-
-abbrev pub check_of : Text × ℤ → CheckAsk
-check_of p = record { path = p.0; version = p.1 }
-
 abbrev pub create_value : List ℕ → ℕ → Read CreateAsk
-create_value src place = read_map create_of (both_at (text_value src) (both_at (blob_value src) (both_at (list_value acl_value src) (int_at src))) place)
+create_value src place = read_map made.create_ask (both_at (text_value src) (both_at (blob_value src) (both_at (list_value acl_value src) (int_at src))) place)
 
 abbrev pub delete_value : List ℕ → ℕ → Read DeleteAsk
-delete_value src place = read_map delete_of (both_at (text_value src) (int_at src) place)
+delete_value src place = read_map made.delete_ask (both_at (text_value src) (int_at src) place)
 
 abbrev pub set_data_value : List ℕ → ℕ → Read SetDataAsk
-set_data_value src place = read_map set_data_of (both_at (text_value src) (both_at (blob_value src) (int_at src)) place)
+set_data_value src place = read_map made.set_data_ask (both_at (text_value src) (both_at (blob_value src) (int_at src)) place)
 
 abbrev pub check_value : List ℕ → ℕ → Read CheckAsk
-check_value src place = read_map check_of (both_at (text_value src) (int_at src) place)
+check_value src place = read_map made.check_ask (both_at (text_value src) (int_at src) place)
 
 -- ---- the parts
 

@@ -10,8 +10,9 @@ ghost use Rattle.zk_asks.specs.Frames.{IsSent, IsFirst, IsLater, IsOfProfile};
 ghost use Rattle.zk_asks.specs.Frames as frames;
 ghost use Rattle.zk_asks.specs.Faults.{IsAskFault, IsBodyFault, IsFirstFault};
 
+use crate::ask_rows;
 use crate::codes::allowed;
-use crate::frame::{AskOf, AskRef, ClientFrameOf, ClientRef, ask_rows};
+use crate::frame::{AskOf, AskRef, ClientFrameOf, ClientRef};
 use crate::part_list::multi_ref;
 use zk_jute::{ItemFault, Payload, PayloadOf, Reason, read_ref, scan_flagged};
 use zk_records::{
@@ -34,9 +35,9 @@ pub(crate) fn body_ref<'a, const KNOWN: bool>(
     ensures within { IfOk result (λ x. x.1 ≤ length src.now.bytes.now) }
 {
     macro_rules! row {
-        ($($($held:ident)|+: $record:ident),+; $($bare:ident)|+) => {
-            match op {
-                $($(Op::$held => match read_ref::<_, $record>(src, place) {
+        ($op:ident: $($($held:ident)|+: $record:ident $borrowed:ident),+; $($bare:ident)|+) => {
+            match $op {
+                $($(Op::$held => match read_ref::<_, $borrowed>(src, place) {
                     Ok((body, end)) => Ok((AskOf::$held(body), end)),
                     Err(fault) => Err(fault),
                 },)+)+
@@ -48,7 +49,7 @@ pub(crate) fn body_ref<'a, const KNOWN: bool>(
             }
         };
     }
-    ask_rows!(row)
+    ask_rows!(row, op)
 }
 
 fn ask_ref<'a>(profile: Profile, src: &Payload<'a>) -> Result<ClientRef<'a>, ItemFault>

@@ -11,6 +11,21 @@ use zk_records::{
     PathAskOf, SetAclAskOf, SetDataAskOf, SetWatchesAskOf, WatchAskOf,
 };
 
+/// `part_rows!(row, with)` is `row!(with: Create: CreateAsk CreateAskRef, ..)` with the operations that a part may have, by
+/// the record, and by what it is where it is borrowed.
+#[macro_export]
+macro_rules! part_rows {
+    ($row:ident, $($with:tt)+) => {
+        $row!(
+            $($with)+:
+            Create: CreateAsk CreateAskRef,
+            Delete: DeleteAsk DeleteAskRef,
+            SetData: SetDataAsk SetDataAskRef,
+            Check: CheckAsk CheckAskRef
+        )
+    };
+}
+
 /// A part of a multi, as `MultiTransactionRecord` holds it: the record of its operation.
 #[derive(Debug, Drop)]
 pub enum PartOf<T, B, A> {
@@ -31,12 +46,14 @@ impl<T, B, A> PartOf<T, B, A> {
     pub fn op(&self) -> PartOp
         ensures { result ≡ op_of_part self.now }
     {
-        match self {
-            PartOf::Create(_) => PartOp::Create,
-            PartOf::Delete(_) => PartOp::Delete,
-            PartOf::SetData(_) => PartOp::SetData,
-            PartOf::Check(_) => PartOp::Check,
+        macro_rules! row {
+            ($part:ident: $($op:ident: $record:ident $borrowed:ident),+) => {
+                match $part {
+                    $(PartOf::$op(_) => PartOp::$op,)+
+                }
+            };
         }
+        part_rows!(row, self)
     }
 }
 
@@ -67,25 +84,25 @@ pub type Ask = AskOf<Text, Blob, List<Text>, List<Acl>, Items<Part>>;
 /// A borrowed `Ask`.
 pub type AskRef<'a> = AskOf<TextRef<'a>, BlobRef<'a>, TextList<'a>, AclList<'a>, PartList<'a>>;
 
-/// `ask_rows!(row)` is `row!(..; ..)` with the operations whose requests have a record, by that record where it is
-/// borrowed, and those whose requests have nothing. A multi has its parts.
+/// `ask_rows!(row, with)` is `row!(with: ..; ..)` with the operations whose requests have a record, by the record, and by
+/// what it is where it is borrowed; and those whose requests have nothing. A multi has its parts.
+#[macro_export]
 macro_rules! ask_rows {
-    ($row:ident) => {
+    ($row:ident, $($with:tt)+) => {
         $row!(
-            Create | Create2: CreateAskRef,
-            Delete: DeleteAskRef,
-            Exists | GetData | GetChildren | GetChildren2: WatchAskRef,
-            SetData: SetDataAskRef,
-            GetAcl | Sync: PathAskRef,
-            SetAcl: SetAclAskRef,
-            Auth: AuthAskRef,
-            SetWatches: SetWatchesAskRef;
+            $($with)+:
+            Create | Create2: CreateAsk CreateAskRef,
+            Delete: DeleteAsk DeleteAskRef,
+            Exists | GetData | GetChildren | GetChildren2: WatchAsk WatchAskRef,
+            SetData: SetDataAsk SetDataAskRef,
+            GetAcl | Sync: PathAsk PathAskRef,
+            SetAcl: SetAclAsk SetAclAskRef,
+            Auth: AuthAsk AuthAskRef,
+            SetWatches: SetWatchesAsk SetWatchesAskRef;
             Ping | CloseSession
         )
     };
 }
-
-pub(crate) use ask_rows;
 
 impl<T, B, L, A, M> AskOf<T, B, L, A, M> {
     /// The request's operation.
@@ -93,15 +110,15 @@ impl<T, B, L, A, M> AskOf<T, B, L, A, M> {
         ensures { result ≡ op_of_ask self.now }
     {
         macro_rules! row {
-            ($($($held:ident)|+: $record:ident),+; $($bare:ident)|+) => {
-                match self {
+            ($ask:ident: $($($held:ident)|+: $record:ident $borrowed:ident),+; $($bare:ident)|+) => {
+                match $ask {
                     $($(AskOf::$held(_) => Op::$held,)+)+
                     $(AskOf::$bare => Op::$bare,)+
                     AskOf::Multi(_) => Op::Multi,
                 }
             };
         }
-        ask_rows!(row)
+        ask_rows!(row, self)
     }
 }
 

@@ -3,7 +3,7 @@
 //! - `read_first` and `read_ask` read a payload as an owned `ClientFrame`; `borrow_first` and `borrow_ask` decide the
 //!   same and borrow, without memory; `client_ref` borrows what is already judged.
 //! - `scan_ask` keeps of a request what its reply is read by, an `Asked`: the operation, and those of a multi's parts.
-//!   `front_ask` and `front_multi` do so by where the records end, and may return `None`: undecided.
+//!   `quick_ask` and `quick_multi` do so by where the records end, and may return `None`: undecided.
 //! - `write_client` writes a frame's payload, and `size_within` counts it.
 //!
 //! A payload is read exactly if it is one of a client's forms; else the `ItemFault` of the first item that can't come
@@ -47,12 +47,12 @@ mod asked;
 mod borrow;
 mod codes;
 mod frame;
-mod front;
 mod known;
 mod laws;
 mod multi;
 mod own;
 mod part_list;
+mod quick;
 mod read;
 mod request;
 mod scan;
@@ -63,10 +63,10 @@ pub use asked::{Asked, Room, asked_laws};
 pub use borrow::{borrow_ask, borrow_first};
 pub use codes::allowed;
 pub use frame::{Ask, AskOf, AskRef, ClientFrame, ClientFrameOf, ClientRef, Part, PartOf, PartRef};
-pub use front::{front_ask, front_multi};
 pub use known::client_ref;
 pub use laws::{ask_laws, first_laws, form_laws, opening_laws};
 pub use part_list::{PartItems, PartList};
+pub use quick::{quick_ask, quick_multi};
 pub use read::{read_ask, read_first};
 pub use request::{MultiRef, RequestRef};
 pub use scan::{Scan, scan_ask, scan_first};

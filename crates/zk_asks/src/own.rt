@@ -2,9 +2,10 @@
 ghost use Rattle.std.specs.Prelude.{◌≡◌};
 
 use crate::frame::{
-    Ask, AskOf, AskRef, ClientFrame, ClientFrameOf, ClientRef, Part, PartOf, PartRef, ask_rows,
+    Ask, AskOf, AskRef, ClientFrame, ClientFrameOf, ClientRef, Part, PartOf, PartRef,
 };
 use crate::part_list::PartList;
+use crate::{ask_rows, part_rows};
 use std::alloc::{AllocError, Global};
 use zk_jute::Items;
 use zk_records::{Own, own_all};
@@ -15,12 +16,14 @@ impl<'a> Own for PartRef<'a> {
     ghost same = { λ x. x };
 
     fn own(&self, alloc: Global) -> Result<Part, AllocError> {
-        match self {
-            PartOf::Create(body) => Ok(PartOf::Create(body.own(alloc)?)),
-            PartOf::Delete(body) => Ok(PartOf::Delete(body.own(alloc)?)),
-            PartOf::SetData(body) => Ok(PartOf::SetData(body.own(alloc)?)),
-            PartOf::Check(body) => Ok(PartOf::Check(body.own(alloc)?)),
+        macro_rules! row {
+            ($part:ident: $($op:ident: $record:ident $borrowed:ident),+) => {
+                match $part {
+                    $(PartOf::$op(body) => Ok(PartOf::$op(body.own(alloc)?)),)+
+                }
+            };
         }
+        part_rows!(row, self)
     }
 }
 
@@ -41,15 +44,15 @@ impl<'a> Own for AskRef<'a> {
 
     fn own(&self, alloc: Global) -> Result<Ask, AllocError> {
         macro_rules! row {
-            ($($($held:ident)|+: $record:ident),+; $($bare:ident)|+) => {
-                match self {
+            ($ask:ident: $($($held:ident)|+: $record:ident $borrowed:ident),+; $($bare:ident)|+) => {
+                match $ask {
                     $($(AskOf::$held(body) => Ok(AskOf::$held(body.own(alloc)?)),)+)+
                     $(AskOf::$bare => Ok(AskOf::$bare),)+
                     AskOf::Multi(parts) => Ok(AskOf::Multi(parts.own(alloc)?)),
                 }
             };
         }
-        ask_rows!(row)
+        ask_rows!(row, self)
     }
 }
 

@@ -14,9 +14,10 @@ ghost use Rattle.zk_jute.specs.Shown.{Begins};
 ghost use Rattle.zk_asks.specs.Shown.{parts_at};
 
 use crate::frame::{PartOf, PartRef};
-use crate::multi::{Mark, mark_of};
+use crate::multi::{PartMark, part_mark_of};
+use crate::part_rows;
 use std::marker::Model;
-use zk_jute::{Ends, ItemFault, KnownPayload, PayloadOf, Reason, read_ref};
+use zk_jute::{Ends, ItemFault, KnownPayload, Left, PayloadOf, Reason, read_ref};
 use zk_records::{
     CheckAskRef, CreateAskRef, DeleteAskRef, MultiHeader, PartOp, SetDataAskRef, part_of,
 };
@@ -139,20 +140,17 @@ fn record_ref<'a, const KNOWN: bool>(
     ensures fault { IfErr result (HasSureFault (IsValueOf (part_layout op)) src.now.bytes.now place) }
     ensures within { IfOk result (λ x. x.1 ≤ length src.now.bytes.now) }
 {
-    macro_rules! read {
-        ($record:ty, $part:path) => {
-            match read_ref::<_, $record>(src, place) {
-                Ok((body, end)) => Ok(($part(body), end)),
-                Err(fault) => Err(fault),
+    macro_rules! row {
+        ($op:ident: $($part:ident: $record:ident $borrowed:ident),+) => {
+            match $op {
+                $(PartOp::$part => match read_ref::<_, $borrowed>(src, place) {
+                    Ok((body, end)) => Ok((PartOf::$part(body), end)),
+                    Err(fault) => Err(fault),
+                },)+
             }
         };
     }
-    match op {
-        PartOp::Create => read!(CreateAskRef, PartOf::Create),
-        PartOp::Delete => read!(DeleteAskRef, PartOf::Delete),
-        PartOp::SetData => read!(SetDataAskRef, PartOf::SetData),
-        PartOp::Check => read!(CheckAskRef, PartOf::Check),
-    }
+    part_rows!(row, op)
 }
 
 /// The place after the record of a part of the operation `op` at `place`; `None`: undecided. No record is made.
@@ -161,12 +159,14 @@ fn part_end(payload: &[u8], place: usize, op: PartOp) -> Option<usize>
     ensures some { IfSome result (λ end. IsRecordAt op payload.now place end) }
     ensures within { IfSome result (λ end. end ≤ length payload.now) }
 {
-    match op {
-        PartOp::Create => CreateAskRef::end_at(payload, place),
-        PartOp::Delete => DeleteAskRef::end_at(payload, place),
-        PartOp::SetData => SetDataAskRef::end_at(payload, place),
-        PartOp::Check => CheckAskRef::end_at(payload, place),
+    macro_rules! row {
+        ($op:ident: $($part:ident: $record:ident $borrowed:ident),+) => {
+            match $op {
+                $(PartOp::$part => $borrowed::end_at(payload, place),)+
+            }
+        };
     }
+    part_rows!(row, op)
 }
 
 /// The place after the record of a part of the operation `op` at `place`; judged, or known to be there.
@@ -250,14 +250,24 @@ pub(crate) fn multi_ref<'a, const KNOWN: bool>(
     let mut at = place;
     loop {
         let (header, after) = read_ref::<_, MultiHeader>(src, at)?;
-        match mark_of(&header) {
-            Mark::Part(op) => {
+        match part_mark_of(&header) {
+            PartMark::Part(op) => {
                 let next = record_end(src, after, op)?;
                 at = next;
                 count += 1;
             }
-            Mark::End => return Ok((lying(src.bytes, count, place), after)),
-            Mark::Bad => return Err(ItemFault::at(at, Reason::BadPart)),
+            PartMark::End => return Ok((lying(src.bytes, count, place), after)),
+            PartMark::Bad => return Err(ItemFault::at(at, Reason::BadPart)),
         }
+    }
+}
+
+impl<'a> Left for PartItems<'a> {
+    type One = PartRef<'a>;
+
+    ghost left = { λ parts. parts };
+
+    fn take(&mut self) -> Option<PartRef<'a>> {
+        self.next()
     }
 }

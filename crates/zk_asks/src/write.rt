@@ -7,7 +7,8 @@ ghost use Rattle.zk_asks.specs.Parts.{part_items};
 ghost use Rattle.zk_asks.specs.Rows.{body_items};
 ghost use Rattle.zk_asks.specs.Frames.{frame_items, MaySend, payload};
 
-use crate::frame::{Ask, ClientFrame, Part, ask_rows};
+use crate::frame::{Ask, ClientFrame, Part};
+use crate::{ask_rows, part_rows};
 use std::alloc::AllocError;
 use zk_jute::{Output, Spell};
 use zk_records::{MultiHeader, Op, PartOp, RequestHeader, op_number, part_number};
@@ -43,24 +44,19 @@ fn request_header(xid: i32, op: Op) -> RequestHeader
     }
 }
 
-/// A match over the variants of a part: `$body` is the arm's value, over the part's record.
-macro_rules! match_part {
-    ($part:expr, $body:ident => $each:expr) => {
-        match $part {
-            Part::Create($body) => $each,
-            Part::Delete($body) => $each,
-            Part::SetData($body) => $each,
-            Part::Check($body) => $each,
-        }
-    };
-}
-
 impl Spell for Part {
     ghost items = { part_items };
 
     fn put<O: Output>(&self, out: &mut O) -> Result<(), O::Error> {
         let header = part_header(self.op());
-        match_part!(self, body => (&header, body).put(out))
+        macro_rules! row {
+            ($part:ident: $($op:ident: $record:ident $borrowed:ident),+) => {
+                match $part {
+                    $(Part::$op(body) => (&header, body).put(out),)+
+                }
+            };
+        }
+        part_rows!(row, self)
     }
 }
 
@@ -69,15 +65,15 @@ impl Spell for Ask {
 
     fn put<O: Output>(&self, out: &mut O) -> Result<(), O::Error> {
         macro_rules! row {
-            ($($($held:ident)|+: $record:ident),+; $($bare:ident)|+) => {
-                match self {
+            ($ask:ident: $($($held:ident)|+: $record:ident $borrowed:ident),+; $($bare:ident)|+) => {
+                match $ask {
                     $($(Ask::$held(body) => body.put(out),)+)+
                     $(Ask::$bare)|+ => Ok(()),
                     Ask::Multi(parts) => (parts, &end_header()).put(out),
                 }
             };
         }
-        ask_rows!(row)
+        ask_rows!(row, self)
     }
 }
 

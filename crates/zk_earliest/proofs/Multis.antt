@@ -9,6 +9,7 @@ use Rattle.zk_records.specs.Records.{acl}
 use Rattle.zk_records.specs.Codes.{part_number}
 use Rattle.zk_records.specs.declared.op.PartOp.{PartOp}
 use Rattle.zk_records.specs.declared.op.PartOp.TheVariants as parts
+use Rattle.zk_records.proofs.Numbers.{part_number_apart}
 use Rattle.zk_asks.specs.Parts.{part_layout, part_header, end_header, marked, IsMulti, no_more, a_part}
 use Rattle.zk_earliest.specs.Sizes.{IsAmong, AreSizes, plus, nothing}
 use Rattle.zk_earliest.specs.Earliest.{Spells}
@@ -33,9 +34,8 @@ part_are parts.Create =
     then_sizes (One Ustring End) (One Buffer End then (Each acl.layout End then One Int End)) run_sizes (plus run_sizes (plus (list_sizes 12) (sizes 4 None))) text_sizes
     (then_sizes (One Buffer End) (Each acl.layout End then One Int End) run_sizes (plus (list_sizes 12) (sizes 4 None)) blob_sizes
     (then_sizes (Each acl.layout End) (One Int End) (list_sizes 12) (sizes 4 None) (list_are acl.layout 12 (omega arith) acl_sizes) int_sizes))
-part_are parts.Delete = then_sizes (One Ustring End) (One Int End) run_sizes (sizes 4 None) text_sizes int_sizes
 part_are parts.SetData = then_sizes (One Ustring End) (One Buffer End then One Int End) run_sizes (plus run_sizes (sizes 4 None)) text_sizes (then_sizes (One Buffer End) (One Int End) run_sizes (sizes 4 None) blob_sizes int_sizes)
-part_are parts.Check = then_sizes (One Ustring End) (One Int End) run_sizes (sizes 4 None) text_sizes int_sizes
+part_are _ = then_sizes (One Ustring End) (One Int End) run_sizes (sizes 4 None) text_sizes int_sizes
 
 -- ---- a header, and what follows it
 
@@ -47,15 +47,18 @@ MarkTail h t = ((h ≡ end_mark) × (t ≡ [])) ⊎ ((op : PartOp) × (h ≡ par
 
 mark_bytes : (op : PartOp) → bytes_of (marked (part_header op)) ≡ part_mark op
 mark_bytes parts.Create = refl
-mark_bytes parts.Delete = refl
-mark_bytes parts.SetData = refl
-mark_bytes parts.Check = refl
+mark_bytes _ = refl
 
 mark_len : (op : PartOp) → length (part_mark op) ≡ 9
 mark_len parts.Create = refl
-mark_len parts.Delete = refl
-mark_len parts.SetData = refl
-mark_len parts.Check = refl
+mark_len _ = refl
+
+abbrev number_byte : PartOp → ℕ
+number_byte op = get_or (part_mark op) 3 0
+
+number_is : (op : PartOp) → part_number op ≡ pos (number_byte op)
+number_is parts.Create = refl
+number_is _ = refl
 
 pub is_mark_len : (h : List ℕ) → IsMark h → length h ≡ 9
 is_mark_len h m = elim m [ inl e ↦ ap length e | inr p ↦ ap length p.1 ∙ mark_len p.0 ]
@@ -96,9 +99,11 @@ multi_to x c =
 
 least_part : (op : PartOp) → 8 ≤ (part_sizes op).least
 least_part parts.Create = omega arith
-least_part parts.Delete = omega arith
-least_part parts.SetData = omega arith
-least_part parts.Check = omega arith
+least_part _ = omega arith
+
+pub part_room : (op : PartOp) (n : ℕ) → (part_sizes op).least + 9 ≤ n → IsAmong (plus (part_sizes op) multi_sizes) n
+part_room parts.Create n le = inr (omega arith)
+part_room _ n le = inr (omega arith)
 
 items_len : (items : List Item) → IsMulti items → IsAmong multi_sizes (length (bytes_of items))
 items_len items no_more = inl refl
@@ -182,28 +187,11 @@ module _ (src : List ℕ) (place : ℕ) (frame : length src < 2 ^ 31) where
     }
 
     other_mark : (op other : PartOp) → part_mark op ≡ part_mark other → op ≡ other
-    other_mark parts.Create parts.Create e = refl
-    other_mark parts.Create parts.Delete e = absurd cc
-    other_mark parts.Create parts.SetData e = absurd cc
-    other_mark parts.Create parts.Check e = absurd cc
-    other_mark parts.Delete parts.Create e = absurd cc
-    other_mark parts.Delete parts.Delete e = refl
-    other_mark parts.Delete parts.SetData e = absurd cc
-    other_mark parts.Delete parts.Check e = absurd cc
-    other_mark parts.SetData parts.Create e = absurd cc
-    other_mark parts.SetData parts.Delete e = absurd cc
-    other_mark parts.SetData parts.SetData e = refl
-    other_mark parts.SetData parts.Check e = absurd cc
-    other_mark parts.Check parts.Create e = absurd cc
-    other_mark parts.Check parts.Delete e = absurd cc
-    other_mark parts.Check parts.SetData e = absurd cc
-    other_mark parts.Check parts.Check e = refl
+    other_mark op other e = part_number_apart op other (number_is op ∙ ap (λ (m : List ℕ). pos (get_or m 3 0)) e ∙ sym (number_is other))
 
     no_end : (op : PartOp) → part_mark op ≡ end_mark → ⊥
     no_end parts.Create e = absurd cc
-    no_end parts.Delete e = absurd cc
-    no_end parts.SetData e = absurd cc
-    no_end parts.Check e = absurd cc
+    no_end _ e = absurd cc
 
     tail_to : (t : List ℕ) → Chain (Spelling (part_layout op)) (λ _. Multi) t → MarkTail (part_mark op) t
     tail_to t c = inr (op, refl, c)
@@ -238,21 +226,10 @@ module _ (src : List ℕ) (place : ℕ) (frame : length src < 2 ^ 31) where
 form : ℕ → List ℕ
 form a = 0 ∷ 0 ∷ 0 ∷ a ∷ 0 ∷ 255 ∷ 255 ∷ 255 ∷ 255 ∷ []
 
-abbrev number_byte : PartOp → ℕ
-number_byte op = get_or (part_mark op) 3 0
-
 mark_form : (op : PartOp) → part_mark op ≡ form (number_byte op)
 unfolding form
 mark_form parts.Create = refl
-mark_form parts.Delete = refl
-mark_form parts.SetData = refl
-mark_form parts.Check = refl
-
-number_is : (op : PartOp) → part_number op ≡ pos (number_byte op)
-number_is parts.Create = refl
-number_is parts.Delete = refl
-number_is parts.SetData = refl
-number_is parts.Check = refl
+mark_form _ = refl
 
 form_differs : (a b k : ℕ) → (get_or (form a) k 0 ≡ get_or (form b) k 0 → ⊥) → k ≡ 3
 unfolding form
@@ -314,7 +291,7 @@ module _ (src : List ℕ) (place k : ℕ) (within : place ≤ length src) (few :
           y = y;
           is = inr (op, refl);
           within = omega arith;
-          continues = (inr (op, refl, room op (length y) (omega arith)), omega arith, take-append-le k (part_mark op) y (omega arith) ∙ sym same);
+          continues = (inr (op, refl, part_room op (length y) (omega arith)), omega arith, take-append-le k (part_mark op) y (omega arith) ∙ sym same);
           no_more = λ x z m c.
               let len = is_mark_len x m in
               let total = c.1 in
@@ -334,18 +311,6 @@ module _ (src : List ℕ) (place k : ℕ) (within : place ≤ length src) (few :
               ];
         };
       }
-    where
-      room : (op : PartOp) (n : ℕ) → (part_sizes op).least + 9 ≤ n → IsAmong (plus (part_sizes op) multi_sizes) n
-      room parts.Create n le = inr (omega arith)
-      room parts.Delete n le = inr (omega arith)
-      room parts.SetData n le = inr (omega arith)
-      room parts.Check n le = inr (omega arith)
-
-pub part_room : (op : PartOp) (n : ℕ) → (part_sizes op).least + 9 ≤ n → IsAmong (plus (part_sizes op) multi_sizes) n
-part_room parts.Create n le = inr (omega arith)
-part_room parts.Delete n le = inr (omega arith)
-part_room parts.SetData n le = inr (omega arith)
-part_room parts.Check n le = inr (omega arith)
 
 -- not the header behind the last part alone
 pub more_than_end : (n : ℕ) → IsAmong multi_sizes n → (n ≡ 9 → ⊥) → 26 ≤ n

@@ -7,42 +7,32 @@ ghost use Rattle.zk_earliest.specs.Earliest.{Spells, IsEarliest, IsEarliestOf};
 
 use crate::multi::longest_multi;
 use crate::stretch::longest;
-use zk_answers::Layout;
+use zk_answers::{Layout, body_rows};
+use zk_asks::ask_rows;
 use zk_jute::{Blob, List, Text};
-use zk_records::Op;
+use zk_records::{Op, fields_of};
 
-type Access = List<(i32, (Text, Text))>;
+/// The kind of value that a field is, by its kind; a record within another as its fields.
+macro_rules! value {
+    (int) => { i32 };
+    (long) => { i64 };
+    (boolean) => { bool };
+    (text) => { Text };
+    (blob) => { Blob };
+    (texts) => { List<Text> };
+    (rights) => { List<fields_of!(Acl, values, type)> };
+    (id) => { fields_of!(Id, values, type) };
+    (stat) => { fields_of!(Stat, values, type) };
+}
 
-/// The last four fields of `Stat`: ephemeralOwner, dataLength, numChildren and pzxid.
-type StatRest = (i64, (i32, (i32, i64)));
+/// `fields_of!(R, values, type)` is the fields of the record as nested pairs of values.
+macro_rules! values {
+    (type: $last:ident $name:ident $kind:ident) => { value!($kind) };
+    (type: $first:ident $name:ident $kind:ident, $($rest:tt)+) => { (value!($kind), values!(type: $($rest)+)) };
+}
 
-/// The fields of `Stat` from version on: version, cversion, aversion, and the rest.
-type StatVersions = (i32, (i32, (i32, StatRest)));
-
-/// The fields of `Stat`: czxid, mzxid, ctime, mtime, the versions, and the rest.
-type StatBody = (i64, (i64, (i64, (i64, StatVersions))));
-
-type ConnectBody = (i32, (i64, (i32, (i64, Blob))));
-
-type ConnectedBody = (i32, (i32, (i64, Blob)));
-
-type EventBody = (i32, (i32, Text));
-
-pub(crate) type CreateBody = (Text, (Blob, (Access, i32)));
-
-pub(crate) type DeleteBody = (Text, i32);
-
-pub(crate) type SetDataBody = (Text, (Blob, i32));
-
-pub(crate) type CheckBody = (Text, i32);
-
-type WatchBody = (Text, bool);
-
-type SetAclBody = (Text, (Access, i32));
-
-type AuthBody = (i32, (Text, Blob));
-
-type SetWatchesBody = (i64, (List<Text>, (List<Text>, List<Text>)));
+pub(crate) use value;
+pub(crate) use values;
 
 /// The answer for a body of no bytes.
 fn none(bytes: &[u8]) -> Option<usize>
@@ -55,24 +45,16 @@ fn asked(op: Op, bytes: &[u8]) -> Option<usize>
     requires { length bytes.now < 2 ^ 31 }
     ensures { IsEarliestOf (layouts.Asked op) bytes.now result }
 {
-    match op {
-        Op::Create => longest::<CreateBody>(bytes),
-        Op::Delete => longest::<DeleteBody>(bytes),
-        Op::Exists => longest::<WatchBody>(bytes),
-        Op::GetData => longest::<WatchBody>(bytes),
-        Op::SetData => longest::<SetDataBody>(bytes),
-        Op::GetAcl => longest::<Text>(bytes),
-        Op::SetAcl => longest::<SetAclBody>(bytes),
-        Op::GetChildren => longest::<WatchBody>(bytes),
-        Op::Sync => longest::<Text>(bytes),
-        Op::Ping => none(bytes),
-        Op::GetChildren2 => longest::<WatchBody>(bytes),
-        Op::Multi => longest_multi(bytes),
-        Op::Create2 => longest::<CreateBody>(bytes),
-        Op::Auth => longest::<AuthBody>(bytes),
-        Op::SetWatches => longest::<SetWatchesBody>(bytes),
-        Op::CloseSession => none(bytes),
+    macro_rules! row {
+        ($op:ident: $($($held:ident)|+: $record:ident $borrowed:ident),+; $($bare:ident)|+) => {
+            match $op {
+                $($(Op::$held => longest::<fields_of!($record, values, type)>(bytes),)+)+
+                $(Op::$bare => none(bytes),)+
+                Op::Multi => longest_multi(bytes),
+            }
+        };
     }
+    ask_rows!(row, op)
 }
 
 fn answered(op: Op, bytes: &[u8]) -> Option<usize>
@@ -80,24 +62,18 @@ fn answered(op: Op, bytes: &[u8]) -> Option<usize>
     requires known { op ≢ ops.Multi }
     ensures { IsEarliestOf (layouts.Answered op) bytes.now result }
 {
-    match op {
-        Op::Create => longest::<Text>(bytes),
-        Op::Delete => none(bytes),
-        Op::Exists => longest::<StatBody>(bytes),
-        Op::GetData => longest::<(Blob, StatBody)>(bytes),
-        Op::SetData => longest::<StatBody>(bytes),
-        Op::GetAcl => longest::<(Access, StatBody)>(bytes),
-        Op::SetAcl => longest::<StatBody>(bytes),
-        Op::GetChildren => longest::<List<Text>>(bytes),
-        Op::Sync => longest::<Text>(bytes),
-        Op::Ping => none(bytes),
-        Op::GetChildren2 => longest::<(List<Text>, StatBody)>(bytes),
-        Op::Multi => None,
-        Op::Create2 => longest::<(Text, StatBody)>(bytes),
-        Op::Auth => none(bytes),
-        Op::SetWatches => none(bytes),
-        Op::CloseSession => none(bytes),
+    macro_rules! row {
+        ($op:ident: $($($one:ident)|+: $only:ident $name:ident $kind:ident),+;
+         $($both:ident: $first:ident $jute:ident $shape:ident $pair:ident),+; $($bare:ident)|+) => {
+            match $op {
+                $($(Op::$one => longest::<value!($kind)>(bytes),)+)+
+                $(Op::$both => longest::<(value!($shape), value!(stat))>(bytes),)+
+                $(Op::$bare => none(bytes),)+
+                Op::Multi => None,
+            }
+        };
     }
+    body_rows!(row, op)
 }
 
 /// The number of bytes at the front of `bytes` that a body of `layout` with just that many bytes in all can begin with,
@@ -109,12 +85,12 @@ pub fn earliest(layout: Layout, bytes: &[u8]) -> Option<usize>
     ensures { IsEarliestOf layout bytes.now result }
 {
     match layout {
-        Layout::Connect => longest::<ConnectBody>(bytes),
-        Layout::ConnectRo => longest::<(ConnectBody, bool)>(bytes),
-        Layout::Connected => longest::<ConnectedBody>(bytes),
-        Layout::ConnectedRo => longest::<(ConnectedBody, bool)>(bytes),
+        Layout::Connect => longest::<fields_of!(ConnectRequest, values, type)>(bytes),
+        Layout::ConnectRo => longest::<(fields_of!(ConnectRequest, values, type), bool)>(bytes),
+        Layout::Connected => longest::<fields_of!(ConnectResponse, values, type)>(bytes),
+        Layout::ConnectedRo => longest::<(fields_of!(ConnectResponse, values, type), bool)>(bytes),
         Layout::Asked(op) => asked(op, bytes),
         Layout::Answered(op) => answered(op, bytes),
-        Layout::Event => longest::<EventBody>(bytes),
+        Layout::Event => longest::<fields_of!(WatcherEvent, values, type)>(bytes),
     }
 }

@@ -9,10 +9,12 @@ ghost use Rattle.zk_earliest.specs.Marks.{part_mark, end_mark, part_sizes, multi
 ghost use Rattle.zk_earliest.specs.Sizes.{IsAmong, nothing, plus};
 ghost use Rattle.zk_earliest.specs.Stops.{Reaches, then_among};
 
-use crate::bodies::{CheckBody, CreateBody, DeleteBody, SetDataBody};
+use crate::bodies::{value, values};
 use crate::sizes::Sizes;
 use crate::stretch::Stretch;
-use zk_records::PartOp;
+use zk_asks::part_rows;
+use zk_jute::{Blob, List, Text};
+use zk_records::{PartOp, fields_of};
 
 /// The header before a part of the operation `op`, as bytes.
 fn part_mark(op: PartOp) -> [u8; 9]
@@ -115,12 +117,14 @@ fn part_reach(op: PartOp, src: &[u8], place: usize) -> Result<usize, usize>
         least: 9,
         gap: Some(17),
     };
-    match op {
-        PartOp::Create => CreateBody::reach(src, place, behind),
-        PartOp::Delete => DeleteBody::reach(src, place, behind),
-        PartOp::SetData => SetDataBody::reach(src, place, behind),
-        PartOp::Check => CheckBody::reach(src, place, behind),
+    macro_rules! row {
+        ($op:ident: $($part:ident: $record:ident $borrowed:ident),+) => {
+            match $op {
+                $(PartOp::$part => <fields_of!($record, values, type)>::reach(src, place, behind),)+
+            }
+        };
     }
+    part_rows!(row, op)
 }
 
 fn parts(src: &[u8]) -> Result<usize, usize>

@@ -10,7 +10,7 @@ pub(crate) struct Sizes {
     pub(crate) gap: Option<usize>,
 }
 
-fn less(a: Option<usize>, b: Option<usize>) -> Option<usize>
+fn min_gap(a: Option<usize>, b: Option<usize>) -> Option<usize>
     ensures { result ≡ min_gap a b }
 {
     match a {
@@ -30,7 +30,7 @@ impl Sizes {
     {
         Sizes {
             least: self.least + other.least,
-            gap: less(self.gap, other.gap),
+            gap: min_gap(self.gap, other.gap),
         }
     }
 

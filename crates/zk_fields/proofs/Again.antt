@@ -13,10 +13,10 @@ use Rattle.zk_jute.specs.Item.{Item, AnInt, ALong, ABoolean, AUstring, ABuffer, 
 use Rattle.zk_jute.proofs.Layouts.{have_parts}
 use Rattle.zk_records.specs.Records.{multi_header}
 use Rattle.zk_records.specs.Codes.{op_number}
-use Rattle.zk_asks.specs.declared.frame.PartOf.TheVariants as part
 use Rattle.zk_asks.specs.declared.frame.AskOf.TheVariants as ask
 use Rattle.zk_asks.specs.declared.frame.ClientFrameOf.TheVariants as client
 use Rattle.zk_asks.specs.Held.{Part, Ask, ClientFrame}
+use Rattle.zk_asks.specs.Parts.{record_of}
 use Rattle.zk_asks.specs.Rows.{op_of_ask}
 use Rattle.zk_asks.specs.Frames as asks
 use Rattle.zk_answers.specs.declared.frame.PartDoneOf.TheVariants as done
@@ -24,6 +24,7 @@ use Rattle.zk_answers.specs.declared.frame.BodyOf.TheVariants as body
 use Rattle.zk_answers.specs.declared.frame.OutcomeOf.TheVariants as outcome
 use Rattle.zk_answers.specs.declared.frame.ServerFrameOf.TheVariants as server
 use Rattle.zk_answers.specs.Held.{PartDone, Body, Outcome, ServerFrame}
+use Rattle.zk_answers.specs.Results.{result_of}
 use Rattle.zk_answers.specs.Rows.{op_of_body}
 use Rattle.zk_answers.specs.Frames as answers
 use Rattle.zk_answers.specs.Frames.{err_of, op_of_outcome, IsOutcome}
@@ -32,15 +33,17 @@ use Rattle.zk_fields.specs.declared.value.Heads.{Heads}
 use Rattle.zk_fields.specs.declared.value.Heads.TheVariants as head
 use Rattle.zk_fields.specs.declared.write.Unwritten.{Unwritten}
 use Rattle.zk_fields.specs.declared.write.Unwritten.TheVariants as unwritten
-use Rattle.zk_fields.specs.Names.{the_path, the_data, the_acl, the_children, the_read_only}
+use Rattle.zk_fields.specs.Names.{the_read_only}
 use Rattle.zk_fields.specs.Fields.{Entry, Under, Head, entry_items, items_of, size_of, size_all, field_of, fields_from}
-use Rattle.zk_fields.specs.Named.{Shape, Nothing, An, Both, Many, Times, Elements, IsOf, Named, a_boolean, a_text, a_blob}
+use Rattle.zk_fields.specs.Named.{Shape, Nothing, An, Both, Many, Times, Elements, IsOf, Named, a_boolean}
 use Rattle.zk_fields.specs.Contents.{content_of, IsAt, AreAt}
 use Rattle.zk_fields.specs.Asks.{record_entries, part_entries, ask_entries}
-use Rattle.zk_fields.specs.Answers.{done_entries, body_entries}
+use Rattle.zk_fields.specs.Answers.{result_entries, done_entries, body_entries}
+use Rattle.zk_fields.specs.Walks.{headed_shape}
 use Rattle.zk_fields.specs.Frames.{Framed, flag_entries, ask_behind, body_behind, rest_entries, rest_behind, framed_items, framed_fields, client_framed, server_framed}
-use Rattle.zk_fields.specs.Records.{texts, rights, stat, connect_request, connect_response, watcher_event, create_ask, delete_ask, set_data_ask, set_acl_ask, check_ask, watch_ask, path_ask, auth_ask, set_watches_ask}
+use Rattle.zk_fields.specs.Records.{connect_request, connect_response, watcher_event}
 use Rattle.zk_fields.specs.Written.{int_said, count_said, utf8_said, Pair, pairs, plain_head, head_said, said, said_with, all_said, behind_of, done_behind, MayBe, frame, payload_items, Holds, Writes, Again, WritesAgain, AnswersAgain}
+use Rattle.zk_fields.proofs.Rows.{Formed, part_formed, done_formed, of_ask, of_body}
 use Rattle.zk_fields.proofs.Same.{size_is, client_is, server_is}
 use Rattle.zk_fields.proofs.Contents.{framed_at}
 use Rattle.zk_fields.proofs.Saying.{some_is, with_some, next_split, longer, total}
@@ -96,35 +99,15 @@ plain heads (Many name s) es p = subst (AreTold heads) (sym p.3) (λ more. (tt, 
 one : {X : Type 0} (heads : Heads) (k : Named X) (name : ℕ) (x : X) → AreTold heads (k.entries name x)
 one heads k name x = plain heads (k.shape name) (k.entries name x) (k.formed name x)
 
-two : {X Y : Type 0} (heads : Heads) (k : Named X) (l : Named Y) (name : ℕ) (x : X) (y : Y) → AreTold heads (k.entries name x ++ l.entries 0 y)
-two heads k l name x y = both heads (k.entries name x) (l.entries 0 y) (one heads k name x) (one heads l 0 y)
-
-record_told : (p : Part) → AreTold head.Parts (record_entries p)
-record_told (part.Create r) = one head.Parts create_ask 0 r
-record_told (part.Delete r) = one head.Parts delete_ask 0 r
-record_told (part.SetData r) = one head.Parts set_data_ask 0 r
-record_told (part.Check r) = one head.Parts check_ask 0 r
+-- those of a row have none either
+formed_told : (heads : Heads) (s : Shape) (es : List Entry) (items : List Item) → Formed s es items → AreTold heads es
+formed_told heads s es items f = plain heads s es f.of
 
 part_told : (p : Part) → AreTold head.Parts (part_entries p)
-part_told p more = ((λ place have. refl), record_told p more)
+part_told p more = let m = part_formed p in ((λ place have. refl), formed_told head.Parts (headed_shape m.0) (record_entries p) (record_of p) m.2 more)
 
 ask_told : (a : Ask) → AreTold head.Parts (ask_entries a)
-ask_told (ask.Create r) = one head.Parts create_ask 0 r
-ask_told (ask.Delete r) = one head.Parts delete_ask 0 r
-ask_told (ask.Exists r) = one head.Parts watch_ask 0 r
-ask_told (ask.GetData r) = one head.Parts watch_ask 0 r
-ask_told (ask.SetData r) = one head.Parts set_data_ask 0 r
-ask_told (ask.GetAcl r) = one head.Parts path_ask 0 r
-ask_told (ask.SetAcl r) = one head.Parts set_acl_ask 0 r
-ask_told (ask.GetChildren r) = one head.Parts watch_ask 0 r
-ask_told (ask.Sync r) = one head.Parts path_ask 0 r
-ask_told ask.Ping = λ more. tt
-ask_told (ask.GetChildren2 r) = one head.Parts watch_ask 0 r
-ask_told (ask.Multi ps) = each head.Parts part_entries part_told ps
-ask_told (ask.Create2 r) = one head.Parts create_ask 0 r
-ask_told (ask.Auth r) = one head.Parts auth_ask 0 r
-ask_told (ask.SetWatches r) = one head.Parts set_watches_ask 0 r
-ask_told ask.CloseSession = λ more. tt
+ask_told = of_ask (λ c es behind items. AreTold head.Parts es) (formed_told head.Parts) (each head.Parts part_entries part_told)
 
 flag_told : (heads : Heads) (flag : Option Bool) → AreTold heads (flag_entries flag)
 flag_told heads None = λ more. tt
@@ -138,29 +121,11 @@ client_told (client.Connect hello flag) = flagged head.Parts connect_request hel
 client_told (client.Ask xid a) = ask_told a
 
 done_told : (d : PartDone) → AreTold head.Results (done_entries d)
-done_told (done.Created path) more = ((λ place have. refl), one head.Results a_text the_path path more)
-done_told done.Deleted more = ((λ place have. refl), tt)
-done_told (done.DataSet s) more = ((λ place have. refl), one head.Results stat 0 s more)
-done_told done.Checked more = ((λ place have. refl), tt)
 done_told (done.PartFailed e) more = ((λ place have. ap (option_map (plain_head (negsuc 0))) (int_fits e have.0)), (tt, tt))
+done_told d more = let m = done_formed d in ((λ place have. refl), formed_told head.Results (headed_shape m.0) (result_entries d) (result_of d) m.2 more)
 
 body_told : (b : Body) → AreTold head.Results (body_entries b)
-body_told (body.Create p) = one head.Results a_text the_path p
-body_told body.Delete = λ more. tt
-body_told (body.Exists s) = one head.Results stat 0 s
-body_told (body.GetData b s) = two head.Results a_blob stat the_data b s
-body_told (body.SetData s) = one head.Results stat 0 s
-body_told (body.GetAcl a s) = two head.Results rights stat the_acl a s
-body_told (body.SetAcl s) = one head.Results stat 0 s
-body_told (body.GetChildren n) = one head.Results texts the_children n
-body_told (body.Sync p) = one head.Results a_text the_path p
-body_told body.Ping = λ more. tt
-body_told (body.GetChildren2 n s) = two head.Results texts stat the_children n s
-body_told (body.Multi ds) = each head.Results done_entries done_told ds
-body_told (body.Create2 p s) = two head.Results a_text stat the_path p s
-body_told body.Auth = λ more. tt
-body_told body.SetWatches = λ more. tt
-body_told body.CloseSession = λ more. tt
+body_told = of_body (λ c es behind items. AreTold head.Results es) (formed_told head.Results) (each head.Results done_entries done_told)
 
 rest_told : (o : Outcome) → AreTold head.Results (rest_entries o)
 rest_told (outcome.Done b) = body_told b
@@ -271,39 +236,11 @@ server_again s content fs before after result writes sent = framed_again head.Re
 
 pub ends_alike : (a : Ask) → behind_of (op_number (op_of_ask a)) ≡ ask_behind a
 ends_alike (ask.Create r) = refl
-ends_alike (ask.Delete r) = refl
-ends_alike (ask.Exists r) = refl
-ends_alike (ask.GetData r) = refl
-ends_alike (ask.SetData r) = refl
-ends_alike (ask.GetAcl r) = refl
-ends_alike (ask.SetAcl r) = refl
-ends_alike (ask.GetChildren r) = refl
-ends_alike (ask.Sync r) = refl
-ends_alike ask.Ping = refl
-ends_alike (ask.GetChildren2 r) = refl
-ends_alike (ask.Multi ps) = refl
-ends_alike (ask.Create2 r) = refl
-ends_alike (ask.Auth r) = refl
-ends_alike (ask.SetWatches r) = refl
-ends_alike ask.CloseSession = refl
+ends_alike _ = refl
 
 bodies_alike : (b : Body) → behind_of (op_number (op_of_body b)) ≡ body_behind b
 bodies_alike (body.Create p) = refl
-bodies_alike body.Delete = refl
-bodies_alike (body.Exists s) = refl
-bodies_alike (body.GetData b s) = refl
-bodies_alike (body.SetData s) = refl
-bodies_alike (body.GetAcl a s) = refl
-bodies_alike (body.SetAcl s) = refl
-bodies_alike (body.GetChildren n) = refl
-bodies_alike (body.Sync p) = refl
-bodies_alike body.Ping = refl
-bodies_alike (body.GetChildren2 n s) = refl
-bodies_alike (body.Multi ds) = refl
-bodies_alike (body.Create2 p s) = refl
-bodies_alike body.Auth = refl
-bodies_alike body.SetWatches = refl
-bodies_alike body.CloseSession = refl
+bodies_alike _ = refl
 
 pub rests_alike : (o : Outcome) → IsOutcome o → done_behind (err_of o) (op_number (op_of_outcome o)) ≡ rest_behind o
 rests_alike (outcome.Done b) is = bodies_alike b

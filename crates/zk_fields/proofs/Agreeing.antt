@@ -9,39 +9,34 @@ use Rattle.zk_jute.specs.Item.{Kind, Int, Long, Boolean, Ustring, Buffer, Count,
 use Rattle.zk_jute.specs.declared.fault.Reason.TheVariants.{Short}
 use Rattle.zk_jute.specs.Layout.{One, End}
 use Rattle.zk_jute.specs.Reading.{Fault, int_at, size_at, item_at, items_at}
-use Rattle.zk_jute.proofs.Steps.{Stands-from}
+use Rattle.zk_jute.proofs.Steps.{BytesAt-from}
 use Rattle.zk_jute.proofs.Runs.{int_again, size_again}
 use Rattle.zk_jute.proofs.Primitives.{bool_again}
 use Rattle.zk_jute.proofs.Layouts.{have_parts, bytes_both, items_again}
 use Rattle.zk_records.specs.declared.header.MultiHeader.{MultiHeader}
-use Rattle.zk_records.specs.declared.op.PartOp.TheVariants as parts
 use Rattle.zk_records.specs.Records.{multi_header}
-use Rattle.zk_asks.specs.declared.frame.PartOf.TheVariants as part
-use Rattle.zk_asks.specs.declared.frame.AskOf.TheVariants as ask
 use Rattle.zk_asks.specs.declared.frame.ClientFrameOf.TheVariants as client
 use Rattle.zk_asks.specs.Held.{Part, Ask, ClientFrame}
 use Rattle.zk_asks.specs.Parts.{op_of_part, part_header, end_header, marked}
 use Rattle.zk_asks.specs.Rows.{op_of_ask}
 use Rattle.zk_asks.specs.Frames as asks
-use Rattle.zk_answers.specs.declared.frame.PartDoneOf.TheVariants as done
-use Rattle.zk_answers.specs.declared.frame.BodyOf.TheVariants as body
 use Rattle.zk_answers.specs.declared.frame.OutcomeOf.TheVariants as outcome
 use Rattle.zk_answers.specs.declared.frame.ServerFrameOf.TheVariants as server
 use Rattle.zk_answers.specs.Held.{PartDone, Body, Outcome, ServerFrame}
 use Rattle.zk_answers.specs.Frames as answers
 use Rattle.zk_answers.specs.Rows.{op_of_body}
 use Rattle.zk_answers.specs.Results.{mark_before}
-use Rattle.zk_fields.specs.declared.opened.Mark.{Mark}
-use Rattle.zk_fields.specs.declared.opened.Mark.TheVariants as mark
+use Rattle.zk_fields.specs.declared.opened.Headed.{Headed}
 use Rattle.zk_fields.specs.declared.opened.Opened.{Opened}
-use Rattle.zk_fields.specs.Names.{the_path, the_data, the_acl, the_children, the_read_only, the_err}
+use Rattle.zk_fields.specs.Names.{the_read_only}
 use Rattle.zk_fields.specs.Fields.{Entry, Under, Head, items_of, fields_from}
-use Rattle.zk_fields.specs.Named.{Shape, Nothing, An, Both, Many, Times, Elements, IsOf, Named, items_both, an_int, a_boolean, a_text, a_blob}
-use Rattle.zk_fields.specs.Records.{texts, rights, stat, connect_request, connect_response, watcher_event, create_ask, delete_ask, set_data_ask, set_acl_ask, check_ask, watch_ask, path_ask, auth_ask, set_watches_ask}
+use Rattle.zk_fields.specs.Named.{Shape, Nothing, An, Both, Many, Times, Elements, IsOf, Named, items_both, a_boolean}
+use Rattle.zk_fields.specs.Records.{connect_request, connect_response, watcher_event}
 use Rattle.zk_fields.specs.Asks.{record_entries, part_entries}
 use Rattle.zk_fields.specs.Answers.{result_entries, done_entries, body_entries}
 use Rattle.zk_fields.specs.Frames.{Framed, flag_entries, body_behind, rest_entries, rest_behind, framed_items, framed_fields, client_framed, server_framed, client_fields, server_fields}
-use Rattle.zk_fields.specs.Walks.{Met, none_met, item_met, met_then, times_met, list_met, walk, header_at, part_mark, result_mark, mark_shape, head_met, Content, Fields, Heads, content_met, ask_content, body_content, opened_content, opened_start, whole_fields, client_opened, server_opened}
+use Rattle.zk_fields.specs.Walks.{Met, none_met, item_met, met_then, times_met, list_met, walk, header_at, headed_part, headed_result, headed_shape, head_met, Content, Fields, Heads, content_met, ask_content, body_content, opened_content, opened_start, whole_fields, client_opened, server_opened}
+use Rattle.zk_fields.proofs.Rows.{Formed, part_formed, done_formed, of_ask, of_body}
 use Rattle.zk_fields.proofs.Same.{client_is, server_is, entry_has}
 use Rattle.zk_fields.proofs.Saying.{some_is, longer, split}
 
@@ -64,7 +59,7 @@ then_meets src f g x y p q more place have le e =
     let h = have_parts (items_of x) (items_of y) (subst HaveBytes items have) in
     let bytes : bytes_of (items_of (x ++ y)) ≡ bytes_of (items_of x) ++ bytes_of (items_of y) = ap bytes_of items ∙ bytes_both (items_of x) (items_of y) in
     let split : drop place src ≡ bytes_of (items_of x) ++ (bytes_of (items_of y) ++ more) = e ∙ ap (λ (b : List ℕ). b ++ more) bytes ∙ append_assoc (bytes_of (items_of x)) (bytes_of (items_of y)) more in
-    let s = Stands-from (bytes_of (items_of x)) (bytes_of (items_of y) ++ more) src place le split in
+    let s = BytesAt-from (bytes_of (items_of x)) (bytes_of (items_of y) ++ more) src place le split in
     let first : f place ≡ all_met x place = p (bytes_of (items_of y) ++ more) place h.0 le split in
     let second : g (place + size x) ≡ all_met y (place + size x) = q more (place + size x) h.1 s.0.within s.1 in
     rw (first, second) (ap (λ (n : ℕ). record { entries = x ++ y; end = Some n }) (omega (arith, ap length bytes, length-append (bytes_of (items_of x)) (bytes_of (items_of y)))))
@@ -85,7 +80,7 @@ list_meets src name f P each (Some n) inside p more place have le e =
     let count = item_bytes (ACount (Some n)) in
     let split : drop place src ≡ count ++ (bytes_of (items_of inside) ++ more) = e ∙ append_assoc count (bytes_of (items_of inside)) more in
     let read = size_again (Some n) src (bytes_of (items_of inside) ++ more) place have.0 split in
-    let s = Stands-from count (bytes_of (items_of inside) ++ more) src place le split in
+    let s = BytesAt-from count (bytes_of (items_of inside) ++ more) src place le split in
     let within : place + 4 ≤ length src = s.0.within in
     let others : times_met f n (place + 4) ≡ all_met inside (place + 4) = times_meet src f P each n inside p more (place + 4) have.1 within s.1 in
     rw (read, others) (ap (λ (z : ℕ). record { entries = Under name (ACount (Some n)) ∷ inside; end = Some z }) (omega arith))
@@ -133,7 +128,7 @@ walk_end src (An name kind) place past = rw (items_end src place name kind past)
 walk_end src (Both a b) place past = behind_end src (walk a src place) (walk b src) (walk_end src a place past) (walk_end src b) (walk a src place).end refl
 walk_end src (Many name s) place past = let n = int_end src place past in rw n.1 (refl, λ p e. absurd (cc))
 
-heads_end : (src : List ℕ) (f : MultiHeader → Option Mark) (n place : ℕ) → length src ≤ place → (times_met (head_met f src) n place).entries ≡ []
+heads_end : (src : List ℕ) (f : MultiHeader → Option Headed) (n place : ℕ) → length src ≤ place → (times_met (head_met f src) n place).entries ≡ []
 heads_end src f zero place past = refl
 heads_end src f (suc n) place past = let m = int_end src place past in rw m.1 refl
 
@@ -154,61 +149,46 @@ header_again src more h place have le e =
     let rest = flag ++ (err ++ more) in
     let split : drop place src ≡ int_bytes h.kind ++ rest = e ∙ append_assoc (int_bytes h.kind) (flag ++ (err ++ [])) more ∙ ap (λ (z : List ℕ). int_bytes h.kind ++ z) (append_assoc flag (err ++ []) more ∙ ap (λ (z : List ℕ). flag ++ z) (append_assoc err [] more)) in
     let a = int_again h.kind src rest place have.0 split in
-    let s = Stands-from (int_bytes h.kind) rest src place le split in
+    let s = BytesAt-from (int_bytes h.kind) rest src place le split in
     let b = bool_again h.done src (err ++ more) (place + 4) s.1 in
-    let t = Stands-from flag (err ++ more) src (place + 4) s.0.within s.1 in
+    let t = BytesAt-from flag (err ++ more) src (place + 4) s.0.within s.1 in
     let one : length flag ≡ 1 = flag_long h.done in
     let after : drop (place + 4 + 1) src ≡ err ++ more = ap (λ (n : ℕ). drop (place + 4 + n) src) (sym one) ∙ t.1 in
     let d = int_again h.err src more (place + 4 + 1) have.1.1.0 after in
     rw (a, b, d) (ap (λ (n : ℕ). Ok (h, n)) (omega arith))
 
-under_meets : (src : List ℕ) (f : MultiHeader → Option Mark) (h : MultiHeader) (m : Mark) (es : List Entry) → f h ≡ Some m → IsOf (mark_shape m) es → Meets src (head_met f src) (Head h ∷ es)
+under_meets : (src : List ℕ) (f : MultiHeader → Option Headed) (h : MultiHeader) (m : Headed) (es : List Entry) → f h ≡ Some m → IsOf (headed_shape m) es → Meets src (head_met f src) (Head h ∷ es)
 under_meets src f h m es is of more place have le e =
     let head = multi_header.items h in
     let parts = have_parts head (items_of es) have in
     let bytes = bytes_both head (items_of es) in
     let split : drop place src ≡ bytes_of head ++ (bytes_of (items_of es) ++ more) = e ∙ ap (λ (b : List ℕ). b ++ more) bytes ∙ append_assoc (bytes_of head) (bytes_of (items_of es)) more in
     let read = header_again src (bytes_of (items_of es) ++ more) h place parts.0 le split in
-    let s = Stands-from (bytes_of head) (bytes_of (items_of es) ++ more) src place le split in
+    let s = BytesAt-from (bytes_of head) (bytes_of (items_of es) ++ more) src place le split in
     let long : length (bytes_of head) ≡ 9 = entry_has (Head h) in
     let within : place + 9 ≤ length src = omega (arith, s.0.within, long) in
     let after : drop (place + 9) src ≡ bytes_of (items_of es) ++ more = ap (λ (n : ℕ). drop (place + n) src) (sym long) ∙ s.1 in
-    let others : walk (mark_shape m) src (place + 9) ≡ all_met es (place + 9) = walk_meets src (mark_shape m) es of more (place + 9) parts.1 within after in
+    let others : walk (headed_shape m) src (place + 9) ≡ all_met es (place + 9) = walk_meets src (headed_shape m) es of more (place + 9) parts.1 within after in
     rw (read, is, others) (ap (λ (n : ℕ). record { entries = Head h ∷ es; end = Some n }) (omega (arith, long, longer head (items_of es))))
 
-part_is : (p : Part) → (m : Mark) × (part_mark (part_header (op_of_part p)) ≡ Some m) × IsOf (mark_shape m) (record_entries p)
-unfolding part_mark
-part_is (part.Create r) = (mark.Part parts.Create, refl, create_ask.formed 0 r)
-part_is (part.Delete r) = (mark.Part parts.Delete, refl, delete_ask.formed 0 r)
-part_is (part.SetData r) = (mark.Part parts.SetData, refl, set_data_ask.formed 0 r)
-part_is (part.Check r) = (mark.Part parts.Check, refl, check_ask.formed 0 r)
+part_meets : (src : List ℕ) (p : Part) → Meets src (head_met headed_part src) (part_entries p)
+part_meets src p = let m = part_formed p in under_meets src headed_part (part_header (op_of_part p)) m.0 (record_entries p) m.1 m.2.of
 
-done_is : (d : PartDone) → (m : Mark) × (result_mark (mark_before d) ≡ Some m) × IsOf (mark_shape m) (result_entries d)
-unfolding result_mark
-done_is (done.Created path) = (mark.Own parts.Create, refl, a_text.formed the_path path)
-done_is done.Deleted = (mark.Own parts.Delete, refl, refl)
-done_is (done.DataSet s) = (mark.Own parts.SetData, refl, stat.formed 0 s)
-done_is done.Checked = (mark.Own parts.Check, refl, refl)
-done_is (done.PartFailed e) = (mark.Error, refl, an_int.formed the_err e)
+done_meets : (src : List ℕ) (d : PartDone) → Meets src (head_met headed_result src) (done_entries d)
+done_meets src d = let m = done_formed d in under_meets src headed_result (mark_before d) m.0 (result_entries d) m.1 m.2.of
 
-part_meets : (src : List ℕ) (p : Part) → Meets src (head_met part_mark src) (part_entries p)
-part_meets src p = let m = part_is p in under_meets src part_mark (part_header (op_of_part p)) m.0 (record_entries p) m.1 m.2
-
-done_meets : (src : List ℕ) (d : PartDone) → Meets src (head_met result_mark src) (done_entries d)
-done_meets src d = let m = done_is d in under_meets src result_mark (mark_before d) m.0 (result_entries d) m.1 m.2
-
-no_part : part_mark end_header ≡ None
-unfolding part_mark
+no_part : headed_part end_header ≡ None
+unfolding headed_part
 no_part = refl
 
-no_result : result_mark end_header ≡ None
-unfolding result_mark
+no_result : headed_result end_header ≡ None
+unfolding headed_result
 no_result = refl
 
 end_have : HaveBytes (marked end_header)
 end_have = (omega (arith, ints), (tt, (omega (arith, ints), tt)))
 
-module _ {X : Type 0} (src : List ℕ) (f : MultiHeader → Option Mark) (g : X → List Entry) (each : (x : X) → Meets src (head_met f src) (g x)) (none : f end_header ≡ None) where
+module _ {X : Type 0} (src : List ℕ) (f : MultiHeader → Option Headed) (g : X → List Entry) (each : (x : X) → Meets src (head_met f src) (g x)) (none : f end_header ≡ None) where
   heads_meet : (xs : List X) (n place : ℕ) → length xs ≤ n → HaveBytes (items_of (flat_map g xs)) → place ≤ length src → drop place src ≡ bytes_of (items_of (flat_map g xs)) ++ bytes_of (marked end_header)
       → (times_met (head_met f src) n place).entries ≡ flat_map g xs
   heads_meet [] zero place few have le e = refl
@@ -223,7 +203,7 @@ module _ {X : Type 0} (src : List ℕ) (f : MultiHeader → Option Mark) (g : X 
       let bytes : bytes_of (items_of (g x ++ y)) ≡ bytes_of (items_of (g x)) ++ bytes_of (items_of y) = ap bytes_of items ∙ bytes_both (items_of (g x)) (items_of y) in
       let rest = bytes_of (items_of y) ++ bytes_of (marked end_header) in
       let split : drop place src ≡ bytes_of (items_of (g x)) ++ rest = e ∙ ap (λ (b : List ℕ). b ++ bytes_of (marked end_header)) bytes ∙ append_assoc (bytes_of (items_of (g x))) (bytes_of (items_of y)) (bytes_of (marked end_header)) in
-      let s = Stands-from (bytes_of (items_of (g x))) rest src place le split in
+      let s = BytesAt-from (bytes_of (items_of (g x))) rest src place le split in
       let first : head_met f src place ≡ all_met (g x) place = each x rest place h.0 le split in
       let others = heads_meet xs n (place + size (g x)) (omega (arith, few)) h.1 s.0.within s.1 in
       rw first (ap (λ (z : List Entry). g x ++ z) others)
@@ -259,7 +239,7 @@ module _ (f : Framed) (have : HaveBytes (framed_items f)) where
 shaped : (f : Framed) (s : Shape) → IsOf s f.entries → Agrees f (Fields s)
 shaped f s of have = ap (λ (m : Met). m.entries) (walk_meets (bytes_in f) s f.entries of (bytes_of f.behind) (start_of f) (has f have) (within f have) (stands f have))
 
-multi : {X : Type 0} (front : List Item) (m : MultiHeader → Option Mark) (g : X → List Entry) (xs : List X) → ((src : List ℕ) (x : X) → Meets src (head_met m src) (g x)) → m end_header ≡ None → ((x : X) → 0 < size (g x))
+multi : {X : Type 0} (front : List Item) (m : MultiHeader → Option Headed) (g : X → List Entry) (xs : List X) → ((src : List ℕ) (x : X) → Meets src (head_met m src) (g x)) → m end_header ≡ None → ((x : X) → 0 < size (g x))
     → Agrees (record { front = front; entries = flat_map g xs; behind = marked end_header }) (Heads m)
 multi front m g xs each none some have =
     let f : Framed = record { front = front; entries = flat_map g xs; behind = marked end_header } in
@@ -284,48 +264,24 @@ flagged k x None have =
     let alone : (met_then (walk (k.shape 0) src 0) (walk (An the_read_only Boolean) src)).entries ≡ es ++ [] = rw (first, second) refl in
     subst (λ (z : List Item). (content_met (Fields (Both (k.shape 0) (An the_read_only Boolean))) (bytes_of z) 0).entries ≡ es ++ []) (sym same) alone
 
+-- what is read behind a header is the entries
+abbrev AgreesBehind : List Item → Content → List Entry → List Item → List Item → Type 0
+AgreesBehind front c es behind items = Agrees (record { front = front; entries = es; behind = behind }) c
+
+formed : (front : List Item) (s : Shape) (es : List Entry) (items : List Item) → Formed s es items → AgreesBehind front (Fields s) es [] items
+formed front s es items f = shaped (record { front = front; entries = es; behind = [] }) s f.of
+
 ask_agrees : (xid : ℤ) (a : Ask) → Agrees (client_framed (client.Ask xid a)) (ask_content (op_of_ask a))
-ask_agrees xid (ask.Create r) = shaped (client_framed (client.Ask xid (ask.Create r))) (create_ask.shape 0) (create_ask.formed 0 r)
-ask_agrees xid (ask.Delete r) = shaped (client_framed (client.Ask xid (ask.Delete r))) (delete_ask.shape 0) (delete_ask.formed 0 r)
-ask_agrees xid (ask.Exists r) = shaped (client_framed (client.Ask xid (ask.Exists r))) (watch_ask.shape 0) (watch_ask.formed 0 r)
-ask_agrees xid (ask.GetData r) = shaped (client_framed (client.Ask xid (ask.GetData r))) (watch_ask.shape 0) (watch_ask.formed 0 r)
-ask_agrees xid (ask.SetData r) = shaped (client_framed (client.Ask xid (ask.SetData r))) (set_data_ask.shape 0) (set_data_ask.formed 0 r)
-ask_agrees xid (ask.GetAcl r) = shaped (client_framed (client.Ask xid (ask.GetAcl r))) (path_ask.shape 0) (path_ask.formed 0 r)
-ask_agrees xid (ask.SetAcl r) = shaped (client_framed (client.Ask xid (ask.SetAcl r))) (set_acl_ask.shape 0) (set_acl_ask.formed 0 r)
-ask_agrees xid (ask.GetChildren r) = shaped (client_framed (client.Ask xid (ask.GetChildren r))) (watch_ask.shape 0) (watch_ask.formed 0 r)
-ask_agrees xid (ask.Sync r) = shaped (client_framed (client.Ask xid (ask.Sync r))) (path_ask.shape 0) (path_ask.formed 0 r)
-ask_agrees xid ask.Ping = shaped (client_framed (client.Ask xid ask.Ping)) Nothing refl
-ask_agrees xid (ask.GetChildren2 r) = shaped (client_framed (client.Ask xid (ask.GetChildren2 r))) (watch_ask.shape 0) (watch_ask.formed 0 r)
-ask_agrees xid (ask.Multi ps) = multi (client_framed (client.Ask xid (ask.Multi ps))).front part_mark part_entries ps part_meets no_part (λ p. under_long (part_header (op_of_part p)) (record_entries p))
-ask_agrees xid (ask.Create2 r) = shaped (client_framed (client.Ask xid (ask.Create2 r))) (create_ask.shape 0) (create_ask.formed 0 r)
-ask_agrees xid (ask.Auth r) = shaped (client_framed (client.Ask xid (ask.Auth r))) (auth_ask.shape 0) (auth_ask.formed 0 r)
-ask_agrees xid (ask.SetWatches r) = shaped (client_framed (client.Ask xid (ask.SetWatches r))) (set_watches_ask.shape 0) (set_watches_ask.formed 0 r)
-ask_agrees xid ask.CloseSession = shaped (client_framed (client.Ask xid ask.CloseSession)) Nothing refl
+ask_agrees xid a =
+    let front = (client_framed (client.Ask xid a)).front in
+    of_ask (AgreesBehind front) (formed front) (λ ps. multi front headed_part part_entries ps part_meets no_part (λ p. under_long (part_header (op_of_part p)) (record_entries p))) a
 
 client_agrees : (f : ClientFrame) → Agrees (client_framed f) (opened_content (client_opened f))
 client_agrees (client.Connect hello flag) = flagged connect_request hello flag
 client_agrees (client.Ask xid a) = ask_agrees xid a
 
-abbrev replied : List Item → List Entry → Framed
-replied front es = record { front = front; entries = es; behind = [] }
-
 body_agrees : (front : List Item) (b : Body) → Agrees (record { front = front; entries = body_entries b; behind = body_behind b }) (body_content (op_of_body b))
-body_agrees front (body.Create p) = shaped (replied front (a_text.entries the_path p)) (An the_path Ustring) (a_text.formed the_path p)
-body_agrees front body.Delete = shaped (replied front []) Nothing refl
-body_agrees front (body.Exists s) = shaped (replied front (stat.entries 0 s)) (stat.shape 0) (stat.formed 0 s)
-body_agrees front (body.GetData b s) = shaped (replied front (a_blob.entries the_data b ++ stat.entries 0 s)) (Both (An the_data Buffer) (stat.shape 0)) (a_blob.entries the_data b, stat.entries 0 s, a_blob.formed the_data b, stat.formed 0 s, refl)
-body_agrees front (body.SetData s) = shaped (replied front (stat.entries 0 s)) (stat.shape 0) (stat.formed 0 s)
-body_agrees front (body.GetAcl a s) = shaped (replied front (rights.entries the_acl a ++ stat.entries 0 s)) (Both (rights.shape the_acl) (stat.shape 0)) (rights.entries the_acl a, stat.entries 0 s, rights.formed the_acl a, stat.formed 0 s, refl)
-body_agrees front (body.SetAcl s) = shaped (replied front (stat.entries 0 s)) (stat.shape 0) (stat.formed 0 s)
-body_agrees front (body.GetChildren n) = shaped (replied front (texts.entries the_children n)) (texts.shape the_children) (texts.formed the_children n)
-body_agrees front (body.Sync p) = shaped (replied front (a_text.entries the_path p)) (An the_path Ustring) (a_text.formed the_path p)
-body_agrees front body.Ping = shaped (replied front []) Nothing refl
-body_agrees front (body.GetChildren2 n s) = shaped (replied front (texts.entries the_children n ++ stat.entries 0 s)) (Both (texts.shape the_children) (stat.shape 0)) (texts.entries the_children n, stat.entries 0 s, texts.formed the_children n, stat.formed 0 s, refl)
-body_agrees front (body.Multi ds) = multi front result_mark done_entries ds done_meets no_result (λ d. under_long (mark_before d) (result_entries d))
-body_agrees front (body.Create2 p s) = shaped (replied front (a_text.entries the_path p ++ stat.entries 0 s)) (Both (An the_path Ustring) (stat.shape 0)) (a_text.entries the_path p, stat.entries 0 s, a_text.formed the_path p, stat.formed 0 s, refl)
-body_agrees front body.Auth = shaped (replied front []) Nothing refl
-body_agrees front body.SetWatches = shaped (replied front []) Nothing refl
-body_agrees front body.CloseSession = shaped (replied front []) Nothing refl
+body_agrees front = of_body (AgreesBehind front) (formed front) (λ ds. multi front headed_result done_entries ds done_meets no_result (λ d. under_long (mark_before d) (result_entries d)))
 
 rest_agrees : (front : List Item) (o : Outcome) → Agrees (record { front = front; entries = rest_entries o; behind = rest_behind o }) (body_content (answers.op_of_outcome o))
 rest_agrees front (outcome.Done b) = body_agrees front b
@@ -351,12 +307,11 @@ opened o f items same have start agrees =
 
 client_start : (f : ClientFrame) → opened_start (client_opened f) ≡ start_of (client_framed f)
 client_start (client.Connect hello flag) = refl
-client_start (client.Ask xid a) = refl
+client_start _ = refl
 
 server_start : (s : ServerFrame) → opened_start (server_opened s) ≡ start_of (server_framed s)
 server_start (server.Connected hello flag) = refl
-server_start (server.Answered r) = refl
-server_start (server.Event zxid event) = refl
+server_start _ = refl
 
 pub client_whole : (f : ClientFrame) → asks.IsSent f → whole_fields (client_opened f) (asks.payload f) ≡ client_fields f
 client_whole f sent = opened (client_opened f) (client_framed f) (asks.frame_items f) (client_is f) sent.1 (client_start f) (client_agrees f)

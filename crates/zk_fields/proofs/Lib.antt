@@ -1,7 +1,8 @@
 pub mod Rooms
+pub mod Rows
 pub mod Same
 pub mod Walking
-pub mod Marks
+pub mod Heads
 pub mod Stood
 pub mod Wholes
 pub mod Contents

@@ -4,7 +4,7 @@ use Rattle.std.proofs.lemmas.List.{length-append}
 use Rattle.std.specs.List.{flat_map}
 use Rattle.std.specs.Prelude.{pos, ℤ}
 use Rattle.zk_jute.proofs.Layouts.{have_parts}
-use Rattle.zk_jute.specs.Item.{Item, AnInt, ALong, ABoolean, AUstring, ABuffer, ACount, HaveBytes}
+use Rattle.zk_jute.specs.Item.{Item, AUstring, ABuffer, ACount, HaveBytes}
 use Rattle.std.specs.Prelude.{Option, Some, None}
 use Rattle.zk_jute.specs.Held.{Text, Blob}
 use Rattle.zk_jute.specs.Values.{text_items, blob_items}
@@ -39,14 +39,9 @@ written_both count [] y room = ap (λ (n : ℕ). written n y room) (omega arith)
 written_both count (f ∷ x) y room = written_both (count + 1) x y (set room count f) ∙ ap (λ (n : ℕ). written n y (written (count + 1) x (set room count f))) (omega arith)
 
 item_has : (i : Item) → 1 ≤ item_size i
-item_has (AnInt n) = omega arith
-item_has (ALong n) = omega arith
-item_has (ABoolean b) = omega arith
 item_has (AUstring None) = omega arith
-item_has (AUstring (Some t)) = omega arith
 item_has (ABuffer None) = omega arith
-item_has (ABuffer (Some b)) = omega arith
-item_has (ACount n) = omega arith
+item_has _ = omega arith
 
 entry_has : (e : Entry) → 1 ≤ size_of e
 entry_has (Under name i) = item_has i

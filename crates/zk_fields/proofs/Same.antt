@@ -9,41 +9,28 @@ use Rattle.zk_jute.proofs.Numbers.{len32, len64}
 use Rattle.zk_jute.proofs.Layouts.{bytes_both}
 use Rattle.zk_records.specs.Records.{multi_header}
 use Rattle.zk_asks.specs.Held.{Part, Ask, ClientFrame}
-use Rattle.zk_asks.specs.declared.frame.PartOf.TheVariants as part
-use Rattle.zk_asks.specs.declared.frame.AskOf.TheVariants as ask
 use Rattle.zk_asks.specs.declared.frame.ClientFrameOf.TheVariants as client
-use Rattle.zk_asks.specs.Parts.{part_items, record_of, op_of_part, part_header, marked, end_header}
+use Rattle.zk_asks.specs.Parts.{part_items, op_of_part, part_header, marked, end_header}
 use Rattle.zk_asks.specs.Rows.{body_items}
 use Rattle.zk_asks.specs.Frames as asks
 use Rattle.zk_answers.specs.Held.{PartDone, Body, Outcome, ServerFrame}
 use Rattle.zk_answers.specs.declared.frame.PartDoneOf.TheVariants as done
-use Rattle.zk_answers.specs.declared.frame.BodyOf.TheVariants as body
 use Rattle.zk_answers.specs.declared.frame.OutcomeOf.TheVariants as outcome
 use Rattle.zk_answers.specs.declared.frame.ServerFrameOf.TheVariants as server
-use Rattle.zk_answers.specs.Results.{done_items, result_of, mark_before}
+use Rattle.zk_answers.specs.Results.{done_items, mark_before}
 use Rattle.zk_answers.specs.Rows as answered
 use Rattle.zk_answers.specs.Frames as answers
-use Rattle.zk_fields.specs.Names.{the_path, the_data, the_acl, the_children}
 use Rattle.zk_fields.specs.Fields.{Entry, Under, Head, entry_items, items_of, size_of, size_all, item_size, run_size}
-use Rattle.zk_fields.specs.Named.{Named, a_text, a_blob, items_both}
-use Rattle.zk_fields.specs.Records.{texts, rights, stat, connect_request, connect_response, watcher_event, create_ask, delete_ask, set_data_ask, set_acl_ask, check_ask, watch_ask, path_ask, auth_ask, set_watches_ask}
-use Rattle.zk_fields.specs.Asks.{record_entries, part_entries, ask_entries}
-use Rattle.zk_fields.specs.Answers.{result_entries, done_entries, body_entries}
+use Rattle.zk_fields.specs.Named.{Named}
+use Rattle.zk_fields.specs.Records.{connect_request, connect_response, watcher_event}
+use Rattle.zk_fields.specs.Asks.{part_entries, ask_entries}
+use Rattle.zk_fields.specs.Answers.{done_entries, body_entries}
+use Rattle.zk_fields.proofs.Rows.{both_is, part_formed, done_formed, of_ask, of_body}
 use Rattle.zk_fields.specs.Frames.{flag_entries, ask_behind, body_behind, rest_entries, rest_behind, framed_items, client_framed, server_framed}
-
--- one after the other
-both_is : (x y : List Entry) (a b : List Item) → items_of x ≡ a → items_of y ≡ b → items_of (x ++ y) ≡ a ++ b
-both_is x y a b p q = items_both x y ∙ ap (λ (z : List Item). z ++ items_of y) p ∙ ap (λ (z : List Item). a ++ z) q
 
 -- nothing stands behind them
 alone : (x : List Entry) (a : List Item) → items_of x ≡ a → items_of x ++ [] ≡ a
 alone x a p = append-nil (items_of x) ∙ p
-
-one : {X : Type 0} (k : Named X) (name : ℕ) (x : X) → items_of (k.entries name x) ++ [] ≡ k.items x
-one k name x = alone (k.entries name x) (k.items x) (k.is name x)
-
-two : {X Y : Type 0} (k : Named X) (l : Named Y) (name : ℕ) (x : X) (y : Y) → items_of (k.entries name x ++ l.entries 0 y) ++ [] ≡ k.items x ++ l.items y
-two k l name x y = alone (k.entries name x ++ l.entries 0 y) (k.items x ++ l.items y) (both_is (k.entries name x) (l.entries 0 y) (k.items x) (l.items y) (k.is name x) (l.is 0 y))
 
 each_is : {X : Type 0} (f : X → List Entry) (g : X → List Item) → ((x : X) → items_of (f x) ≡ g x) → (xs : List X) → items_of (flat_map f xs) ≡ flat_map g xs
 each_is f g is [] = refl
@@ -51,32 +38,13 @@ each_is f g is (x ∷ xs) = both_is (f x) (flat_map f xs) (g x) (flat_map g xs) 
 
 -- ---- requests
 
-record_is : (p : Part) → items_of (record_entries p) ≡ record_of p
-record_is (part.Create r) = create_ask.is 0 r
-record_is (part.Delete r) = delete_ask.is 0 r
-record_is (part.SetData r) = set_data_ask.is 0 r
-record_is (part.Check r) = check_ask.is 0 r
-
 part_is : (p : Part) → items_of (part_entries p) ≡ part_items p
-part_is p = ap (λ (z : List Item). marked (part_header (op_of_part p)) ++ z) (record_is p)
+part_is p = ap (λ (z : List Item). marked (part_header (op_of_part p)) ++ z) (part_formed p).2.is
 
 ask_is : (a : Ask) → items_of (ask_entries a) ++ ask_behind a ≡ body_items a
-ask_is (ask.Create r) = one create_ask 0 r
-ask_is (ask.Delete r) = one delete_ask 0 r
-ask_is (ask.Exists r) = one watch_ask 0 r
-ask_is (ask.GetData r) = one watch_ask 0 r
-ask_is (ask.SetData r) = one set_data_ask 0 r
-ask_is (ask.GetAcl r) = one path_ask 0 r
-ask_is (ask.SetAcl r) = one set_acl_ask 0 r
-ask_is (ask.GetChildren r) = one watch_ask 0 r
-ask_is (ask.Sync r) = one path_ask 0 r
-ask_is ask.Ping = refl
-ask_is (ask.GetChildren2 r) = one watch_ask 0 r
-ask_is (ask.Multi ps) = ap (λ (items : List Item). items ++ marked end_header) (each_is part_entries part_items part_is ps)
-ask_is (ask.Create2 r) = one create_ask 0 r
-ask_is (ask.Auth r) = one auth_ask 0 r
-ask_is (ask.SetWatches r) = one set_watches_ask 0 r
-ask_is ask.CloseSession = refl
+ask_is =
+    of_ask (λ c es behind items. items_of es ++ behind ≡ items) (λ s es items f. alone es items f.is)
+    (λ ps. ap (λ (items : List Item). items ++ marked end_header) (each_is part_entries part_items part_is ps))
 
 flag_is : (flag : Option Bool) → items_of (flag_entries flag) ≡ flag_items flag
 flag_is None = refl
@@ -91,37 +59,15 @@ client_is (client.Ask xid a) = ap (λ (items : List Item). (client_framed (clien
 
 -- ---- replies
 
-result_is : (d : PartDone) → items_of (result_entries d) ≡ result_of d
-result_is (done.Created p) = a_text.is the_path p
-result_is done.Deleted = refl
-result_is (done.DataSet s) = stat.is 0 s
-result_is done.Checked = refl
-result_is (done.PartFailed e) = refl
-
 done_is : (d : PartDone) → items_of (done_entries d) ≡ done_items d
-done_is (done.Created p) = ap (λ (z : List Item). marked (mark_before (done.Created p)) ++ z) (result_is (done.Created p))
-done_is done.Deleted = refl
-done_is (done.DataSet s) = ap (λ (z : List Item). marked (mark_before (done.DataSet s)) ++ z) (result_is (done.DataSet s))
-done_is done.Checked = refl
-done_is (done.PartFailed e) = refl
+done_is (done.Created p) = ap (λ (z : List Item). marked (mark_before (done.Created p)) ++ z) (done_formed (done.Created p)).2.is
+done_is (done.DataSet s) = ap (λ (z : List Item). marked (mark_before (done.DataSet s)) ++ z) (done_formed (done.DataSet s)).2.is
+done_is _ = refl
 
 answer_is : (b : Body) → items_of (body_entries b) ++ body_behind b ≡ answered.body_items b
-answer_is (body.Create p) = one a_text the_path p
-answer_is body.Delete = refl
-answer_is (body.Exists s) = one stat 0 s
-answer_is (body.GetData b s) = two a_blob stat the_data b s
-answer_is (body.SetData s) = one stat 0 s
-answer_is (body.GetAcl a s) = two rights stat the_acl a s
-answer_is (body.SetAcl s) = one stat 0 s
-answer_is (body.GetChildren n) = one texts the_children n
-answer_is (body.Sync p) = one a_text the_path p
-answer_is body.Ping = refl
-answer_is (body.GetChildren2 n s) = two texts stat the_children n s
-answer_is (body.Multi ds) = ap (λ (items : List Item). items ++ marked end_header) (each_is done_entries done_items done_is ds)
-answer_is (body.Create2 p s) = two a_text stat the_path p s
-answer_is body.Auth = refl
-answer_is body.SetWatches = refl
-answer_is body.CloseSession = refl
+answer_is =
+    of_body (λ c es behind items. items_of es ++ behind ≡ items) (λ s es items f. alone es items f.is)
+    (λ ds. ap (λ (items : List Item). items ++ marked end_header) (each_is done_entries done_items done_is ds))
 
 rest_is : (o : Outcome) → items_of (rest_entries o) ++ rest_behind o ≡ answers.rest_items o
 rest_is (outcome.Done b) = answer_is b
@@ -130,7 +76,7 @@ rest_is (outcome.Failed op e) = refl
 pub server_is : (s : ServerFrame) → framed_items (server_framed s) ≡ answers.frame_items s
 server_is (server.Connected hello flag) = flagged connect_response hello flag
 server_is (server.Answered r) = ap (λ (items : List Item). (server_framed (server.Answered r)).front ++ items) (rest_is r.outcome)
-server_is (server.Event zxid e) = ap (λ (items : List Item). (server_framed (server.Event zxid e)).front ++ items) (one watcher_event 0 e)
+server_is (server.Event zxid e) = ap (λ (items : List Item). (server_framed (server.Event zxid e)).front ++ items) (alone (watcher_event.entries 0 e) (watcher_event.items e) (watcher_event.is 0 e))
 
 -- ---- their bytes
 

@@ -5,26 +5,26 @@ use Rattle.std.proofs.lemmas.List.{append-nil}
 use Rattle.zk_jute.specs.Item.{Kind, Item, AnInt, ACount, HaveBytes, HasBytes, bytes_of, item_bytes}
 use Rattle.zk_jute.specs.Layout.{One, End}
 use Rattle.zk_jute.specs.Reading.{Read, int_at, bool_at, size_at, items_at, ◌>>=◌}
-use Rattle.zk_jute.proofs.Steps.{IsBytes, Stands, Stands-none, Stands-then, bind_ok}
+use Rattle.zk_jute.proofs.Steps.{IsBytes, BytesAt, BytesAt-none, BytesAt-then, bind_ok}
 use Rattle.zk_jute.proofs.Runs.{int_found, size_found}
 use Rattle.zk_jute.proofs.Primitives.{bool_found}
 use Rattle.zk_jute.proofs.Layouts.{have_both, bytes_both, items_found}
 use Rattle.zk_records.specs.declared.header.MultiHeader.{MultiHeader}
 use Rattle.zk_records.specs.Records.{multi_header}
-use Rattle.zk_fields.specs.declared.opened.Mark.{Mark}
+use Rattle.zk_fields.specs.declared.opened.Headed.{Headed}
 use Rattle.zk_fields.specs.Fields.{Entry, Under, Head, entry_items, items_of}
 use Rattle.zk_fields.specs.Named.{Shape, Nothing, An, Both, Many, named_same, items_both}
-use Rattle.zk_fields.specs.Walks.{Met, none_met, item_met, met_then, behind, times_met, count_met, list_met, walk, header_at, mark_shape, under, headed, head_met, Content, Fields, Heads, content_met}
+use Rattle.zk_fields.specs.Walks.{Met, none_met, item_met, met_then, behind, times_met, count_met, list_met, walk, header_at, headed_shape, under, headed, head_met, Content, Fields, Heads, content_met}
 
 -- the entries' bytes stand there, up to this place, which is where the walk ends
 pub record Stood (src : List ℕ) (place : ℕ) (m : Met) : Type 0 where
   pub stop : ℕ
   pub have : HaveBytes (items_of m.entries)
-  pub stands : Stands (bytes_of (items_of m.entries)) src place stop
+  pub stands : BytesAt (bytes_of (items_of m.entries)) src place stop
   pub ends : (p : ℕ) → m.end ≡ Some p → p ≡ stop
 
 stood_nothing : (src : List ℕ) (place : ℕ) (end : Option ℕ) → place ≤ length src → ((p : ℕ) → end ≡ Some p → p ≡ place) → Stood src place (record { entries = []; end = end })
-stood_nothing src place end le at = record { stop = place; have = tt; stands = Stands-none src place le; ends = at }
+stood_nothing src place end le at = record { stop = place; have = tt; stands = BytesAt-none src place le; ends = at }
 
 stood_none : (src : List ℕ) (place : ℕ) → place ≤ length src → Stood src place none_met
 stood_none src place le = stood_nothing src place None le (λ p e. absurd (cc))
@@ -32,15 +32,15 @@ stood_none src place le = stood_nothing src place None le (λ p e. absurd (cc))
 stood_end : (src : List ℕ) (place : ℕ) → place ≤ length src → Stood src place (record { entries = []; end = Some place })
 stood_end src place le = stood_nothing src place (Some place) le (λ p e. cc)
 
-stood_behind : (src : List ℕ) (place stop : ℕ) (es : List Entry) (m : Met) → HaveBytes (items_of es) → Stands (bytes_of (items_of es)) src place stop → Stood src stop m → Stood src place (record { entries = es ++ m.entries; end = m.end })
+stood_behind : (src : List ℕ) (place stop : ℕ) (es : List Entry) (m : Met) → HaveBytes (items_of es) → BytesAt (bytes_of (items_of es)) src place stop → Stood src stop m → Stood src place (record { entries = es ++ m.entries; end = m.end })
 stood_behind src place stop es m have stands s = record {
   stop = s.stop;
   have = subst HaveBytes (sym (items_both es m.entries)) (have_both (items_of es) (items_of m.entries) have s.have);
-  stands = subst (λ (bytes : List ℕ). Stands bytes src place s.stop) (sym (ap bytes_of (items_both es m.entries) ∙ bytes_both (items_of es) (items_of m.entries))) (Stands-then stands s.stands);
+  stands = subst (λ (bytes : List ℕ). BytesAt bytes src place s.stop) (sym (ap bytes_of (items_both es m.entries) ∙ bytes_both (items_of es) (items_of m.entries))) (BytesAt-then stands s.stands);
   ends = s.ends;
 }
 
-behind_stood : (src : List ℕ) (place stop : ℕ) (es : List Entry) (end : Option ℕ) (f : ℕ → Met) → HaveBytes (items_of es) → Stands (bytes_of (items_of es)) src place stop → ((p : ℕ) → end ≡ Some p → p ≡ stop) → Stood src stop (f stop)
+behind_stood : (src : List ℕ) (place stop : ℕ) (es : List Entry) (end : Option ℕ) (f : ℕ → Met) → HaveBytes (items_of es) → BytesAt (bytes_of (items_of es)) src place stop → ((p : ℕ) → end ≡ Some p → p ≡ stop) → Stood src stop (f stop)
     → Stood src place (behind es end f)
 behind_stood src place stop es None f have stands ends s = record { stop = stop; have = have; stands = stands; ends = λ p e. absurd (cc) }
 behind_stood src place stop es (Some p) f have stands ends s = rw (ends p refl) (stood_behind src place stop es (f stop) have stands s)
@@ -59,17 +59,17 @@ item_stood name kind src place (Ok x) fits le e =
     record {
       stop = x.1;
       have = subst HaveBytes (sym (named_same name x.0)) found.have;
-      stands = subst (λ (items : List Item). Stands (bytes_of items) src place x.1) (sym (named_same name x.0)) found.stands;
+      stands = subst (λ (items : List Item). BytesAt (bytes_of items) src place x.1) (sym (named_same name x.0)) found.stands;
       ends = λ p e. cc;
     }
 
 -- one item's bytes, alone
-alone : (e : Entry) (i : Item) (src : List ℕ) (place stop : ℕ) → entry_items e ≡ i ∷ [] → HasBytes i → Stands (item_bytes i) src place stop → HaveBytes (items_of (e ∷ [])) × Stands (bytes_of (items_of (e ∷ []))) src place stop
+alone : (e : Entry) (i : Item) (src : List ℕ) (place stop : ℕ) → entry_items e ≡ i ∷ [] → HasBytes i → BytesAt (item_bytes i) src place stop → HaveBytes (items_of (e ∷ [])) × BytesAt (bytes_of (items_of (e ∷ []))) src place stop
 alone e i src place stop is has stands =
     let items : items_of (e ∷ []) ≡ i ∷ [] = append-nil (entry_items e) ∙ is in
-    (subst HaveBytes (sym items) (has, tt), subst (λ (z : List Item). Stands (bytes_of z) src place stop) (sym items) (rw append-nil stands))
+    (subst HaveBytes (sym items) (has, tt), subst (λ (z : List Item). BytesAt (bytes_of z) src place stop) (sym items) (rw append-nil stands))
 
-count_stood : (name : ℕ) (src : List ℕ) (place : ℕ) (f : ℕ → Met) (x : Option ℕ × ℕ) → HasBytes (ACount x.0) → Stands (item_bytes (ACount x.0)) src place x.1 → ((p : ℕ) → p ≤ length src → Stood src p (f p)) → Stood src place (count_met name f x)
+count_stood : (name : ℕ) (src : List ℕ) (place : ℕ) (f : ℕ → Met) (x : Option ℕ × ℕ) → HasBytes (ACount x.0) → BytesAt (item_bytes (ACount x.0)) src place x.1 → ((p : ℕ) → p ≤ length src → Stood src p (f p)) → Stood src place (count_met name f x)
 count_stood name src place f (None, after) has stands each =
     let one = alone (Under name (ACount None)) (ACount None) src place after refl has stands in
     record { stop = after; have = one.0; stands = one.1; ends = λ p e. cc }
@@ -91,7 +91,7 @@ walk_stood (Many name s) src place fits le = list_stood name src place (walk s s
 
 -- ---- the parts and the results of a multi
 
-head_found : (src : List ℕ) (place : ℕ) (x : MultiHeader × ℕ) → IsBytes src → place ≤ length src → header_at src place ≡ Ok x → HaveBytes (multi_header.items x.0) × Stands (bytes_of (multi_header.items x.0)) src place x.1
+head_found : (src : List ℕ) (place : ℕ) (x : MultiHeader × ℕ) → IsBytes src → place ≤ length src → header_at src place ≡ Ok x → HaveBytes (multi_header.items x.0) × BytesAt (bytes_of (multi_header.items x.0)) src place x.1
 head_found src place x fits le e =
     let a = bind_ok (int_at src place) (λ (kind : ℤ × ℕ). bool_at src kind.1 >>= λ (done : Bool × ℕ). int_at src done.1 >>= λ (err : ℤ × ℕ). Ok (record { kind = kind.0; done = done.0; err = err.0 }, err.1)) x e in
     let b = bind_ok (bool_at src a.0.1) (λ (done : Bool × ℕ). int_at src done.1 >>= λ (err : ℤ × ℕ). Ok (record { kind = a.0.0; done = done.0; err = err.0 }, err.1)) x a.2 in
@@ -99,19 +99,19 @@ head_found src place x fits le e =
     let kind = (int_found src place a.0 fits le a.1).0 in
     let flag = bool_found src a.0.1 b.0 kind.stands.within b.1 in
     let err = (int_found src b.0.1 d.0 fits flag.stands.within d.1).0 in
-    let last : Stands (bytes_of (AnInt d.0.0 ∷ [])) src b.0.1 d.0.1 = rw append-nil err.stands in
+    let last : BytesAt (bytes_of (AnInt d.0.0 ∷ [])) src b.0.1 d.0.1 = rw append-nil err.stands in
     let made : MultiHeader × ℕ = (record { kind = a.0.0; done = b.0.0; err = d.0.0 }, d.0.1) in
     let same : made ≡ x = let f = d.2 in cc in
-    subst (λ (y : MultiHeader × ℕ). HaveBytes (multi_header.items y.0) × Stands (bytes_of (multi_header.items y.0)) src place y.1) {x = made} same
-    ((kind.has_bytes, (tt, (err.has_bytes, tt))), Stands-then kind.stands (Stands-then flag.stands last))
+    subst (λ (y : MultiHeader × ℕ). HaveBytes (multi_header.items y.0) × BytesAt (bytes_of (multi_header.items y.0)) src place y.1) {x = made} same
+    ((kind.has_bytes, (tt, (err.has_bytes, tt))), BytesAt-then kind.stands (BytesAt-then flag.stands last))
 
-under_stood : (h : MultiHeader) (m : Option Mark) (src : List ℕ) (place after : ℕ) → IsBytes src → place ≤ length src → HaveBytes (multi_header.items h) → Stands (bytes_of (multi_header.items h)) src place after → Stood src place (under h m src after)
+under_stood : (h : MultiHeader) (m : Option Headed) (src : List ℕ) (place after : ℕ) → IsBytes src → place ≤ length src → HaveBytes (multi_header.items h) → BytesAt (bytes_of (multi_header.items h)) src place after → Stood src place (under h m src after)
 under_stood h None src place after fits le have stands = stood_none src place le
 under_stood h (Some m) src place after fits le have stands =
     let items : items_of (Head h ∷ []) ≡ multi_header.items h = append-nil (multi_header.items h) in
-    stood_behind src place after (Head h ∷ []) (walk (mark_shape m) src after) (subst HaveBytes (sym items) have) (subst (λ (z : List Item). Stands (bytes_of z) src place after) (sym items) stands) (walk_stood (mark_shape m) src after fits stands.within)
+    stood_behind src place after (Head h ∷ []) (walk (headed_shape m) src after) (subst HaveBytes (sym items) have) (subst (λ (z : List Item). BytesAt (bytes_of z) src place after) (sym items) stands) (walk_stood (headed_shape m) src after fits stands.within)
 
-headed_stood : (f : MultiHeader → Option Mark) (src : List ℕ) (place : ℕ) (read : Read MultiHeader) → IsBytes src → place ≤ length src → header_at src place ≡ read → Stood src place (headed f src read)
+headed_stood : (f : MultiHeader → Option Headed) (src : List ℕ) (place : ℕ) (read : Read MultiHeader) → IsBytes src → place ≤ length src → header_at src place ≡ read → Stood src place (headed f src read)
 headed_stood f src place (Err e) fits le is = stood_none src place le
 headed_stood f src place (Ok x) fits le is =
     let head = head_found src place x fits le is in

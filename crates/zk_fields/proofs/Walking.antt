@@ -8,10 +8,10 @@ use Rattle.zk_records.specs.declared.header.MultiHeader.{MultiHeader}
 use Rattle.zk_fields.specs.declared.field.Field.{Field}
 use Rattle.zk_fields.specs.declared.field.At.{At}
 use Rattle.zk_fields.specs.declared.walk.Walked.{Walked}
-use Rattle.zk_fields.specs.declared.opened.Mark.{Mark}
+use Rattle.zk_fields.specs.declared.opened.Headed.{Headed}
 use Rattle.zk_fields.specs.Fields.{Entry, Under, Head, named}
 use Rattle.zk_fields.specs.Room.{Takes}
-use Rattle.zk_fields.specs.Walks.{Met, none_met, item_met, met_then, times_met, list_met, walk, mark_shape, under, headed, Walks}
+use Rattle.zk_fields.specs.Walks.{Met, none_met, item_met, met_then, times_met, list_met, walk, headed_shape, under, headed, Walks}
 use Rattle.zk_fields.proofs.Rooms.{takes_nothing, takes_both}
 
 abbrev stopped : At → Walked
@@ -69,18 +69,18 @@ list_full name f at mid room half new read n after next e takes w = rw e (walks_
 
 -- ---- the parts and the results of a multi
 
-pub none_under : (at : At) (room : List Field) (h : MultiHeader) (m : Option Mark) (src : List ℕ) (place : ℕ) → m ≡ None → Walks at room (under h m src place) (stopped at) room
+pub none_under : (at : At) (room : List Field) (h : MultiHeader) (m : Option Headed) (src : List ℕ) (place : ℕ) → m ≡ None → Walks at room (under h m src place) (stopped at) room
 none_under at room h m src place e = rw e (walks_none at room)
 
-pub walks_under : (at mid : At) (room half new : List Field) (h : MultiHeader) (m : Option Mark) (mark : Mark) (src : List ℕ) (place : ℕ) (next : Walked) → m ≡ Some mark → Takes at room (Head h ∷ []) mid half
-    → Walks mid half (walk (mark_shape mark) src place) next new → Walks at room (under h m src place) next new
-walks_under at mid room half new h m mark src place next e takes w = rw e (walks_on at mid room half new (Head h ∷ []) (walk (mark_shape mark) src place) next takes w)
+pub walks_under : (at mid : At) (room half new : List Field) (h : MultiHeader) (m : Option Headed) (mark : Headed) (src : List ℕ) (place : ℕ) (next : Walked) → m ≡ Some mark → Takes at room (Head h ∷ []) mid half
+    → Walks mid half (walk (headed_shape mark) src place) next new → Walks at room (under h m src place) next new
+walks_under at mid room half new h m mark src place next e takes w = rw e (walks_on at mid room half new (Head h ∷ []) (walk (headed_shape mark) src place) next takes w)
 
-pub head_fails : (f : MultiHeader → Option Mark) (src : List ℕ) (at : At) (room : List Field) (e : ItemFault) (read : Read MultiHeader) → told read ≡ Err e → Walks at room (headed f src read) (stopped at) room
+pub head_fails : (f : MultiHeader → Option Headed) (src : List ℕ) (at : At) (room : List Field) (e : ItemFault) (read : Read MultiHeader) → told read ≡ Err e → Walks at room (headed f src read) (stopped at) room
 head_fails f src at room e (Ok x) fails = absurd (cc)
 head_fails f src at room e (Err g) fails = walks_none at room
 
-pub head_there : (f : MultiHeader → Option Mark) (src : List ℕ) (at : At) (room new : List Field) (read : Read MultiHeader) (h : MultiHeader) (place : ℕ) (m : Option Mark) (next : Walked) → read ≡ Ok (h, place) → m ≡ f h → Walks at room (under h m src place) next new
+pub head_there : (f : MultiHeader → Option Headed) (src : List ℕ) (at : At) (room new : List Field) (read : Read MultiHeader) (h : MultiHeader) (place : ℕ) (m : Option Headed) (next : Walked) → read ≡ Ok (h, place) → m ≡ f h → Walks at room (under h m src place) next new
     → Walks at room (headed f src read) next new
 head_there f src at room new read h place m next e is w = rw (e, ← is) w
 

@@ -18,8 +18,8 @@ use Rattle.zk_answers.specs.Frames.{op_of_reply}
 use Rattle.zk_fields.specs.declared.field.Field.{Field}
 use Rattle.zk_fields.specs.declared.field.At.{At}
 use Rattle.zk_fields.specs.declared.walk.Walked.{Walked}
-use Rattle.zk_fields.specs.declared.opened.Mark.{Mark}
-use Rattle.zk_fields.specs.declared.opened.Mark.TheVariants as mark
+use Rattle.zk_fields.specs.declared.opened.Headed.{Headed}
+use Rattle.zk_fields.specs.declared.opened.Headed.TheVariants as mark
 use Rattle.zk_fields.specs.declared.opened.Opened.{Opened}
 use Rattle.zk_fields.specs.declared.opened.Opened.TheVariants as opened
 use Rattle.zk_fields.specs.Names.{the_path, the_data, the_acl, the_children, the_read_only, the_err}
@@ -85,16 +85,16 @@ part_of (pos n) = part_with n
 part_of (negsuc n) = None
 
 -- what follows a header that isn't the end marker: in a request, and in a reply
-unfoldable pub part_mark : MultiHeader → Option Mark
-part_mark header = if header.done then None else option_map mark.Part (part_of header.kind)
+unfoldable pub headed_part : MultiHeader → Option Headed
+headed_part header = if header.done then None else option_map mark.Part (part_of header.kind)
 
-abbrev pub own_or_error : ℤ → Option Mark
+abbrev pub own_or_error : ℤ → Option Headed
 own_or_error (pos n) = option_map mark.Own (part_with n)
 own_or_error (negsuc zero) = Some mark.Error
 own_or_error (negsuc (suc n)) = None
 
-unfoldable pub result_mark : MultiHeader → Option Mark
-result_mark header = if header.done then None else own_or_error header.kind
+unfoldable pub headed_result : MultiHeader → Option Headed
+headed_result header = if header.done then None else own_or_error header.kind
 
 abbrev pub record_shape : PartOp → Shape
 record_shape parts.Create = create_ask.shape 0
@@ -102,23 +102,23 @@ record_shape parts.Delete = delete_ask.shape 0
 record_shape parts.SetData = set_data_ask.shape 0
 record_shape parts.Check = check_ask.shape 0
 
-abbrev pub mark_shape : Mark → Shape
-mark_shape (mark.Part op) = record_shape op
-mark_shape (mark.Own parts.Create) = An the_path Ustring
-mark_shape (mark.Own parts.Delete) = Nothing
-mark_shape (mark.Own parts.SetData) = stat.shape 0
-mark_shape (mark.Own parts.Check) = Nothing
-mark_shape mark.Error = An the_err Int
+abbrev pub headed_shape : Headed → Shape
+headed_shape (mark.Part op) = record_shape op
+headed_shape (mark.Own parts.Create) = An the_path Ustring
+headed_shape (mark.Own parts.Delete) = Nothing
+headed_shape (mark.Own parts.SetData) = stat.shape 0
+headed_shape (mark.Own parts.Check) = Nothing
+headed_shape mark.Error = An the_err Int
 
-abbrev pub under : MultiHeader → Option Mark → List ℕ → ℕ → Met
+abbrev pub under : MultiHeader → Option Headed → List ℕ → ℕ → Met
 under header None src place = none_met
-under header (Some m) src place = behind (Head header ∷ []) (Some place) (walk (mark_shape m) src)
+under header (Some m) src place = behind (Head header ∷ []) (Some place) (walk (headed_shape m) src)
 
-abbrev pub headed : (MultiHeader → Option Mark) → List ℕ → Read MultiHeader → Met
+abbrev pub headed : (MultiHeader → Option Headed) → List ℕ → Read MultiHeader → Met
 headed mark_of src (Ok x) = under x.0 (mark_of x.0) src x.1
 headed mark_of src (Err f) = none_met
 
-abbrev pub head_met : (MultiHeader → Option Mark) → List ℕ → ℕ → Met
+abbrev pub head_met : (MultiHeader → Option Headed) → List ℕ → ℕ → Met
 head_met mark_of src place = headed mark_of src (header_at src place)
 
 -- ---- whole payloads, by the kind of message that they are read as
@@ -126,7 +126,7 @@ head_met mark_of src place = headed mark_of src (header_at src place)
 -- fields, or as many parts or results as there are
 pub data Content : Type 0 where
   Fields : Shape → Content
-  Heads : (MultiHeader → Option Mark) → Content
+  Heads : (MultiHeader → Option Headed) → Content
 
 abbrev pub content_met : Content → List ℕ → ℕ → Met
 content_met (Fields s) src place = walk s src place
@@ -144,7 +144,7 @@ ask_content ops.GetChildren = Fields (watch_ask.shape 0)
 ask_content ops.Sync = Fields (path_ask.shape 0)
 ask_content ops.Ping = Fields Nothing
 ask_content ops.GetChildren2 = Fields (watch_ask.shape 0)
-ask_content ops.Multi = Heads part_mark
+ask_content ops.Multi = Heads headed_part
 ask_content ops.Create2 = Fields (create_ask.shape 0)
 ask_content ops.Auth = Fields (auth_ask.shape 0)
 ask_content ops.SetWatches = Fields (set_watches_ask.shape 0)
@@ -162,7 +162,7 @@ body_content ops.GetChildren = Fields (texts.shape the_children)
 body_content ops.Sync = Fields (An the_path Ustring)
 body_content ops.Ping = Fields Nothing
 body_content ops.GetChildren2 = Fields (Both (texts.shape the_children) (stat.shape 0))
-body_content ops.Multi = Heads result_mark
+body_content ops.Multi = Heads headed_result
 body_content ops.Create2 = Fields (Both (An the_path Ustring) (stat.shape 0))
 body_content ops.Auth = Fields Nothing
 body_content ops.SetWatches = Fields Nothing

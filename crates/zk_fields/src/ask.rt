@@ -7,10 +7,11 @@ ghost use Rattle.zk_fields.specs.Asks.{record_entries, part_entries, ask_entries
 ghost use Rattle.zk_fields.specs.Room.{Takes};
 
 use crate::field::{At, Field, put};
-use crate::list::{Left, show_all};
+use crate::kind::PART;
+use crate::list::show_all;
 use crate::name::NONE;
 use crate::show::Show;
-use zk_asks::{AskOf, AskRef, PartItems, PartList, PartOf, PartRef};
+use zk_asks::{AskOf, AskRef, PartList, PartOf, PartRef, ask_rows, part_rows};
 use zk_records::{MultiHeader, PartOp, part_number};
 
 /// Writes the field of the header that begins a part or a result.
@@ -23,7 +24,7 @@ pub(crate) fn show_head(header: &MultiHeader, room: &mut [Field], at: At) -> At
         length: 9,
         number: i64::from(header.kind),
         name: NONE,
-        kind: 7,
+        kind: PART,
         null: 0,
     };
     put(field, 9, room, at)
@@ -45,12 +46,14 @@ fn show_part(op: PartOp, room: &mut [Field], at: At) -> At
 fn show_record(part: &PartRef<'_>, room: &mut [Field], at: At) -> At
     ensures { Takes at room.old (record_entries part.now) result room.new }
 {
-    match part {
-        PartOf::Create(record) => record.show(NONE, room, at),
-        PartOf::Delete(record) => record.show(NONE, room, at),
-        PartOf::SetData(record) => record.show(NONE, room, at),
-        PartOf::Check(record) => record.show(NONE, room, at),
+    macro_rules! row {
+        ($part:ident: $($op:ident: $record:ident $borrowed:ident),+) => {
+            match $part {
+                $(PartOf::$op(record) => record.show(NONE, room, at),)+
+            }
+        };
     }
+    part_rows!(row, part)
 }
 
 impl<'a> Show for PartRef<'a> {
@@ -60,16 +63,6 @@ impl<'a> Show for PartRef<'a> {
     fn show(&self, _name: u16, room: &mut [Field], at: At) -> At {
         let at = show_part(self.op(), room, at);
         show_record(self, room, at)
-    }
-}
-
-impl<'a> Left for PartItems<'a> {
-    type One = PartRef<'a>;
-
-    ghost left = { λ parts. parts };
-
-    fn take(&mut self) -> Option<PartRef<'a>> {
-        self.next()
     }
 }
 
@@ -86,23 +79,15 @@ impl<'a> Show for AskRef<'a> {
 
     #[tactic(auto, using(crate::proofs::Rooms::takes_nothing))]
     fn show(&self, _name: u16, room: &mut [Field], at: At) -> At {
-        match self {
-            AskOf::Create(record) => record.show(NONE, room, at),
-            AskOf::Delete(record) => record.show(NONE, room, at),
-            AskOf::Exists(record) => record.show(NONE, room, at),
-            AskOf::GetData(record) => record.show(NONE, room, at),
-            AskOf::SetData(record) => record.show(NONE, room, at),
-            AskOf::GetAcl(record) => record.show(NONE, room, at),
-            AskOf::SetAcl(record) => record.show(NONE, room, at),
-            AskOf::GetChildren(record) => record.show(NONE, room, at),
-            AskOf::Sync(record) => record.show(NONE, room, at),
-            AskOf::Ping => at,
-            AskOf::GetChildren2(record) => record.show(NONE, room, at),
-            AskOf::Multi(parts) => parts.show(NONE, room, at),
-            AskOf::Create2(record) => record.show(NONE, room, at),
-            AskOf::Auth(record) => record.show(NONE, room, at),
-            AskOf::SetWatches(record) => record.show(NONE, room, at),
-            AskOf::CloseSession => at,
+        macro_rules! row {
+            ($ask:ident: $($($held:ident)|+: $record:ident $borrowed:ident),+; $($bare:ident)|+) => {
+                match $ask {
+                    $($(AskOf::$held(record) => record.show(NONE, room, at),)+)+
+                    $(AskOf::$bare => at,)+
+                    AskOf::Multi(parts) => parts.show(NONE, room, at),
+                }
+            };
         }
+        ask_rows!(row, self)
     }
 }

@@ -7,11 +7,11 @@ ghost use Rattle.zk_fields.specs.Answers.{result_entries, done_entries, body_ent
 
 use crate::ask::show_head;
 use crate::field::{At, Field};
-use crate::list::{Left, show_all};
+use crate::list::show_all;
 use crate::name::{ACL, CHILDREN, DATA, ERR, NONE, PATH};
 use crate::show::Show;
-use zk_answers::{BodyOf, BodyRef, DoneItems, DoneList, PartDoneOf, PartDoneRef};
-use zk_records::MultiHeader;
+use zk_answers::{BodyOf, BodyRef, DoneList, PartDoneOf, PartDoneRef, body_rows};
+use zk_records::{MultiHeader, PartOp, part_number};
 
 /// The header that begins a result.
 fn mark_before(done: &PartDoneRef<'_>) -> MultiHeader
@@ -19,22 +19,22 @@ fn mark_before(done: &PartDoneRef<'_>) -> MultiHeader
 {
     match done {
         PartDoneOf::Created(_) => MultiHeader {
-            kind: 1,
+            kind: part_number(PartOp::Create),
             done: false,
             err: 0,
         },
         PartDoneOf::Deleted => MultiHeader {
-            kind: 2,
+            kind: part_number(PartOp::Delete),
             done: false,
             err: 0,
         },
         PartDoneOf::DataSet(_) => MultiHeader {
-            kind: 5,
+            kind: part_number(PartOp::SetData),
             done: false,
             err: 0,
         },
         PartDoneOf::Checked => MultiHeader {
-            kind: 13,
+            kind: part_number(PartOp::Check),
             done: false,
             err: 0,
         },
@@ -70,16 +70,6 @@ impl<'a> Show for PartDoneRef<'a> {
     }
 }
 
-impl<'a> Left for DoneItems<'a> {
-    type One = PartDoneRef<'a>;
-
-    ghost left = { λ dones. dones };
-
-    fn take(&mut self) -> Option<PartDoneRef<'a>> {
-        self.next()
-    }
-}
-
 impl<'a> Show for DoneList<'a> {
     ghost entries = { λ _ ds. flat_map done_entries ds };
 
@@ -93,35 +83,20 @@ impl<'a> Show for BodyRef<'a> {
 
     #[tactic(auto, using(crate::proofs::Rooms::takes_nothing, crate::proofs::Rooms::takes_both))]
     fn show(&self, _name: u16, room: &mut [Field], at: At) -> At {
-        match self {
-            BodyOf::Create { path } => path.show(PATH, room, at),
-            BodyOf::Delete => at,
-            BodyOf::Exists { stat } => stat.show(NONE, room, at),
-            BodyOf::GetData { blob, stat } => {
-                let at = blob.show(DATA, room, at);
-                stat.show(NONE, room, at)
-            }
-            BodyOf::SetData { stat } => stat.show(NONE, room, at),
-            BodyOf::GetAcl { acl, stat } => {
-                let at = acl.show(ACL, room, at);
-                stat.show(NONE, room, at)
-            }
-            BodyOf::SetAcl { stat } => stat.show(NONE, room, at),
-            BodyOf::GetChildren { names } => names.show(CHILDREN, room, at),
-            BodyOf::Sync { path } => path.show(PATH, room, at),
-            BodyOf::Ping => at,
-            BodyOf::GetChildren2 { names, stat } => {
-                let at = names.show(CHILDREN, room, at);
-                stat.show(NONE, room, at)
-            }
-            BodyOf::Multi(dones) => dones.show(NONE, room, at),
-            BodyOf::Create2 { path, stat } => {
-                let at = path.show(PATH, room, at);
-                stat.show(NONE, room, at)
-            }
-            BodyOf::Auth => at,
-            BodyOf::SetWatches => at,
-            BodyOf::CloseSession => at,
+        macro_rules! row {
+            ($body:ident: $($($one:ident)|+: $only:ident $name:ident $kind:ident),+;
+             $($both:ident: $first:ident $jute:ident $shape:ident $pair:ident),+; $($bare:ident)|+) => {
+                match $body {
+                    $($(BodyOf::$one { $only } => $only.show($name, room, at),)+)+
+                    $(BodyOf::$both { $first, stat } => {
+                        let at = $first.show($jute, room, at);
+                        stat.show(NONE, room, at)
+                    })+
+                    $(BodyOf::$bare => at,)+
+                    BodyOf::Multi(dones) => dones.show(NONE, room, at),
+                }
+            };
         }
+        body_rows!(row, self)
     }
 }

@@ -14,7 +14,7 @@ pub struct Field {
     pub number: i64,
     /// The number of its name (`name.rt`).
     pub name: u16,
-    /// 1: int. 2: long. 3: boolean. 4: text. 5: blob. 6: list. 7: part.
+    /// What it is (`kind.rt`).
     pub kind: u8,
     /// 1 if it is null, else 0.
     pub null: u8,

@@ -40,6 +40,7 @@ mod ask;
 mod body;
 mod field;
 mod frame;
+mod kind;
 mod laws;
 mod list;
 mod name;

@@ -1,39 +1,20 @@
 //! The fields of lists: the count, and the fields of each element.
 ghost use Rattle.std.specs.Prelude.{◌≡◌, ◌<◌, ◌^◌, ◌∷◌, [], List, Some, None, pos};
 ghost use Rattle.std.specs.List.{flat_map};
-ghost use Rattle.std.specs.Iterator.{YieldsFirst};
 ghost use Rattle.zk_jute.specs.Item.{ACount};
 ghost use Rattle.zk_fields.specs.Fields.{Under};
 ghost use Rattle.zk_fields.specs.Named.{list_entries};
 ghost use Rattle.zk_fields.specs.Room.{Takes};
 
 use crate::field::{At, Field, put};
+use crate::kind::LIST;
 use crate::show::Show;
-use zk_jute::{Element, Elements, KnownPayload, Series, Stands};
-
-/// The rest of a borrowed list.
-pub(crate) trait Left: Drop {
-    type One: Show + Drop;
-
-    ghost left: { Self → List Self.One };
-
-    /// Takes the next element; `None` if none is left.
-    fn take(&mut self) -> Option<Self::One>
-        ensures { YieldsFirst left self.old result self.new };
-}
-
-impl<'a, R: Element + Stands<KnownPayload<'a>> + Show> Left for Elements<'a, R> {
-    type One = R;
-
-    ghost left = { λ items. items };
-
-    fn take(&mut self) -> Option<R> {
-        self.next()
-    }
-}
+use zk_jute::{Decode, Element, KnownPayload, Left, Series};
 
 /// Writes the fields of each of `items`, one after the other.
 pub(crate) fn show_all<I: Left>(items: I, name: u16, room: &mut [Field], at: At) -> At
+where
+    I::One: Show,
     ensures { Takes at room.old (flat_map (I.One.entries name) (I.left items)) result room.new }
 {
     let mut items = items;
@@ -61,7 +42,7 @@ pub(crate) fn show_count(name: u16, count: usize, room: &mut [Field], at: At) ->
         length: 4,
         number: count_number(count),
         name,
-        kind: 6,
+        kind: LIST,
         null: 0,
     };
     put(field, 4, room, at)
@@ -77,13 +58,13 @@ pub(crate) fn show_null(name: u16, room: &mut [Field], at: At) -> At
         length: 4,
         number: 0,
         name,
-        kind: 6,
+        kind: LIST,
         null: 1,
     };
     put(field, 4, room, at)
 }
 
-impl<'a, R: Element + Stands<KnownPayload<'a>> + Show> Show for Series<'a, R> {
+impl<'a, R: Element + Decode<KnownPayload<'a>> + Show> Show for Series<'a, R> {
     ghost entries = { list_entries R.entries };
 
     fn show(&self, name: u16, room: &mut [Field], at: At) -> At {

@@ -2,16 +2,19 @@
 ghost use Rattle.std.specs.Prelude.{◌≡◌, ◌≤◌, ◌<◌, ◌^◌, length, take, IfOk, IfSome};
 ghost use Rattle.zk_jute.specs.Reading.{Tells};
 ghost use Rattle.zk_fields.specs.Frames.{AreWritten};
-ghost use Rattle.zk_fields.specs.Walks.{Walks, walk, head_met, header_at, part_mark, result_mark, mark_shape, record_shape, under, content_met, ask_content, body_content, opened_content, opened_start, opened_fields};
+ghost use Rattle.zk_fields.specs.Walks.{Walks, walk, head_met, header_at, headed_part, headed_result, headed_shape, record_shape, under, content_met, ask_content, body_content, opened_content, opened_start, opened_fields};
 
 use crate::ask::show_head;
 use crate::field::{At, Field};
 use crate::frame::{REPLY, REQUEST};
 use crate::name::*;
 use crate::walk::{Column, Walk, Walked, walk_fields, walk_nothing, walk_times};
-use zk_jute::{BlobRef, ItemFault, TextList, TextRef, bool_at, int_at};
+use zk_answers::body_rows;
+use zk_asks::{ask_rows, part_rows};
+use zk_jute::{ItemFault, TextRef, bool_at, int_at};
 use zk_records::{
-    AclList, ConnectRequestRef, ConnectResponseRef, MultiHeader, Op, PartOp, Stat, part_of,
+    ConnectRequestRef, ConnectResponseRef, MultiHeader, Op, PartOp, Stat, borrowed, fields_of,
+    part_of,
 };
 
 /// The kind of message that a payload is read as.
@@ -53,70 +56,74 @@ fn walk_record<'a>(
     ensures walks { Walks at room.old (walk (record_shape op) payload.now place) result room.new }
     ensures within { IfSome result.end (λ end. end ≤ length payload.now) }
 {
-    match op {
-        PartOp::Create => {
-            walk_fields!(payload, place, room, at: PATH TextRef<'a>, DATA BlobRef<'a>, ACL AclList<'a>, FLAGS i32)
-        }
-        PartOp::Delete => walk_fields!(payload, place, room, at: PATH TextRef<'a>, VERSION i32),
-        PartOp::SetData => {
-            walk_fields!(payload, place, room, at: PATH TextRef<'a>, DATA BlobRef<'a>, VERSION i32)
-        }
-        PartOp::Check => walk_fields!(payload, place, room, at: PATH TextRef<'a>, VERSION i32),
+    macro_rules! row {
+        ($op:ident: $($part:ident: $record:ident $borrowed:ident),+) => {
+            match $op {
+                $(PartOp::$part => fields_of!($record, walk_fields, payload, place, room, at),)+
+            }
+        };
     }
+    part_rows!(row, op)
 }
 
 /// What follows a multi's header: a part, a part's own result, or an error.
 #[derive(Clone, Copy)]
-pub enum Mark {
+pub enum Headed {
     Part(PartOp),
     Own(PartOp),
     Error,
 }
 
 /// What follows `header` in a request; `None` for the end marker, and for a header of no part.
-#[tactic(auto, using(crate::proofs::Marks::part_end, crate::proofs::Marks::part_none, crate::proofs::Marks::part_some))]
-fn part_mark(header: &MultiHeader) -> Option<Mark>
-    ensures { result ≡ part_mark header.now }
+#[tactic(auto, using(crate::proofs::Heads::part_end, crate::proofs::Heads::part_none, crate::proofs::Heads::part_some))]
+fn headed_part(header: &MultiHeader) -> Option<Headed>
+    ensures { result ≡ headed_part header.now }
 {
     if header.done {
         return None;
     }
     match part_of(header.kind) {
-        Some(op) => Some(Mark::Part(op)),
+        Some(op) => Some(Headed::Part(op)),
         None => None,
     }
 }
 
 /// What follows `header` in a reply; `None` for the end marker, and for a header of no result.
-#[tactic(auto, using(crate::proofs::Marks::result_end, crate::proofs::Marks::result_error, crate::proofs::Marks::result_none, crate::proofs::Marks::result_some))]
-fn result_mark(header: &MultiHeader) -> Option<Mark>
-    ensures { result ≡ result_mark header.now }
+#[tactic(auto, using(crate::proofs::Heads::result_end, crate::proofs::Heads::result_error, crate::proofs::Heads::result_none, crate::proofs::Heads::result_some))]
+fn headed_result(header: &MultiHeader) -> Option<Headed>
+    ensures { result ≡ headed_result header.now }
 {
     if header.done {
         return None;
     }
     if header.kind == -1 {
-        return Some(Mark::Error);
+        return Some(Headed::Error);
     }
     match part_of(header.kind) {
-        Some(op) => Some(Mark::Own(op)),
+        Some(op) => Some(Headed::Own(op)),
         None => None,
     }
 }
 
 /// Writes the fields of what follows a header.
-fn walk_mark<'a>(mark: Mark, payload: &'a [u8], place: usize, room: &mut [Field], at: At) -> Walked
+fn walk_headed<'a>(
+    headed: Headed,
+    payload: &'a [u8],
+    place: usize,
+    room: &mut [Field],
+    at: At,
+) -> Walked
     requires { place ≤ length payload.now }
-    ensures walks { Walks at room.old (walk (mark_shape mark) payload.now place) result room.new }
+    ensures walks { Walks at room.old (walk (headed_shape headed) payload.now place) result room.new }
     ensures within { IfSome result.end (λ end. end ≤ length payload.now) }
 {
-    match mark {
-        Mark::Part(op) => walk_record(op, payload, place, room, at),
-        Mark::Own(PartOp::Create) => TextRef::walk(payload, place, PATH, room, at),
-        Mark::Own(PartOp::SetData) => Stat::walk(payload, place, NONE, room, at),
-        Mark::Own(PartOp::Delete) => walk_nothing(place, at),
-        Mark::Own(PartOp::Check) => walk_nothing(place, at),
-        Mark::Error => i32::walk(payload, place, ERR, room, at),
+    match headed {
+        Headed::Part(op) => walk_record(op, payload, place, room, at),
+        Headed::Own(PartOp::Create) => TextRef::walk(payload, place, PATH, room, at),
+        Headed::Own(PartOp::SetData) => Stat::walk(payload, place, NONE, room, at),
+        Headed::Own(PartOp::Delete) => walk_nothing(place, at),
+        Headed::Own(PartOp::Check) => walk_nothing(place, at),
+        Headed::Error => i32::walk(payload, place, ERR, room, at),
     }
 }
 
@@ -124,20 +131,20 @@ fn walk_mark<'a>(mark: Mark, payload: &'a [u8], place: usize, room: &mut [Field]
 #[tactic(auto, using(crate::proofs::Walking::none_under, crate::proofs::Walking::walks_under))]
 fn walk_under<'a>(
     header: &MultiHeader,
-    mark: Option<Mark>,
+    headed: Option<Headed>,
     payload: &'a [u8],
     place: usize,
     room: &mut [Field],
     at: At,
 ) -> Walked
     requires { place ≤ length payload.now }
-    ensures walks { Walks at room.old (under header.now mark payload.now place) result room.new }
+    ensures walks { Walks at room.old (under header.now headed payload.now place) result room.new }
     ensures within { IfSome result.end (λ end. end ≤ length payload.now) }
 {
-    match mark {
-        Some(mark) => {
+    match headed {
+        Some(headed) => {
             let at = show_head(header, room, at);
-            walk_mark(mark, payload, place, room, at)
+            walk_headed(headed, payload, place, room, at)
         }
         None => Walked { at, end: None },
     }
@@ -148,13 +155,13 @@ fn walk_under<'a>(
 struct AnyPart {}
 
 impl<'a> Walk<'a> for AnyPart {
-    ghost met = { λ _. head_met part_mark };
+    ghost met = { λ _. head_met headed_part };
 
     fn walk(payload: &'a [u8], place: usize, _name: u16, room: &mut [Field], at: At) -> Walked {
         match head_at(payload, place) {
             Ok((header, place)) => {
-                let mark = part_mark(&header);
-                walk_under(&header, mark, payload, place, room, at)
+                let headed = headed_part(&header);
+                walk_under(&header, headed, payload, place, room, at)
             }
             Err(_fault) => Walked { at, end: None },
         }
@@ -166,13 +173,13 @@ impl<'a> Walk<'a> for AnyPart {
 struct AnyResult {}
 
 impl<'a> Walk<'a> for AnyResult {
-    ghost met = { λ _. head_met result_mark };
+    ghost met = { λ _. head_met headed_result };
 
     fn walk(payload: &'a [u8], place: usize, _name: u16, room: &mut [Field], at: At) -> Walked {
         match head_at(payload, place) {
             Ok((header, place)) => {
-                let mark = result_mark(&header);
-                walk_under(&header, mark, payload, place, room, at)
+                let headed = headed_result(&header);
+                walk_under(&header, headed, payload, place, room, at)
             }
             Err(_fault) => Walked { at, end: None },
         }
@@ -184,26 +191,16 @@ fn walk_ask<'a>(op: Op, payload: &'a [u8], place: usize, room: &mut [Field], at:
     ensures walks { Walks at room.old (content_met (ask_content op) payload.now place) result room.new }
     ensures within { IfSome result.end (λ end. end ≤ length payload.now) }
 {
-    match op {
-        Op::Create | Op::Create2 => walk_record(PartOp::Create, payload, place, room, at),
-        Op::Delete => walk_record(PartOp::Delete, payload, place, room, at),
-        Op::SetData => walk_record(PartOp::SetData, payload, place, room, at),
-        Op::Exists | Op::GetData | Op::GetChildren | Op::GetChildren2 => {
-            walk_fields!(payload, place, room, at: PATH TextRef<'a>, WATCH bool)
-        }
-        Op::GetAcl | Op::Sync => walk_fields!(payload, place, room, at: PATH TextRef<'a>),
-        Op::SetAcl => {
-            walk_fields!(payload, place, room, at: PATH TextRef<'a>, ACL AclList<'a>, VERSION i32)
-        }
-        Op::Auth => {
-            walk_fields!(payload, place, room, at: TYPE i32, SCHEME TextRef<'a>, AUTH BlobRef<'a>)
-        }
-        Op::SetWatches => {
-            walk_fields!(payload, place, room, at: ZXID i64, DATA_WATCHES TextList<'a>, EXIST_WATCHES TextList<'a>, CHILD_WATCHES TextList<'a>)
-        }
-        Op::Ping | Op::CloseSession => walk_nothing(place, at),
-        Op::Multi => walk_times::<AnyPart>(payload, payload.len(), place, NONE, room, at),
+    macro_rules! row {
+        ($op:ident: $($($held:ident)|+: $record:ident $borrowed:ident),+; $($bare:ident)|+) => {
+            match $op {
+                $($(Op::$held)|+ => fields_of!($record, walk_fields, payload, place, room, at),)+
+                $(Op::$bare)|+ => walk_nothing(place, at),
+                Op::Multi => walk_times::<AnyPart>(payload, payload.len(), place, NONE, room, at),
+            }
+        };
     }
+    ask_rows!(row, op)
 }
 
 fn walk_body<'a>(op: Op, payload: &'a [u8], place: usize, room: &mut [Field], at: At) -> Walked
@@ -211,20 +208,20 @@ fn walk_body<'a>(op: Op, payload: &'a [u8], place: usize, room: &mut [Field], at
     ensures walks { Walks at room.old (content_met (body_content op) payload.now place) result room.new }
     ensures within { IfSome result.end (λ end. end ≤ length payload.now) }
 {
-    match op {
-        Op::Create | Op::Sync => TextRef::walk(payload, place, PATH, room, at),
-        Op::Exists | Op::SetData | Op::SetAcl => Stat::walk(payload, place, NONE, room, at),
-        Op::GetData => walk_fields!(payload, place, room, at: DATA BlobRef<'a>, NONE Stat),
-        Op::GetAcl => walk_fields!(payload, place, room, at: ACL AclList<'a>, NONE Stat),
-        Op::GetChildren => TextList::walk(payload, place, CHILDREN, room, at),
-        Op::GetChildren2 =>
-            walk_fields!(payload, place, room, at: CHILDREN TextList<'a>, NONE Stat),
-        Op::Create2 => walk_fields!(payload, place, room, at: PATH TextRef<'a>, NONE Stat),
-        Op::Delete | Op::Ping | Op::Auth | Op::SetWatches | Op::CloseSession => {
-            walk_nothing(place, at)
-        }
-        Op::Multi => walk_times::<AnyResult>(payload, payload.len(), place, NONE, room, at),
+    macro_rules! row {
+        ($op:ident: $($($one:ident)|+: $only:ident $name:ident $kind:ident),+;
+         $($both:ident: $first:ident $jute:ident $shape:ident $pair:ident),+; $($bare:ident)|+) => {
+            match $op {
+                $($(Op::$one)|+ => <borrowed!($kind)>::walk(payload, place, $name, room, at),)+
+                $(Op::$both => walk_fields!(
+                    payload, place, room, at: $first $jute $shape, stat NONE stat
+                ),)+
+                $(Op::$bare)|+ => walk_nothing(place, at),
+                Op::Multi => walk_times::<AnyResult>(payload, payload.len(), place, NONE, room, at),
+            }
+        };
     }
+    body_rows!(row, op)
 }
 
 fn walk_opened<'a>(
@@ -240,16 +237,16 @@ fn walk_opened<'a>(
 {
     match opened {
         Opened::First => {
-            walk_fields!(payload, place, room, at: NONE ConnectRequestRef<'a>, READ_ONLY bool)
+            <(ConnectRequestRef<'_>, Column<READ_ONLY, bool>)>::walk(payload, place, NONE, room, at)
         }
         Opened::Ask(op) => walk_ask(op, payload, place, room, at),
         Opened::Connected => {
-            walk_fields!(payload, place, room, at: NONE ConnectResponseRef<'a>, READ_ONLY bool)
+            <(ConnectResponseRef<'_>, Column<READ_ONLY, bool>)>::walk(
+                payload, place, NONE, room, at,
+            )
         }
         Opened::Reply(op) => walk_body(op, payload, place, room, at),
-        Opened::Event => {
-            walk_fields!(payload, place, room, at: TYPE i32, STATE i32, PATH TextRef<'a>)
-        }
+        Opened::Event => fields_of!(WatcherEvent, walk_fields, payload, place, room, at),
     }
 }
 

@@ -7,20 +7,22 @@ use crate::show::{Named, Show};
 use zk_records::{
     AclRef, AuthAskRef, CheckAskRef, ConnectRequestRef, ConnectResponseRef, CreateAskRef,
     DeleteAskRef, IdRef, PathAskRef, SetAclAskRef, SetDataAskRef, SetWatchesAskRef, Stat,
-    WatchAskRef, WatcherEventRef,
+    WatchAskRef, WatcherEventRef, fields_of,
 };
 
-/// `fields!(x: a NAME, b NAME)` is the fields of a record, each under its name, as nested pairs.
-macro_rules! fields {
-    ($record:ident: $field:ident $name:ident) => { Named { name: $name, value: &$record.$field } };
-    ($record:ident: $field:ident $name:ident, $($rest:tt)+) => { (Named { name: $name, value: &$record.$field }, fields!($record: $($rest)+)) };
+/// `fields_of!(R, named, record)` is the fields of the record, each under its name, as nested pairs.
+macro_rules! named {
+    ($record:ident: $field:ident $name:ident $kind:ident) => { Named { name: $name, value: &$record.$field } };
+    ($record:ident: $field:ident $name:ident $kind:ident, $($rest:tt)+) => {
+        (Named { name: $name, value: &$record.$field }, named!($record: $($rest)+))
+    };
 }
 
 impl<'a> Show for IdRef<'a> {
     ghost entries = { id.entries };
 
     fn show(&self, name: u16, room: &mut [Field], at: At) -> At {
-        fields!(self: scheme SCHEME, ident ID).show(name, room, at)
+        fields_of!(Id, named, self).show(name, room, at)
     }
 }
 
@@ -28,7 +30,7 @@ impl<'a> Show for AclRef<'a> {
     ghost entries = { acl.entries };
 
     fn show(&self, name: u16, room: &mut [Field], at: At) -> At {
-        fields!(self: perms PERMS, who NONE).show(name, room, at)
+        fields_of!(Acl, named, self).show(name, room, at)
     }
 }
 
@@ -36,9 +38,7 @@ impl Show for Stat {
     ghost entries = { stat.entries };
 
     fn show(&self, name: u16, room: &mut [Field], at: At) -> At {
-        fields!(self: czxid CZXID, mzxid MZXID, ctime CTIME, mtime MTIME, version VERSION, cversion CVERSION, aversion AVERSION, ephemeral_owner EPHEMERAL_OWNER, data_length DATA_LENGTH, num_children NUM_CHILDREN, pzxid PZXID).show(
-            name, room, at,
-        )
+        fields_of!(Stat, named, self).show(name, room, at)
     }
 }
 
@@ -46,9 +46,7 @@ impl<'a> Show for ConnectRequestRef<'a> {
     ghost entries = { connect_request.entries };
 
     fn show(&self, name: u16, room: &mut [Field], at: At) -> At {
-        fields!(self: protocol_version PROTOCOL_VERSION, last_zxid_seen LAST_ZXID_SEEN, time_out TIME_OUT, session_id SESSION_ID, passwd PASSWD).show(
-            name, room, at,
-        )
+        fields_of!(ConnectRequest, named, self).show(name, room, at)
     }
 }
 
@@ -56,9 +54,7 @@ impl<'a> Show for ConnectResponseRef<'a> {
     ghost entries = { connect_response.entries };
 
     fn show(&self, name: u16, room: &mut [Field], at: At) -> At {
-        fields!(self: protocol_version PROTOCOL_VERSION, time_out TIME_OUT, session_id SESSION_ID, passwd PASSWD).show(
-            name, room, at,
-        )
+        fields_of!(ConnectResponse, named, self).show(name, room, at)
     }
 }
 
@@ -66,7 +62,7 @@ impl<'a> Show for WatcherEventRef<'a> {
     ghost entries = { watcher_event.entries };
 
     fn show(&self, name: u16, room: &mut [Field], at: At) -> At {
-        fields!(self: kind TYPE, state STATE, path PATH).show(name, room, at)
+        fields_of!(WatcherEvent, named, self).show(name, room, at)
     }
 }
 
@@ -74,7 +70,7 @@ impl<'a> Show for CreateAskRef<'a> {
     ghost entries = { create_ask.entries };
 
     fn show(&self, name: u16, room: &mut [Field], at: At) -> At {
-        fields!(self: path PATH, blob DATA, acl ACL, flags FLAGS).show(name, room, at)
+        fields_of!(CreateAsk, named, self).show(name, room, at)
     }
 }
 
@@ -82,7 +78,7 @@ impl<'a> Show for DeleteAskRef<'a> {
     ghost entries = { delete_ask.entries };
 
     fn show(&self, name: u16, room: &mut [Field], at: At) -> At {
-        fields!(self: path PATH, version VERSION).show(name, room, at)
+        fields_of!(DeleteAsk, named, self).show(name, room, at)
     }
 }
 
@@ -90,7 +86,7 @@ impl<'a> Show for SetDataAskRef<'a> {
     ghost entries = { set_data_ask.entries };
 
     fn show(&self, name: u16, room: &mut [Field], at: At) -> At {
-        fields!(self: path PATH, blob DATA, version VERSION).show(name, room, at)
+        fields_of!(SetDataAsk, named, self).show(name, room, at)
     }
 }
 
@@ -98,7 +94,7 @@ impl<'a> Show for SetAclAskRef<'a> {
     ghost entries = { set_acl_ask.entries };
 
     fn show(&self, name: u16, room: &mut [Field], at: At) -> At {
-        fields!(self: path PATH, acl ACL, version VERSION).show(name, room, at)
+        fields_of!(SetAclAsk, named, self).show(name, room, at)
     }
 }
 
@@ -106,7 +102,7 @@ impl<'a> Show for CheckAskRef<'a> {
     ghost entries = { check_ask.entries };
 
     fn show(&self, name: u16, room: &mut [Field], at: At) -> At {
-        fields!(self: path PATH, version VERSION).show(name, room, at)
+        fields_of!(CheckAsk, named, self).show(name, room, at)
     }
 }
 
@@ -114,7 +110,7 @@ impl<'a> Show for WatchAskRef<'a> {
     ghost entries = { watch_ask.entries };
 
     fn show(&self, name: u16, room: &mut [Field], at: At) -> At {
-        fields!(self: path PATH, watch WATCH).show(name, room, at)
+        fields_of!(WatchAsk, named, self).show(name, room, at)
     }
 }
 
@@ -122,7 +118,7 @@ impl<'a> Show for PathAskRef<'a> {
     ghost entries = { path_ask.entries };
 
     fn show(&self, name: u16, room: &mut [Field], at: At) -> At {
-        fields!(self: path PATH).show(name, room, at)
+        fields_of!(PathAsk, named, self).show(name, room, at)
     }
 }
 
@@ -130,7 +126,7 @@ impl<'a> Show for AuthAskRef<'a> {
     ghost entries = { auth_ask.entries };
 
     fn show(&self, name: u16, room: &mut [Field], at: At) -> At {
-        fields!(self: kind TYPE, scheme SCHEME, auth AUTH).show(name, room, at)
+        fields_of!(AuthAsk, named, self).show(name, room, at)
     }
 }
 
@@ -138,8 +134,6 @@ impl<'a> Show for SetWatchesAskRef<'a> {
     ghost entries = { set_watches_ask.entries };
 
     fn show(&self, name: u16, room: &mut [Field], at: At) -> At {
-        fields!(self: zxid ZXID, data_watches DATA_WATCHES, exist_watches EXIST_WATCHES, child_watches CHILD_WATCHES).show(
-            name, room, at,
-        )
+        fields_of!(SetWatchesAsk, named, self).show(name, room, at)
     }
 }

@@ -5,6 +5,7 @@ ghost use Rattle.zk_fields.specs.Room.{Takes, Puts};
 ghost use Rattle.zk_jute.specs.Wired.{int, long, boolean, ustring, buffer};
 
 use crate::field::{At, Field, put, size_of};
+use crate::kind::{BLOB, BOOLEAN, INT, LONG, TEXT};
 use zk_jute::{BlobRef, TextRef};
 
 /// A value that has fields.
@@ -27,7 +28,7 @@ impl Show for i32 {
             length: 4,
             number: i64::from(*self),
             name,
-            kind: 1,
+            kind: INT,
             null: 0,
         };
         put(field, 4, room, at)
@@ -44,7 +45,7 @@ impl Show for i64 {
             length: 8,
             number: *self,
             name,
-            kind: 2,
+            kind: LONG,
             null: 0,
         };
         put(field, 8, room, at)
@@ -68,7 +69,7 @@ impl Show for bool {
             length: 1,
             number: bool_number(*self),
             name,
-            kind: 3,
+            kind: BOOLEAN,
             null: 0,
         };
         put(field, 1, room, at)
@@ -100,8 +101,8 @@ impl<'a> Show for TextRef<'a> {
     #[tactic(auto, using(crate::proofs::Rooms::takes_text))]
     fn show(&self, name: u16, room: &mut [Field], at: At) -> At {
         match self {
-            TextRef::Null => run_field(name, 4, None, room, at),
-            TextRef::Full(text) => run_field(name, 4, Some(text.as_str().as_bytes()), room, at),
+            TextRef::Null => run_field(name, TEXT, None, room, at),
+            TextRef::Full(text) => run_field(name, TEXT, Some(text.as_str().as_bytes()), room, at),
         }
     }
 }
@@ -112,8 +113,8 @@ impl<'a> Show for BlobRef<'a> {
     #[tactic(auto, using(crate::proofs::Rooms::takes_blob))]
     fn show(&self, name: u16, room: &mut [Field], at: At) -> At {
         match self {
-            BlobRef::Null => run_field(name, 5, None, room, at),
-            BlobRef::Full(bytes) => run_field(name, 5, Some(bytes.as_slice()), room, at),
+            BlobRef::Null => run_field(name, BLOB, None, room, at),
+            BlobRef::Full(bytes) => run_field(name, BLOB, Some(bytes.as_slice()), room, at),
         }
     }
 }

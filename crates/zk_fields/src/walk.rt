@@ -15,9 +15,9 @@ use crate::name::*;
 use crate::show::Show;
 use std::marker::PhantomData;
 use zk_jute::{
-    BlobRef, Element, Form, ItemFault, Payload, Reason, Series, Stands, TextRef, int_at,
+    BlobRef, Decode, Element, Form, ItemFault, Payload, Reason, Series, TextRef, int_at,
 };
-use zk_records::{AclRef, ConnectRequestRef, ConnectResponseRef, IdRef, Stat};
+use zk_records::{AclRef, ConnectRequestRef, ConnectResponseRef, IdRef, Stat, borrowed, fields_of};
 
 /// What the fields came to, and the place after them; `None` if the next item isn't whole there.
 #[derive(Clone, Copy)]
@@ -76,7 +76,7 @@ impl<'a> Item for BlobRef<'a> {
 }
 
 /// Writes the field of one item, if it is whole there.
-fn walk_item<'a, T: Item + Stands<Payload<'a>>>(
+fn walk_item<'a, T: Item + Decode<Payload<'a>>>(
     payload: &'a [u8],
     place: usize,
     name: u16,
@@ -163,10 +163,12 @@ impl<'a, A: Walk<'a>, B: Walk<'a>> Walk<'a> for (A, B) {
     }
 }
 
-/// `walk_fields!(payload, place, room, at: A X, B Y)` walks fields of these kinds, each under its name, in order.
+/// `fields_of!(R, walk_fields, payload, place, room, at)` walks the fields of the record, each under its name, in order.
 macro_rules! walk_fields {
-    (as $name:ident $kind:ty) => { Column<$name, $kind> };
-    (as $name:ident $kind:ty, $($rest:tt)+) => { (Column<$name, $kind>, walk_fields!(as $($rest)+)) };
+    (as $field:ident $name:ident $kind:ident) => { Column<$name, borrowed!($kind)> };
+    (as $field:ident $name:ident $kind:ident, $($rest:tt)+) => {
+        (Column<$name, borrowed!($kind)>, walk_fields!(as $($rest)+))
+    };
     ($payload:ident, $place:ident, $room:ident, $at:ident: $($columns:tt)+) => {
         <walk_fields!(as $($columns)+)>::walk($payload, $place, NONE, $room, $at)
     };
@@ -178,7 +180,7 @@ impl<'a> Walk<'a> for IdRef<'a> {
     ghost met = { λ name. walk (id.shape name) };
 
     fn walk(payload: &'a [u8], place: usize, _name: u16, room: &mut [Field], at: At) -> Walked {
-        walk_fields!(payload, place, room, at: SCHEME TextRef<'a>, ID TextRef<'a>)
+        fields_of!(Id, walk_fields, payload, place, room, at)
     }
 }
 
@@ -186,7 +188,7 @@ impl<'a> Walk<'a> for AclRef<'a> {
     ghost met = { λ name. walk (acl.shape name) };
 
     fn walk(payload: &'a [u8], place: usize, _name: u16, room: &mut [Field], at: At) -> Walked {
-        walk_fields!(payload, place, room, at: PERMS i32, NONE IdRef<'a>)
+        fields_of!(Acl, walk_fields, payload, place, room, at)
     }
 }
 
@@ -194,7 +196,7 @@ impl<'a> Walk<'a> for Stat {
     ghost met = { λ name. walk (stat.shape name) };
 
     fn walk(payload: &'a [u8], place: usize, _name: u16, room: &mut [Field], at: At) -> Walked {
-        walk_fields!(payload, place, room, at: CZXID i64, MZXID i64, CTIME i64, MTIME i64, VERSION i32, CVERSION i32, AVERSION i32, EPHEMERAL_OWNER i64, DATA_LENGTH i32, NUM_CHILDREN i32, PZXID i64)
+        fields_of!(Stat, walk_fields, payload, place, room, at)
     }
 }
 
@@ -202,7 +204,7 @@ impl<'a> Walk<'a> for ConnectRequestRef<'a> {
     ghost met = { λ name. walk (connect_request.shape name) };
 
     fn walk(payload: &'a [u8], place: usize, _name: u16, room: &mut [Field], at: At) -> Walked {
-        walk_fields!(payload, place, room, at: PROTOCOL_VERSION i32, LAST_ZXID_SEEN i64, TIME_OUT i32, SESSION_ID i64, PASSWD BlobRef<'a>)
+        fields_of!(ConnectRequest, walk_fields, payload, place, room, at)
     }
 }
 
@@ -210,7 +212,7 @@ impl<'a> Walk<'a> for ConnectResponseRef<'a> {
     ghost met = { λ name. walk (connect_response.shape name) };
 
     fn walk(payload: &'a [u8], place: usize, _name: u16, room: &mut [Field], at: At) -> Walked {
-        walk_fields!(payload, place, room, at: PROTOCOL_VERSION i32, TIME_OUT i32, SESSION_ID i64, PASSWD BlobRef<'a>)
+        fields_of!(ConnectResponse, walk_fields, payload, place, room, at)
     }
 }
 

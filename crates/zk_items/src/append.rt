@@ -7,7 +7,7 @@ use std::alloc::AllocError;
 /// Appends the first `count` bytes of `room`.
 // The whole room is copied, and what comes after them taken back: a copy of a length that isn't known beforehand is a call.
 #[inline(always)]
-pub fn append_front(out: &mut Vec<u8>, room: &[u8], count: usize) -> Result<(), AllocError>
+pub fn append_first(out: &mut Vec<u8>, room: &[u8], count: usize) -> Result<(), AllocError>
     requires { count ≤ length room.now }
     ensures appended { OnOk result (out.new.items ≡ out.old.items ++ take count room.now) }
     ensures keeps { Keeps out.old.items out.new.items }

@@ -5,7 +5,7 @@ ghost use Rattle.zk_items.specs.Form.{Keeps};
 ghost use Rattle.zk_items.specs.Leaf.{is_plain, symbol_spell};
 ghost use Rattle.zk_items.specs.Odd.{escape, is_odd};
 
-use crate::append::append_front;
+use crate::append::append_first;
 use crate::class::{Class, Odd};
 use crate::digits::pairs;
 use crate::symbol::is_odd;
@@ -88,9 +88,9 @@ pub fn put_escapes(out: &mut Vec<u8>, bytes: u8x16, count: usize) -> Result<(), 
     ensures keeps { Keeps out.old.items out.new.items }
 {
     if count <= 5 {
-        append_front(out, five_escapes(bytes).as_array(), 3 * count)
+        append_first(out, five_escapes(bytes).as_array(), 3 * count)
     } else {
-        append_front(out, &escapes(bytes), 3 * count)
+        append_first(out, &escapes(bytes), 3 * count)
     }
 }
 

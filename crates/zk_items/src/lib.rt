@@ -13,7 +13,7 @@
 //! ```text
 //! let mut line = Reader::new(rt.alloc(), b"7 \"/a\" #6f6b");
 //! line.int()?;        // 7
-//! line.front(b" ")?;
+//! line.literal(b" ")?;
 //! line.text()?;       // "/a"
 //! ```
 //!

@@ -6,7 +6,7 @@ ghost use Rattle.zk_items.specs.Leaf.{in_name, in_word, is_plain, num_at, bit_at
 ghost use Rattle.zk_items.specs.Codes.{is_next};
 ghost use Rattle.zk_items.specs.Many.{GivesMore, many_at};
 
-use crate::append::append_front;
+use crate::append::append_first;
 use crate::decimal::{int_ahead, long_ahead};
 use crate::escape::block_of;
 use crate::fault::{LineFault, LineReason};
@@ -111,7 +111,7 @@ impl<'a> Reader<'a> {
 
     /// Passes `word`, if it comes next; else returns the fault `Word`.
     #[inline(always)]
-    pub fn front(&mut self, word: &[u8]) -> Result<(), LineFault>
+    pub fn literal(&mut self, word: &[u8]) -> Result<(), LineFault>
         ensures read { Passes result self.new (word_at word.now self.old) }
         ensures none { IfErr result (λ e. (word_at word.now self.old ≡ None) × (self.new ≡ self.old)) }
     {
@@ -129,7 +129,7 @@ impl<'a> Reader<'a> {
     pub fn passes(&mut self, word: &[u8]) -> bool
         ensures { MatchBool result (word_at word.now self.old ≡ Some self.new) ((word_at word.now self.old ≡ None) × (self.new ≡ self.old)) }
     {
-        self.front(word).is_ok()
+        self.literal(word).is_ok()
     }
 
     /// Reads a bit: `0` or `1`.
@@ -299,7 +299,7 @@ impl<'a> Reader<'a> {
             if *first == b'\\' && self.ahead.len() >= RUN {
                 let (block, count) = self.escapes();
                 if count > 0 {
-                    append_front(bytes, block.as_array(), count)?;
+                    append_first(bytes, block.as_array(), count)?;
                     self.pass(3 * count);
                     continue;
                 }

@@ -6,7 +6,7 @@ ghost use Rattle.zk_jute.specs.declared.value.Nullable.TheVariants as nullable;
 ghost use Rattle.zk_items.specs.Form.{Keeps};
 ghost use Rattle.zk_items.specs.Leaf.{int, long, is_plain, text_fits, text_spell, blob_fits, blob_spell, symbol_spell, bit_spell, ro_spell};
 
-use crate::append::append_front;
+use crate::append::append_first;
 use crate::digits::put_digits;
 use crate::escape::{block_of, odd_len, put_escapes};
 use crate::plain::{are_plain, plain_len};
@@ -83,7 +83,7 @@ pub fn put_long(out: &mut Vec<u8>, n: i64) -> Result<(), AllocError>
 {
     let mut room = [0; 40];
     let start = decimal_before(&mut room, 20, n);
-    append_front(out, &room[start..start + 20], 20 - start)
+    append_first(out, &room[start..start + 20], 20 - start)
 }
 
 /// Appends a bit: `0` or `1`.

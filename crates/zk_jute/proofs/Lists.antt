@@ -62,18 +62,18 @@ one_read read x y m n a b = sym (ap items_read a) ∙ ap items_read b
 
 -- what is known of a list that stands somewhere, once its count is read
 module _ {X : Type 0} (w : Wired X) (src : List ℕ) (at : ℕ → Read X) (is : (place : ℕ) → items_at w.layout src place ≡ read_map w.items (at place)) (place : ℕ) (within : place ≤ length src) where
-  abbrev Stands : Vector X → ℕ → Type 0
-  Stands v end = HaveBytes (list_items w.items v) × StandsAt (list_items w.items v) src place end
+  abbrev ListAt : Vector X → ℕ → Type 0
+  ListAt v end = HaveBytes (list_items w.items v) × StandsAt (list_items w.items v) src place end
 
   abbrev read : Read (List Item)
   read = items_at (Each w.layout End) src place
 
-  read_again : (v : Vector X) (end : ℕ) → Stands v end → read ≡ Ok (list_items w.items v, end)
+  read_again : (v : Vector X) (end : ℕ) → ListAt v end → read ≡ Ok (list_items w.items v, end)
   read_again v end s =
       items_again (Each w.layout End) src (list_items w.items v) (drop end src) place (list_unfolds w.layout w.items w.unfolds v) s.0 within s.1.0
       ∙ ap (λ (n : ℕ). Ok (list_items w.items v, n)) (sym s.1.1)
 
-  module _ (n start : ℕ) (size : size_at src place ≡ Ok (Some n, start)) (v : Vector X) (end : ℕ) (s : Stands v end) where
+  module _ (n start : ℕ) (size : size_at src place ≡ Ok (Some n, start)) (v : Vector X) (end : ℕ) (s : ListAt v end) where
     times_end : end_of (times_at (items_at w.layout src) n start) ≡ Ok end
     times_end =
         sym (end_map (λ inside. ACount (Some n) ∷ inside) (times_at (items_at w.layout src) n start))

@@ -11,17 +11,17 @@ use Rattle.zk_jute.specs.declared.fault.Reason.TheVariants.{Short, BadLength}
 use Rattle.zk_jute.specs.Item.{Kind, Long, Ustring, Buffer, Count, ABuffer, ACount, HasBytes, int_bytes, long_bytes, run_bytes, item_bytes}
 use Rattle.zk_jute.specs.Faults.{width_of, first_int, IsBad, too_short, bad_length, no_content}
 use Rattle.zk_jute.specs.Reading.{Fault, Read, int_at, long_at, size_of, size_at, content_of, run_at}
-use Rattle.zk_jute.proofs.Steps.{IsBytes, all_bytes, IsBytes-drop, IsBytes-take, Stands, Stands-then, Stands-from, guard_ok, guard_err, bind_ok, bind_err}
+use Rattle.zk_jute.proofs.Steps.{IsBytes, all_bytes, IsBytes-drop, IsBytes-take, BytesAt, BytesAt-then, BytesAt-from, guard_ok, guard_err, bind_ok, bind_err}
 use Rattle.zk_jute.proofs.Numbers.{read32, read64, back32, back64, fits32, fits64, again32, again64, len32}
 
 -- ---- numbers
 
 -- what was read, and where it ended
 pub record IsRead (text src : List ℕ) (place end : ℕ) (fits : Type 0) : Type 0 where
-  pub stands : Stands text src place end
+  pub stands : BytesAt text src place end
   pub has_bytes : fits
 
-taken : (src : List ℕ) (place n : ℕ) → place ≤ length src → n ≤ length src - place → Stands (take n (drop place src)) src place (place + n)
+taken : (src : List ℕ) (place n : ℕ) → place ≤ length src → n ≤ length src - place → BytesAt (take n (drop place src)) src place (place + n)
 taken src place n le long =
     let len : length (take n (drop place src)) ≡ n = omega (arith, length-take n (drop place src), length-drop place src) in
     record {
@@ -145,7 +145,7 @@ refused_size k src place (negsuc (suc n)) after f sized first long e =
     let low : first_int (drop place src) <ℤ negsuc 0 = rw first (omega (arith, ints)) in
     subst (IsBadAt k src place) same (record { behind = 0; at = omega arith; bad = bad_length k (drop place src) sized long low })
 
-has_four : (src : List ℕ) (place : ℕ) (text : List ℕ) (end : ℕ) → length text ≡ 4 → Stands text src place end → 4 ≤ length (drop place src)
+has_four : (src : List ℕ) (place : ℕ) (text : List ℕ) (end : ℕ) → length text ≡ 4 → BytesAt text src place end → 4 ≤ length (drop place src)
 has_four src place text end four s = omega (arith, ap length s.parts, length-append text (drop end src))
 
 pub size_bad : (k : Kind) (src : List ℕ) (place : ℕ) (f : Fault) → IsSized k → width_of k ≡ 4 → IsBytes src → place ≤ length src → size_at src place ≡ Err f → IsBadAt k src place f
@@ -168,8 +168,8 @@ run_from src place (Some n) after y fits r e =
     let g = guard_ok (ltb (length src - after) n) (fault_of place Short) (Some text, after + n) y e in
     let long : n ≤ length src - after = ltb-false _ _ g.0 in
     let len : length text ≡ n = omega (arith, length-take n (drop after src), length-drop after src) in
-    let both = Stands-then r.stands (taken src after n r.stands.within long) in
-    let whole : Stands (run_bytes (Some text)) src place (after + n) = subst (λ (k : ℕ). Stands (int_bytes (pos k) ++ text) src place (after + n)) (sym len) both in
+    let both = BytesAt-then r.stands (taken src after n r.stands.within long) in
+    let whole : BytesAt (run_bytes (Some text)) src place (after + n) = subst (λ (k : ℕ). BytesAt (int_bytes (pos k) ++ text) src place (after + n)) (sym len) both in
     let small : n < 2 ^ 31 = r.has_bytes in
     let bytes = IsBytes-take n (drop after src) (IsBytes-drop after src fits) in
     subst (λ (y : Option (List ℕ) × ℕ). IsRead (run_bytes y.0) src place y.1 (HasBytes (ABuffer y.0))) g.1 (record { stands = whole; has_bytes = (all_bytes text bytes, omega arith) })
@@ -187,7 +187,7 @@ pub run_again : (o : Option (List ℕ)) (src rest : List ℕ) (place : ℕ) → 
 run_again None src rest place le small e = rw (size_again None src rest place tt e) refl
 run_again (Some text) src rest place le small e =
     let split : drop place src ≡ int_bytes (pos (length text)) ++ (text ++ rest) = e ∙ append_assoc (int_bytes (pos (length text))) text rest in
-    let s = Stands-from (int_bytes (pos (length text))) (text ++ rest) src place le split in
+    let s = BytesAt-from (int_bytes (pos (length text))) (text ++ rest) src place le split in
     let after : drop (place + 4) src ≡ text ++ rest = s.1 in
     let long : length src - (place + 4) ≡ length text + length rest = sym (length-drop (place + 4) src) ∙ ap length after ∙ length-append text rest in
     let test : ltb (length src - (place + 4)) (length text) ≡ false = le-ltb _ _ (omega arith) in

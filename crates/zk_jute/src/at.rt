@@ -7,15 +7,15 @@ ghost use Rattle.zk_jute.specs.Told.{StandsAt, HasSureFault};
 ghost use Rattle.zk_jute.specs.Standing.{OneStands};
 ghost use Rattle.zk_jute.specs.Values.{text_items, blob_items, list_items};
 
+use crate::decode::Decode;
 use crate::fault::ItemFault;
 use crate::origin::{KnownPayload, Payload};
 use crate::series::TextList;
-use crate::stands::Stands;
 use crate::value::{BlobRef, TextRef};
 
 /// The place after the value at `place` of `src`; else the first fault from the left, its place counted from the
 /// beginning of `src`. Decides as `Wire::read` does, and allocates nothing: `T` is a borrowed type.
-pub fn scan<'a, T: Stands<Payload<'a>>>(src: &'a [u8], place: usize) -> Result<usize, ItemFault>
+pub fn scan<'a, T: Decode<Payload<'a>>>(src: &'a [u8], place: usize) -> Result<usize, ItemFault>
     requires { place ≤ length src.now }
     ensures found { IfOk result (λ end. (x : T) × HaveBytes (T.wired.items x) × StandsAt (T.wired.items x) src.now place end) }
     ensures fault { IfErr result (HasSureFault (IsValueOf T.wired.layout) src.now place) }
@@ -26,7 +26,7 @@ pub fn scan<'a, T: Stands<Payload<'a>>>(src: &'a [u8], place: usize) -> Result<u
 }
 
 /// The value that is known to be at `place` of `src`, and the place after it. It isn't judged again.
-pub fn known_at<'a, T: Stands<KnownPayload<'a>>>(src: &'a [u8], place: usize) -> (T, usize)
+pub fn known_at<'a, T: Decode<KnownPayload<'a>>>(src: &'a [u8], place: usize) -> (T, usize)
     requires place { place ≤ length src.now }
     requires stands { OneStands T.wired.items src.now place }
     ensures { (v : T) (end : ℕ) → HaveBytes (T.wired.items v) → StandsAt (T.wired.items v) src.now place end → result ≡ (v, end) }

@@ -5,10 +5,10 @@ ghost use Rattle.zk_jute.specs.Shown.{Stretch};
 ghost use Rattle.zk_jute.specs.Values.{text_items, blob_items, list_items};
 ghost use Rattle.zk_jute.specs.Ends.{EndsAt, IsUtf8Between, TextsIfUtf8, IsRunOfLowSize};
 
+use crate::decode::{Form, end_of};
 use crate::number::int_at;
 use crate::run::{run_at, size_at};
 use crate::series::{Element, Series};
-use crate::stands::{Form, end_of};
 use crate::utf8::is_long_text;
 use crate::value::{BlobRef, TextRef};
 

@@ -5,7 +5,7 @@
 //! fix the bytes of each item.
 //!
 //! - `Wire::read` reads an owned value, and `read_ref` one that borrows its texts, blobs and lists from the payload.
-//!   Both run the same code, `Stands::decode`, over an `Origin`: `Kept` (copies), `Payload` (borrows) or `KnownPayload`
+//!   Both run the same code, `Decode::decode`, over an `Origin`: `Kept` (copies), `Payload` (borrows) or `KnownPayload`
 //!   (borrows from what is already judged, without judging it again).
 //! - `Ends::end_at` finds where a value ends in a payload, and makes no value.
 //! - `Spell::write` writes a value; `Spell::size_within` counts its bytes.
@@ -23,14 +23,14 @@
 //! # Choices
 //!
 //! **Writing, parsing, and that they agree, are three traits.** `Spell` writes (`put`, `write`, `size_within`).
-//! `Stands` parses (`decode`, `read_in`). `Wire` says that what is written of a value are the items that are parsed,
+//! `Decode` parses (`decode`, `read_in`). `Wire` says that what is written of a value are the items that are parsed,
 //! and parses copies (`read`). Some things are only written: references and pairs of references, an optional boolean,
 //! the elements of a list without their count. So a record is written from references to its parts. `decode` and `put`
 //! are the steps that an implementation gives; `read_in`, `read` and `write` are final, and carry the contracts.
 //! `decode` promises what reading as a function on lists gives. `read` and `read_in` promise what is in the bytes
 //! (found, only, fault), since a person relies on that.
 //!
-//! **One parser for owned and borrowed values.** `Stands<P>` has one `decode` over a source `P`: a `Payload`, from
+//! **One parser for owned and borrowed values.** `Decode<P>` has one `decode` over a source `P`: a `Payload`, from
 //! which texts, blobs and lists are borrowed, or `Kept`, which has an allocator and copies. The payload's lifetime is
 //! in the trait's type argument, since a trait with a lifetime of its own is refused at a call. Whether parsing may
 //! allocate is the source's property (`Origin::grows`), so a record says nothing of it.
@@ -54,8 +54,10 @@
 
 mod ascii;
 mod at;
+mod decode;
 mod ends;
 mod fault;
+mod left;
 mod list;
 mod number;
 mod origin;
@@ -65,21 +67,21 @@ mod payload;
 mod run;
 mod series;
 mod shown;
-mod stands;
 mod text;
 mod utf8;
 mod value;
 mod wire;
 
 pub use at::{known_at, scan};
+pub use decode::{Decode, Form, end_of, read_ref};
 pub use ends::Ends;
 pub use fault::{ItemFault, Reason, reason_name};
+pub use left::{Left, Lent};
 pub use number::{bool_at, int_at, long_at};
 pub use origin::{Kept, KnownPayload, Origin, Payload, PayloadOf};
 pub use output::Output;
 pub use payload::{known_flagged, read_flagged, scan_flagged};
 pub use series::{Element, Elements, Series, TextList, known_list};
-pub use stands::{Form, Stands, end_of, read_ref};
 pub use value::{
     Blob, BlobRef, Bytes, BytesRef, Chars, CharsRef, Items, List, Nullable, Text, TextRef,
 };

@@ -8,10 +8,10 @@ ghost use Rattle.zk_jute.specs.Item.{bytes_of, HaveBytes};
 ghost use Rattle.zk_jute.specs.Told.{IsReadAs, IsTold, IsSurelyTold};
 ghost use Rattle.zk_jute.specs.Flagged.{flag_items, flagged, IsFlaggedFault, OneIsFlagged};
 
+use crate::decode::{Decode, Form};
 use crate::fault::{ItemFault, Reason};
 use crate::origin::{Kept, KnownPayload, Origin, Payload};
 use crate::output::Output;
-use crate::stands::{Form, Stands};
 use crate::wire::Spell;
 use std::alloc::Global;
 
@@ -27,7 +27,7 @@ impl Spell for Option<bool> {
 }
 
 #[tactic(auto, using(crate::proofs::Flagged::refusals))]
-fn flagged_of<P: Origin, T: Stands<P>>(src: &P) -> Result<(T, Option<bool>), ItemFault>
+fn flagged_of<P: Origin, T: Decode<P>>(src: &P) -> Result<(T, Option<bool>), ItemFault>
     requires { Known P.knows (OneIsFlagged T.wired (P.payload src.now)) }
     ensures found { IfOk result (λ x. HaveBytes (flagged T.wired x.0 x.1) × (P.payload src.now ≡ bytes_of (flagged T.wired x.0 x.1))) }
     ensures fault { IfErr result (λ e. IsTold (IsFlaggedFault T.wired.layout (P.payload src.now)) e) }
@@ -50,7 +50,7 @@ fn flagged_of<P: Origin, T: Stands<P>>(src: &P) -> Result<(T, Option<bool>), Ite
 /// # Errors
 ///
 /// The first fault of the value or of the boolean; `Trailing` at bytes after the boolean; `NoMemory`.
-pub fn read_flagged<'a, T: Stands<Kept<'a>>>(
+pub fn read_flagged<'a, T: Decode<Kept<'a>>>(
     alloc: Global,
     payload: &'a [u8],
 ) -> Result<(T, Option<bool>), ItemFault>
@@ -68,7 +68,7 @@ pub fn read_flagged<'a, T: Stands<Kept<'a>>>(
 }
 
 /// The value that `payload` is, and the boolean after it, borrowed; errors as those of `read_flagged` but `NoMemory`.
-pub fn scan_flagged<'a, T: Stands<Payload<'a>>>(
+pub fn scan_flagged<'a, T: Decode<Payload<'a>>>(
     payload: &'a [u8],
 ) -> Result<(T, Option<bool>), ItemFault>
     // What is read is the whole payload.
@@ -82,7 +82,7 @@ pub fn scan_flagged<'a, T: Stands<Payload<'a>>>(
 }
 
 /// The value that `payload` is known to be, and the boolean after it, borrowed.
-pub fn known_flagged<'a, T: Stands<KnownPayload<'a>>>(payload: &'a [u8]) -> (T, Option<bool>)
+pub fn known_flagged<'a, T: Decode<KnownPayload<'a>>>(payload: &'a [u8]) -> (T, Option<bool>)
     requires { OneIsFlagged T.wired payload.now }
     ensures { (x : T) (flag : Option Bool) → HaveBytes (flagged T.wired x flag) → payload.now ≡ bytes_of (flagged T.wired x flag) → result ≡ (x, flag) }
 {

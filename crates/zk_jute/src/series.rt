@@ -11,10 +11,10 @@ ghost use Rattle.zk_jute.specs.Standing.{IsPlain, Known, OneStands};
 ghost use Rattle.zk_jute.specs.Values.{list_items};
 ghost use Rattle.zk_jute.specs.Shown.{AllStand, IsNull, count_of, elements_of, list_at, text_value, text_is_value};
 
+use crate::decode::{Decode, Form};
 use crate::fault::ItemFault;
 use crate::origin::{KnownPayload, Origin, PayloadOf};
 use crate::run::size_at;
-use crate::stands::{Form, Stands};
 use crate::value::TextRef;
 use std::marker::{Model, PhantomData};
 
@@ -104,7 +104,7 @@ impl<'a, R: Element> Model for Elements<'a, R> {
     ghost invariant = { λ l. (l.place ≤ length l.payload.now) × (length (values_at (R.value l.payload.now) l.left l.place) ≡ l.left) };
 }
 
-impl<'a, R: Element + Stands<KnownPayload<'a>>> Iterator for Elements<'a, R> {
+impl<'a, R: Element + Decode<KnownPayload<'a>>> Iterator for Elements<'a, R> {
     type Item = R;
 
     ghost next_gives = { YieldsFirst (λ s. s) };
@@ -135,7 +135,7 @@ impl<'a, R: Element + Stands<KnownPayload<'a>>> Iterator for Elements<'a, R> {
     }
 }
 
-impl<'a, R: Element + Stands<KnownPayload<'a>>> ExactSizeIterator for Elements<'a, R> {
+impl<'a, R: Element + Decode<KnownPayload<'a>>> ExactSizeIterator for Elements<'a, R> {
     fn len(&self) -> usize {
         let Elements { left, .. } = self;
         *left
@@ -169,7 +169,7 @@ pub fn known_list<'a, R: Element>(payload: &'a [u8], place: usize) -> Series<'a,
 
 #[tactic(auto, using(crate::proofs::Loops::scanning_goes_on, crate::proofs::Loops::scanning_ends))]
 /// The place after `count` elements of `src`, the first of them at `place`.
-fn elements_end<P: Origin, R: Stands<P>>(
+fn elements_end<P: Origin, R: Decode<P>>(
     src: &P,
     count: usize,
     place: usize,
@@ -192,7 +192,7 @@ impl<'a, R: Element> Form for Series<'a, R> {
     ghost wired = { vector R.wired };
 }
 
-impl<'a, const KNOWN: bool, R: Element + Stands<PayloadOf<'a, KNOWN>>> Stands<PayloadOf<'a, KNOWN>>
+impl<'a, const KNOWN: bool, R: Element + Decode<PayloadOf<'a, KNOWN>>> Decode<PayloadOf<'a, KNOWN>>
     for Series<'a, R> {
     #[tactic(auto, using(crate::proofs::Fields::list_none, crate::proofs::Fields::list_fails, crate::proofs::Fields::list_refused, crate::proofs::Fields::elements_fail, crate::proofs::Lists::elements_refuse))]
     #[inline(always)]

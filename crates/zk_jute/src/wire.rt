@@ -8,10 +8,10 @@ ghost use Rattle.zk_jute.specs.Layout.{IsValueOf, takes_none};
 ghost use Rattle.zk_jute.specs.Told.{StandsAt, IsReadAs, IsToldFault, HasSureFault};
 ghost use Rattle.zk_jute.specs.Once.{HaveOneFault, IsReadFirst, BeginAlike};
 
+use crate::decode::{Decode, Form};
 use crate::fault::ItemFault;
 use crate::origin::Kept;
 use crate::output::{Full, Output, Room};
-use crate::stands::{Form, Stands};
 use std::alloc::{AllocError, Global};
 
 /// What is written as bytes: a value of jute, references to values, and pairs of these.
@@ -70,7 +70,7 @@ pub trait Wire: Spell + Form {
         place: usize,
     ) -> Result<(Self, usize), ItemFault>
     where
-        Self: Stands<Kept<'a>>,
+        Self: Decode<Kept<'a>>,
         requires { place ≤ length src.now }
         // What is read is there, each byte of it.
         ensures found { IfOk result (λ x. IsValueOf Self.wired.layout (Self.wired.items x.0) × StandsAt (Self.wired.items x.0) src.now place x.1) }

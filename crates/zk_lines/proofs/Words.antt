@@ -10,32 +10,7 @@ use Rattle.zk_lines.specs.Words.{word_of, field}
 pub word_stops : (w : Word) (rest : List ℕ) → stops (word_of w ++ rest) ≡ true
 unfolding word_of
 word_stops words.Acl rest = refl
-word_stops words.Auth rest = refl
-word_stops words.Blank rest = refl
-word_stops words.Blob rest = refl
-word_stops words.ChildWatches rest = refl
-word_stops words.Close rest = refl
-word_stops words.Colon rest = refl
-word_stops words.Comma rest = refl
-word_stops words.DataWatches rest = refl
-word_stops words.Err rest = refl
-word_stops words.ExistWatches rest = refl
-word_stops words.Flags rest = refl
-word_stops words.Kind rest = refl
-word_stops words.Names rest = refl
-word_stops words.Open rest = refl
-word_stops words.Parts rest = refl
-word_stops words.Passwd rest = refl
-word_stops words.Path rest = refl
-word_stops words.ReadOnly rest = refl
-word_stops words.Scheme rest = refl
-word_stops words.Session rest = refl
-word_stops words.Stat rest = refl
-word_stops words.State rest = refl
-word_stops words.Timeout rest = refl
-word_stops words.Version rest = refl
-word_stops words.Watch rest = refl
-word_stops words.Zxid rest = refl
+word_stops _ rest = refl
 
 pub field_is : {X : Type 0} (w : Word) (f : Form X) → Lawful f → IsField (field w f)
 field_is w f is = record { lawful = led_is (word_of w) f is; opens = led_opens (word_of w) f (word_stops w) }

@@ -13,8 +13,7 @@ use Rattle.zk_answers.specs.declared.frame.PartDoneOf.TheVariants as done
 use Rattle.zk_answers.specs.declared.frame.OutcomeOf.TheVariants as outcome
 use Rattle.zk_answers.specs.Frames.{op_of_outcome}
 use Rattle.zk_answers.specs.Rows as answered
-use Rattle.zk_answers.specs.Rows.{row_of}
-use Rattle.zk_answers.specs.Cases.{by_op}
+use Rattle.zk_answers.specs.Rows.{row_of, by_op}
 use Rattle.zk_items.specs.Form.{Form, Read, ◌>>=◌, read_map, fields, ◌and◌, word_at}
 use Rattle.zk_items.specs.Leaf.{int, long, ro, text, blob}
 use Rattle.zk_items.specs.Codes.{error_code, failure_code, event_code}

@@ -20,8 +20,7 @@ use Rattle.zk_asks.specs.Held.{Part, Ask}
 use Rattle.zk_asks.specs.declared.frame.PartOf.TheVariants as part
 use Rattle.zk_asks.specs.Parts.{op_of_part}
 use Rattle.zk_asks.specs.Rows as asked
-use Rattle.zk_asks.specs.Rows.{row_of, op_of_ask}
-use Rattle.zk_asks.specs.Cases.{by_op}
+use Rattle.zk_asks.specs.Rows.{row_of, by_op, op_of_ask}
 use Rattle.zk_items.specs.Form.{Form, fields, ◌and◌}
 use Rattle.zk_items.specs.Leaf.{int, long, bit, ro, text, blob}
 use Rattle.zk_lines.specs.Words.{field}

@@ -13,7 +13,7 @@ use crate::body::read_body;
 use crate::item::{Item, read_field, read_fields};
 use crate::name::op_named;
 use crate::put::{Put, put_field, put_fields};
-use crate::word::{Word, put_word, read_word, word_bytes};
+use crate::word::{Word, field_word, put_word, read_word, word_bytes};
 use std::alloc::AllocError;
 use zk_answers::{
     Failure, Outcome, OutcomeOf, OutcomeRef, Reply, ReplyRef, ServerFrame, ServerFrameOf, ServerRef,
@@ -22,7 +22,7 @@ use zk_items::{
     LineFault, LineReason, Reader, put_error_code, put_event_code, put_int, read_event_code,
     read_failure_code,
 };
-use zk_records::{ConnectResponseOf, Op, WatcherEventOf, op_name};
+use zk_records::{ConnectResponseOf, Op, WatcherEventOf, fields_of, op_name};
 
 /// Reads the number of an error, which isn't 0.
 pub fn read_failure(line: &mut Reader<'_>) -> Result<Failure, LineFault>
@@ -138,25 +138,12 @@ impl<'a> Put for ReplyRef<'a> {
     }
 }
 
-/// `connected_fields!(then, with)` is `then!(with: ..)` with the fields of the connect response in order, each after its
-/// word and with its owned type.
-macro_rules! connected_fields {
-    ($then:ident, $($with:tt)+) => {
-        $then!(
-            $($with)+:
-            Version protocol_version: i32, Timeout time_out: i32, Session session_id: i64, Passwd passwd: Blob
-        )
-    };
-}
-
-pub(crate) use connected_fields;
-
 fn read_connected<B: Item>(
     line: &mut Reader<'_>,
 ) -> Result<(ConnectResponseOf<B>, Option<bool>), LineFault>
     ensures { Gives result line.new ((answers.connected_of B.form).at line.old) }
 {
-    let hello = connected_fields!(read_fields, line, ConnectResponseOf);
+    let hello = fields_of!(ConnectResponse, read_fields, line, ConnectResponseOf);
     let read_only = read_field(line, Word::ReadOnly)?;
     Ok((hello, read_only))
 }
@@ -171,15 +158,14 @@ fn put_connected<B: Put>(
     ensures fits { OnOk result ((answers.connected_of B.form).fits (hello.now, read_only.now)) }
     ensures keeps { Keeps out.old.items out.new.items }
 {
-    connected_fields!(put_fields, out, hello)?;
+    fields_of!(ConnectResponse, put_fields, out, hello)?;
     put_field(out, Word::ReadOnly, read_only)
 }
 
-/// `event_fields!(then, with)` is `then!(with: ..)` with an event's fields after its type, each after its word and with its
-/// owned type.
+/// `event_fields!(then, with)` is `then!(with: ..)` with an event's fields after its type, as in `fields_of!`.
 macro_rules! event_fields {
     ($then:ident, $($with:tt)+) => {
-        $then!($($with)+: State state: i32, Path path: Text)
+        $then!($($with)+: state STATE int, path PATH text)
     };
 }
 
@@ -217,11 +203,11 @@ pub fn read_server(line: &mut Reader<'_>) -> Result<ServerFrame, LineFault>
     ensures { Gives result line.new (lines.server_at line.old) }
 {
     if line.letters() == b"connect".as_slice() {
-        line.front(b"connect")?;
+        line.literal(b"connect")?;
         let (hello, read_only) = read_connected(line)?;
         Ok(ServerFrame::Connected { hello, read_only })
     } else if line.letters() == b"event".as_slice() {
-        line.front(b"event")?;
+        line.literal(b"event")?;
         let (zxid, event) = read_event(line)?;
         Ok(ServerFrame::Event { zxid, event })
     } else {

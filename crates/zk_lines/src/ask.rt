@@ -10,18 +10,18 @@ ghost use Rattle.zk_lines.specs.Lines as lines;
 ghost use Rattle.zk_lines.specs.Rows.{only_written, row_at};
 
 use crate::item::{Item, read_field, read_fields};
-use crate::list::{Left, Signs, put_series, read_series};
+use crate::list::{Signs, put_series, read_series};
 use crate::name::{op_named, part_named};
 use crate::put::{Put, put_field, put_fields};
-use crate::word::{Word, put_word, read_word};
+use crate::word::{Word, field_word, put_word, read_word};
 use std::alloc::AllocError;
 use zk_asks::{
-    Ask, AskOf, AskRef, ClientFrame, ClientFrameOf, ClientRef, Part, PartItems, PartList, PartOf,
-    PartRef,
+    Ask, AskOf, AskRef, ClientFrame, ClientFrameOf, ClientRef, Part, PartList, PartOf, PartRef,
+    ask_rows, part_rows,
 };
 use zk_items::{LineFault, LineReason, Reader, put_int};
 use zk_jute::Items;
-use zk_records::{ConnectRequestOf, Op, PartOp, op_name, part_name};
+use zk_records::{ConnectRequestOf, Op, PartOp, fields_of, op_name, part_name};
 
 /// The signs between the parts of a multi and after the last.
 pub const PARTS: Signs = Signs {
@@ -29,30 +29,12 @@ pub const PARTS: Signs = Signs {
     behind: b'}',
 };
 
-/// `part_rows!(then, with)` is `then!(with: ..)` with the operations that a part may have, each with its owned record.
-macro_rules! part_rows {
-    ($then:ident, $($with:tt)+) => {
-        $then!($($with)+: Create CreateAsk, Delete DeleteAsk, SetData SetDataAsk, Check CheckAsk)
-    };
-}
-
-pub(crate) use part_rows;
-
-/// `read_part_of!(line, op: Create CreateAsk, Delete DeleteAsk)` reads the part, which is of one of these operations.
-macro_rules! read_part_of {
-    ($line:ident, $op:ident: $($part:ident $record:ident),+) => {
-        Ok(match $op {
-            $(PartOp::$part => Part::$part(Item::read($line)?),)+
-        })
-    };
-}
-
-/// `put_part_of!(out, part: Create CreateAsk, Delete DeleteAsk)` appends a part's name and its record.
-macro_rules! put_part_of {
-    ($out:ident, $part:ident: $($row:ident $record:ident),+) => {{
+/// `part_rows!(put_part, out, part)` appends a part's name and its record.
+macro_rules! put_part {
+    ($out:ident, $part:ident: $($op:ident: $record:ident $borrowed:ident),+) => {{
         $out.extend_from_slice(part_name($part.op()).as_bytes())?;
         match $part {
-            $(PartOf::$row(ask) => ask.put($out),)+
+            $(PartOf::$op(record) => record.put($out),)+
         }
     }};
 }
@@ -61,14 +43,21 @@ macro_rules! put_part_of {
 fn read_part(line: &mut Reader<'_>, op: PartOp) -> Result<Part, LineFault>
     ensures { Gives result line.new (row_at (asks.part_line_of op) line.old) }
 {
-    part_rows!(read_part_of, line, op)
+    macro_rules! row {
+        ($op:ident: $($part:ident: $record:ident $borrowed:ident),+) => {
+            Ok(match $op {
+                $(PartOp::$part => Part::$part(Item::read(line)?),)+
+            })
+        };
+    }
+    part_rows!(row, op)
 }
 
 impl Put for Part {
     ghost form = { asks.part_form };
 
     fn put(&self, out: &mut Vec<u8>) -> Result<(), AllocError> {
-        part_rows!(put_part_of, out, self)
+        part_rows!(put_part, out, self)
     }
 }
 
@@ -76,7 +65,7 @@ impl<'a> Put for PartRef<'a> {
     ghost form = { asks.part_form };
 
     fn put(&self, out: &mut Vec<u8>) -> Result<(), AllocError> {
-        part_rows!(put_part_of, out, self)
+        part_rows!(put_part, out, self)
     }
 }
 
@@ -106,16 +95,6 @@ impl Item for Items<Part> {
     }
 }
 
-impl<'a> Left for PartItems<'a> {
-    type One = PartRef<'a>;
-
-    ghost left = { λ parts. parts };
-
-    fn take(&mut self) -> Option<PartRef<'a>> {
-        self.next()
-    }
-}
-
 impl<'a> Put for PartList<'a> {
     ghost form = { asks.multi };
 
@@ -125,38 +104,11 @@ impl<'a> Put for PartList<'a> {
     }
 }
 
-/// `ask_rows!(then, with)` is `then!(with: .. | ..)` with the operations whose requests hold a record, each with its owned
-/// record, and those whose requests hold nothing. A multi has its parts.
-macro_rules! ask_rows {
-    ($then:ident, $($with:tt)+) => {
-        $then!(
-            $($with)+:
-            Create CreateAsk, Delete DeleteAsk, Exists WatchAsk, GetData WatchAsk,
-            SetData SetDataAsk, GetAcl PathAsk, SetAcl SetAclAsk, GetChildren WatchAsk,
-            Sync PathAsk, GetChildren2 WatchAsk, Create2 CreateAsk, Auth AuthAsk,
-            SetWatches SetWatchesAsk | Ping, CloseSession
-        )
-    };
-}
-
-pub(crate) use ask_rows;
-
-/// `read_ask_of!(line, op: Create CreateAsk | Ping)` reads the request, which is of one of these operations, or a multi.
-macro_rules! read_ask_of {
-    ($line:ident, $op:ident: $($held:ident $record:ident),+ | $($bare:ident),+) => {
-        Ok(match $op {
-            $(Op::$held => Ask::$held(Item::read($line)?),)+
-            $(Op::$bare => Ask::$bare,)+
-            Op::Multi => Ask::Multi(Item::read($line)?),
-        })
-    };
-}
-
-/// `put_ask_of!(out, ask: Create CreateAsk | Ping)` appends what follows a request's name.
-macro_rules! put_ask_of {
-    ($out:ident, $ask:ident: $($held:ident $record:ident),+ | $($bare:ident),+) => {
+/// `ask_rows!(put_ask, out, ask)` appends what follows a request's name.
+macro_rules! put_ask {
+    ($out:ident, $ask:ident: $($($held:ident)|+: $record:ident $borrowed:ident),+; $($bare:ident)|+) => {
         match $ask {
-            $(AskOf::$held(ask) => ask.put($out),)+
+            $($(AskOf::$held(record) => record.put($out),)+)+
             $(AskOf::$bare => Ok(()),)+
             AskOf::Multi(parts) => parts.put($out),
         }
@@ -167,7 +119,16 @@ macro_rules! put_ask_of {
 fn read_body(line: &mut Reader<'_>, op: Op) -> Result<Ask, LineFault>
     ensures { Gives result line.new (row_at (asks.line_of op) line.old) }
 {
-    ask_rows!(read_ask_of, line, op)
+    macro_rules! row {
+        ($op:ident: $($($held:ident)|+: $record:ident $borrowed:ident),+; $($bare:ident)|+) => {
+            Ok(match $op {
+                $($(Op::$held => Ask::$held(Item::read(line)?),)+)+
+                $(Op::$bare => Ask::$bare,)+
+                Op::Multi => Ask::Multi(Item::read(line)?),
+            })
+        };
+    }
+    ask_rows!(row, op)
 }
 
 /// Appends what follows a request's name.
@@ -177,7 +138,7 @@ fn put_body(out: &mut Vec<u8>, ask: &Ask) -> Result<(), AllocError>
     ensures fits { OnOk result ((asks.ask_written ask.now).fits) }
     ensures keeps { Keeps out.old.items out.new.items }
 {
-    ask_rows!(put_ask_of, out, ask)
+    ask_rows!(put_ask, out, ask)
 }
 
 /// The same of a borrowed request.
@@ -186,7 +147,7 @@ fn put_body_ref(out: &mut Vec<u8>, ask: &AskRef<'_>) -> Result<(), AllocError>
     ensures fits { OnOk result ((asks.ask_written ask.now).fits) }
     ensures keeps { Keeps out.old.items out.new.items }
 {
-    ask_rows!(put_ask_of, out, ask)
+    ask_rows!(put_ask, out, ask)
 }
 
 impl Put for Ask {
@@ -217,27 +178,13 @@ impl Item for Ask {
     }
 }
 
-/// `connect_fields!(then, with)` is `then!(with: ..)` with the fields of the connect request in order, each after its
-/// word and with its owned type.
-macro_rules! connect_fields {
-    ($then:ident, $($with:tt)+) => {
-        $then!(
-            $($with)+:
-            Version protocol_version: i32, Zxid last_zxid_seen: i64, Timeout time_out: i32, Session session_id: i64,
-            Passwd passwd: Blob
-        )
-    };
-}
-
-pub(crate) use connect_fields;
-
 /// Reads the connect request.
 fn read_connect<B: Item>(
     line: &mut Reader<'_>,
 ) -> Result<(ConnectRequestOf<B>, Option<bool>), LineFault>
     ensures { Gives result line.new ((asks.connect_of B.form).at line.old) }
 {
-    let hello = connect_fields!(read_fields, line, ConnectRequestOf);
+    let hello = fields_of!(ConnectRequest, read_fields, line, ConnectRequestOf);
     let read_only = read_field(line, Word::ReadOnly)?;
     Ok((hello, read_only))
 }
@@ -252,7 +199,7 @@ fn put_connect<B: Put>(
     ensures fits { OnOk result ((asks.connect_of B.form).fits (hello.now, read_only.now)) }
     ensures keeps { Keeps out.old.items out.new.items }
 {
-    connect_fields!(put_fields, out, hello)?;
+    fields_of!(ConnectRequest, put_fields, out, hello)?;
     put_field(out, Word::ReadOnly, read_only)
 }
 
@@ -272,7 +219,7 @@ pub fn read_client(line: &mut Reader<'_>) -> Result<ClientFrame, LineFault>
     ensures { Gives result line.new (lines.client_at line.old) }
 {
     if line.letters() == b"connect".as_slice() {
-        line.front(b"connect")?;
+        line.literal(b"connect")?;
         let (hello, read_only) = read_connect(line)?;
         Ok(ClientFrame::Connect { hello, read_only })
     } else {

@@ -14,12 +14,11 @@ use crate::copies::{Copies, copy_field, copy_multi};
 use crate::done::read_multi;
 use crate::item::{Item, read_field};
 use crate::put::{Put, put_field};
-use crate::word::Word;
+use crate::word::{Word, field_word};
 use std::alloc::AllocError;
-use zk_answers::{Body, BodyOf, BodyRef, PartDone};
+use zk_answers::{Body, BodyOf, BodyRef, PartDone, body_rows};
 use zk_items::{LineFault, Reader};
-use zk_jute::{Blob, List, Text};
-use zk_records::{Acl, Op, Stat};
+use zk_records::{Op, Stat, owned};
 
 /// Reads the field after `word`, and the `Stat` after it.
 fn read_with_stat<T: Item>(line: &mut Reader<'_>, word: Word) -> Result<(T, Stat), LineFault>
@@ -30,54 +29,15 @@ fn read_with_stat<T: Item>(line: &mut Reader<'_>, word: Word) -> Result<(T, Stat
     Ok((value, stat))
 }
 
-/// `body_rows!(then, with)` is `then!(with: .. | .. | ..)` with the operations whose replies have one field, those that
-/// have one and a `Stat`, each with the field, its word and its owned type, and those that have none. A multi has its results.
-macro_rules! body_rows {
-    ($then:ident, $($with:tt)+) => {
-        $then!(
-            $($with)+:
-            Create path Path: Text, Exists stat Stat: Stat, SetData stat Stat: Stat,
-            SetAcl stat Stat: Stat, GetChildren names Names: List<Text>, Sync path Path: Text
-            | GetData blob Blob: Blob, GetAcl acl Acl: List<Acl>, GetChildren2 names Names: List<Text>,
-            Create2 path Path: Text
-            | Delete, Ping, Auth, SetWatches, CloseSession
-        )
-    };
-}
-
-/// `read_body_of!(line, op: Create path Path: Text | GetData blob Blob: Blob | Ping)` reads the body of a reply to one of
-/// these operations, or to a multi.
-macro_rules! read_body_of {
+/// `body_rows!(put_body, out, body)` appends the body.
+macro_rules! put_body {
     (
-        $line:ident, $op:ident:
-        $($one:ident $only:ident $word:ident: $item:ty),+
-        | $($both:ident $first:ident $behind:ident: $front:ty),+
-        | $($bare:ident),+
-    ) => {
-        Ok(match $op {
-            $(Op::$one => Body::$one { $only: read_field($line, Word::$word)? },)+
-            $(Op::$both => {
-                let ($first, stat) = read_with_stat($line, Word::$behind)?;
-                Body::$both { $first, stat }
-            })+
-            $(Op::$bare => Body::$bare,)+
-            Op::Multi => Body::Multi(read_multi($line)?),
-        })
-    };
-}
-
-/// `put_body_of!(out, body: Create path Path: Text | GetData blob Blob: Blob | Ping)` appends the body of a reply to one
-/// of these operations, or to a multi.
-macro_rules! put_body_of {
-    (
-        $out:ident, $body:ident:
-        $($one:ident $only:ident $word:ident: $item:ty),+
-        | $($both:ident $first:ident $behind:ident: $front:ty),+
-        | $($bare:ident),+
+        $out:ident, $body:ident: $($($one:ident)|+: $only:ident $name:ident $kind:ident),+;
+        $($both:ident: $first:ident $jute:ident $shape:ident $pair:ident),+; $($bare:ident)|+
     ) => {
         match $body {
-            $(BodyOf::$one { $only } => put_field($out, Word::$word, $only),)+
-            $(BodyOf::$both { $first, stat } => put_with_stat($out, Word::$behind, $first, stat),)+
+            $($(BodyOf::$one { $only } => put_field($out, field_word!($only), $only),)+)+
+            $(BodyOf::$both { $first, stat } => put_with_stat($out, field_word!($first), $first, stat),)+
             $(BodyOf::$bare => Ok(()),)+
             BodyOf::Multi(results) => results.put($out),
         }
@@ -88,25 +48,21 @@ macro_rules! put_body_of {
 pub fn read_body(line: &mut Reader<'_>, op: Op) -> Result<Body, LineFault>
     ensures { Gives result line.new (row_at (answers.line_of op) line.old) }
 {
-    body_rows!(read_body_of, line, op)
-}
-
-/// `copy_body_of!(line, op, out: Create path Path: Text | GetData blob Blob: Blob | Ping)` reads the body of a reply to one
-/// of these operations, or to a multi, and appends its bytes.
-macro_rules! copy_body_of {
-    (
-        $line:ident, $op:ident, $out:ident:
-        $($one:ident $only:ident $word:ident: $item:ty),+
-        | $($both:ident $first:ident $behind:ident: $front:ty),+
-        | $($bare:ident),+
-    ) => {
-        match $op {
-            $(Op::$one => copy_field::<$item>($line, Word::$word, $out),)+
-            $(Op::$both => copy_with_stat::<$front>($line, Word::$behind, $out),)+
-            $(Op::$bare => Some(()),)+
-            Op::Multi => copy_multi::<PartDone>($line, $out),
-        }
-    };
+    macro_rules! row {
+        ($op:ident: $($($one:ident)|+: $only:ident $name:ident $kind:ident),+;
+         $($both:ident: $first:ident $jute:ident $shape:ident $pair:ident),+; $($bare:ident)|+) => {
+            Ok(match $op {
+                $($(Op::$one => Body::$one { $only: read_field(line, field_word!($only))? },)+)+
+                $(Op::$both => {
+                    let ($first, stat) = read_with_stat(line, field_word!($first))?;
+                    Body::$both { $first, stat }
+                })+
+                $(Op::$bare => Body::$bare,)+
+                Op::Multi => Body::Multi(read_multi(line)?),
+            })
+        };
+    }
+    body_rows!(row, op)
 }
 
 /// Reads the field after `word`, and the `Stat` after it, and appends their bytes.
@@ -124,7 +80,18 @@ pub fn copy_body(line: &mut Reader<'_>, op: Op, out: &mut Vec<u8>) -> Option<()>
     ensures copied { OnSome result (Copied (row_at (answers.line_of op)) body_items line.old line.new out.old.items out.new.items) }
     ensures keeps { Keeps out.old.items out.new.items }
 {
-    body_rows!(copy_body_of, line, op, out)
+    macro_rules! row {
+        ($op:ident: $($($one:ident)|+: $only:ident $name:ident $kind:ident),+;
+         $($both:ident: $first:ident $jute:ident $shape:ident $pair:ident),+; $($bare:ident)|+) => {
+            match $op {
+                $($(Op::$one => copy_field::<owned!($kind)>(line, field_word!($only), out),)+)+
+                $(Op::$both => copy_with_stat::<owned!($shape)>(line, field_word!($first), out),)+
+                $(Op::$bare => Some(()),)+
+                Op::Multi => copy_multi::<PartDone>(line, out),
+            }
+        };
+    }
+    body_rows!(row, op)
 }
 
 /// Appends a field, and the `Stat` after it.
@@ -146,7 +113,7 @@ impl Put for Body {
     ghost form = { only_written (λ b. (answers.body_written b).fits) (λ b. (answers.body_written b).spell) };
 
     fn put(&self, out: &mut Vec<u8>) -> Result<(), AllocError> {
-        body_rows!(put_body_of, out, self)
+        body_rows!(put_body, out, self)
     }
 }
 
@@ -154,6 +121,6 @@ impl<'a> Put for BodyRef<'a> {
     ghost form = { only_written (λ b. (answers.body_written b).fits) (λ b. (answers.body_written b).spell) };
 
     fn put(&self, out: &mut Vec<u8>) -> Result<(), AllocError> {
-        body_rows!(put_body_of, out, self)
+        body_rows!(put_body, out, self)
     }
 }

@@ -38,11 +38,11 @@ pub fn copy_field<T: Copies>(line: &mut Reader<'_>, word: Word, out: &mut Vec<u8
     T::copy(line, out)
 }
 
-/// `copy_fields!(line, out: Path path: Text, Version version: i32)` reads these fields of a record in order, each after
-/// its word, and appends their bytes.
+/// `fields_of!(R, copy_fields, line, out)` reads the fields of the record in order, each after its word, and appends their
+/// bytes.
 macro_rules! copy_fields {
-    ($line:ident, $out:ident: $($word:ident $field:ident: $item:ty),+) => {{
-        $(copy_field::<$item>($line, Word::$word, $out)?;)+
+    ($line:ident, $out:ident: $($field:ident $name:ident $kind:ident),+) => {{
+        $(copy_field::<owned!($kind)>($line, field_word!($field), $out)?;)+
     }};
 }
 

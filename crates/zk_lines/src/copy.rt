@@ -25,7 +25,7 @@ fn copy_message(line: &mut Reader<'_>, out: &mut Vec<u8>) -> Option<Kind>
         let kind = copy_client(line, out)?;
         return at_end(line, kind);
     }
-    let Ok(()) = line.front(b"S ") else {
+    let Ok(()) = line.literal(b"S ") else {
         return None;
     };
     let kind = copy_server(line, out)?;

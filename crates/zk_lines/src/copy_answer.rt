@@ -10,14 +10,13 @@ ghost use Rattle.zk_talk.specs.declared.message.MessageOf.TheVariants.{Server};
 ghost use Rattle.zk_lines.specs.Answers as answers;
 ghost use Rattle.zk_lines.specs.Lines.{server_at};
 
-use crate::answer::{connected_fields, event_fields, read_failure};
+use crate::answer::{event_fields, read_failure};
 use crate::body::copy_body;
 use crate::copies::{append, copy_field, copy_fields};
 use crate::name::op_named;
-use crate::word::{Word, read_word, word_bytes};
+use crate::word::{Word, field_word, read_word, word_bytes};
 use zk_items::{Reader, read_event_code};
-use zk_jute::{Blob, Text};
-use zk_records::Op;
+use zk_records::{Op, fields_of, owned};
 use zk_talk::Kind;
 
 /// Reads the outcome of an operation, and appends the number of its error and its body.
@@ -58,7 +57,7 @@ fn copy_connected(line: &mut Reader<'_>, out: &mut Vec<u8>) -> Option<()>
     ensures copied { OnSome result (Copied answers.connected.at (λ p. frame_items (server.Connected p.0 p.1)) line.old line.new out.old.items out.new.items) }
     ensures keeps { Keeps out.old.items out.new.items }
 {
-    connected_fields!(copy_fields, line, out);
+    fields_of!(ConnectResponse, copy_fields, line, out);
     copy_field::<Option<bool>>(line, Word::ReadOnly, out)?;
     Some(())
 }
@@ -88,13 +87,13 @@ pub fn copy_server(line: &mut Reader<'_>, out: &mut Vec<u8>) -> Option<Kind>
     ensures keeps { Keeps out.old.items out.new.items }
 {
     if line.letters() == b"connect".as_slice() {
-        let Ok(()) = line.front(b"connect") else {
+        let Ok(()) = line.literal(b"connect") else {
             return None;
         };
         copy_connected(line, out)?;
         Some(Kind::Connected)
     } else if line.letters() == b"event".as_slice() {
-        let Ok(()) = line.front(b"event") else {
+        let Ok(()) = line.literal(b"event") else {
             return None;
         };
         copy_event(line, out)?;

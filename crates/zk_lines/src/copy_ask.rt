@@ -12,35 +12,30 @@ ghost use Rattle.zk_lines.specs.Asks as asks;
 ghost use Rattle.zk_lines.specs.Lines.{client_at};
 ghost use Rattle.zk_lines.specs.Rows.{row_at};
 
-use crate::ask::{ask_rows, connect_fields, part_rows};
 use crate::copies::{Copies, append, append_header, copy_field, copy_fields, copy_multi};
 use crate::name::{op_named, part_named};
-use crate::word::{Word, read_word};
-use zk_asks::Part;
+use crate::word::{Word, field_word, read_word};
+use zk_asks::{Part, ask_rows, part_rows};
 use zk_items::Reader;
-use zk_jute::Blob;
 use zk_records::{
     AuthAsk, CheckAsk, CreateAsk, DeleteAsk, Op, PartOp, PathAsk, SetAclAsk, SetDataAsk,
-    SetWatchesAsk, WatchAsk, op_number, part_number,
+    SetWatchesAsk, WatchAsk, fields_of, op_number, owned, part_number,
 };
 use zk_talk::Kind;
-
-/// `copy_part_of!(line, op, out: Create CreateAsk, Delete DeleteAsk)` reads the record of the part, which is of one of
-/// these operations, and appends its bytes.
-macro_rules! copy_part_of {
-    ($line:ident, $op:ident, $out:ident: $($part:ident $record:ident),+) => {
-        match $op {
-            $(PartOp::$part => $record::copy($line, $out),)+
-        }
-    };
-}
 
 /// Reads the record of a part of the operation `op`, and appends its bytes.
 fn copy_part(line: &mut Reader<'_>, op: PartOp, out: &mut Vec<u8>) -> Option<()>
     ensures copied { OnSome result (Copied (row_at (asks.part_line_of op)) record_of line.old line.new out.old.items out.new.items) }
     ensures keeps { Keeps out.old.items out.new.items }
 {
-    part_rows!(copy_part_of, line, op, out)
+    macro_rules! row {
+        ($op:ident: $($part:ident: $record:ident $borrowed:ident),+) => {
+            match $op {
+                $(PartOp::$part => $record::copy(line, out),)+
+            }
+        };
+    }
+    part_rows!(row, op)
 }
 
 impl Copies for Part {
@@ -51,24 +46,21 @@ impl Copies for Part {
     }
 }
 
-/// `copy_ask_of!(line, op, out: Create CreateAsk | Ping)` reads the record of the request, which is of one of these
-/// operations, or a multi, and appends its bytes.
-macro_rules! copy_ask_of {
-    ($line:ident, $op:ident, $out:ident: $($held:ident $record:ident),+ | $($bare:ident),+) => {
-        match $op {
-            $(Op::$held => $record::copy($line, $out),)+
-            $(Op::$bare => Some(()),)+
-            Op::Multi => copy_multi::<Part>($line, $out),
-        }
-    };
-}
-
 /// Reads the record of a request of the operation `op`, and appends its bytes.
 fn copy_body(line: &mut Reader<'_>, op: Op, out: &mut Vec<u8>) -> Option<()>
     ensures copied { OnSome result (Copied (row_at (asks.line_of op)) body_items line.old line.new out.old.items out.new.items) }
     ensures keeps { Keeps out.old.items out.new.items }
 {
-    ask_rows!(copy_ask_of, line, op, out)
+    macro_rules! row {
+        ($op:ident: $($($held:ident)|+: $record:ident $borrowed:ident),+; $($bare:ident)|+) => {
+            match $op {
+                $($(Op::$held => $record::copy(line, out),)+)+
+                $(Op::$bare => Some(()),)+
+                Op::Multi => copy_multi::<Part>(line, out),
+            }
+        };
+    }
+    ask_rows!(row, op)
 }
 
 /// Reads the connect request, and appends its bytes.
@@ -76,7 +68,7 @@ fn copy_connect(line: &mut Reader<'_>, out: &mut Vec<u8>) -> Option<()>
     ensures copied { OnSome result (Copied asks.connect.at (λ p. frame_items (client.Connect p.0 p.1)) line.old line.new out.old.items out.new.items) }
     ensures keeps { Keeps out.old.items out.new.items }
 {
-    connect_fields!(copy_fields, line, out);
+    fields_of!(ConnectRequest, copy_fields, line, out);
     copy_field::<Option<bool>>(line, Word::ReadOnly, out)?;
     Some(())
 }
@@ -104,7 +96,7 @@ pub fn copy_client(line: &mut Reader<'_>, out: &mut Vec<u8>) -> Option<Kind>
     ensures keeps { Keeps out.old.items out.new.items }
 {
     if line.letters() == b"connect".as_slice() {
-        let Ok(()) = line.front(b"connect") else {
+        let Ok(()) = line.literal(b"connect") else {
             return None;
         };
         copy_connect(line, out)?;

@@ -13,12 +13,12 @@ ghost use Rattle.zk_lines.specs.Rows.{row_at};
 use crate::ask::PARTS;
 use crate::copies::{Copies, append, append_header, copy_field};
 use crate::item::{Item, read_field};
-use crate::list::{Left, put_series, read_series};
+use crate::list::{put_series, read_series};
 use crate::name::done_named;
 use crate::put::{Put, put_field};
 use crate::word::{Word, put_word, read_word};
 use std::alloc::AllocError;
-use zk_answers::{DoneItems, DoneList, PartDone, PartDoneOf, PartDoneRef};
+use zk_answers::{DoneList, PartDone, PartDoneOf, PartDoneRef};
 use zk_items::{LineFault, LineReason, Reader, put_error_code, read_error_code};
 use zk_jute::{Items, Text};
 use zk_records::{PartOp, Stat, part_number};
@@ -208,16 +208,6 @@ impl Put for Items<PartDone> {
     fn put(&self, out: &mut Vec<u8>) -> Result<(), AllocError> {
         put_word(out, Word::Parts)?;
         put_series(out, self.as_slice().iter(), PARTS)
-    }
-}
-
-impl<'a> Left for DoneItems<'a> {
-    type One = PartDoneRef<'a>;
-
-    ghost left = { λ dones. dones };
-
-    fn take(&mut self) -> Option<PartDoneRef<'a>> {
-        self.next()
     }
 }
 

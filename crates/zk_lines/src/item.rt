@@ -24,11 +24,10 @@ pub fn read_field<T: Item>(line: &mut Reader<'_>, word: Word) -> Result<T, LineF
     T::read(line)
 }
 
-/// `read_fields!(line, Record: Path path: Text, Version version: i32)` reads the fields of a record in order, each after
-/// its word.
+/// `fields_of!(R, read_fields, line, R)` reads the fields of the record in order, each after its word.
 macro_rules! read_fields {
-    ($line:ident, $record:ident: $($word:ident $field:ident: $item:ty),+) => {{
-        $(let $field = read_field($line, Word::$word)?;)+
+    ($line:ident, $record:ident: $($field:ident $name:ident $kind:ident),+) => {{
+        $(let $field = read_field($line, field_word!($field))?;)+
         $record { $($field),+ }
     }};
 }

@@ -151,7 +151,7 @@ fn read_message(line: &mut Reader<'_>) -> Result<Message, LineFault>
     if line.passes(b"C ") {
         Ok(Message::Client(whole_client(line)?))
     } else {
-        line.front(b"S ")?;
+        line.literal(b"S ")?;
         Ok(Message::Server(whole_server(line)?))
     }
 }

@@ -1,7 +1,5 @@
 //! Lists of items in a line: written, owned or borrowed, and read.
 ghost use Rattle.std.specs.Prelude.{◌≡◌, ◌+◌, ◌++◌, ◌∷◌, [], List, length, IfSome, OnOk, OnSome};
-ghost use Rattle.std.specs.Iterator.{YieldsFirst};
-ghost use Rattle.std.specs.Slice.Iter.{iter_rest};
 ghost use Rattle.std.specs.List.{flat_map, AllByRecursion};
 ghost use Rattle.zk_jute.specs.Values.{list_items};
 ghost use Rattle.zk_items.specs.Copied.{Copied};
@@ -14,10 +12,8 @@ use crate::copies::{Copies, append};
 use crate::item::Item;
 use crate::put::Put;
 use std::alloc::{AllocError, Global};
-use std::marker::Model;
-use std::slice::Iter;
 use zk_items::{LineFault, LineReason, Reader, set_count};
-use zk_jute::{Element, Elements, Items, KnownPayload, List, Series, Stands};
+use zk_jute::{Decode, Element, Items, KnownPayload, Left, Lent, List, Series};
 
 /// The sign between the items, and the sign after the last.
 #[derive(Clone, Copy, Debug, PartialEq, Eq)]
@@ -35,7 +31,7 @@ fn element<T: Item>(line: &mut Reader<'_>, signs: Signs) -> Result<Option<T>, Li
     if line.passes(&[signs.behind]) {
         return Ok(None);
     }
-    line.front(&[signs.between])?;
+    line.literal(&[signs.between])?;
     Ok(Some(T::read(line)?))
 }
 
@@ -78,7 +74,7 @@ fn copy_others<T: Copies>(line: &mut Reader<'_>, signs: Signs, out: &mut Vec<u8>
         if line.passes(&[signs.behind]) {
             return Some(turn + 1);
         }
-        let Ok(()) = line.front(&[signs.between]) else {
+        let Ok(()) = line.literal(&[signs.between]) else {
             return None;
         };
         T::copy(line, out)?;
@@ -115,61 +111,17 @@ fn copy_counted<T: Copies>(line: &mut Reader<'_>, out: &mut Vec<u8>) -> Option<(
     set_count(out, start, count)
 }
 
-/// The items that are left of a list, owned or borrowed.
-pub trait Left: Drop {
-    type One: Put + Drop;
-
-    ghost left: { Self → List Self.One };
-
-    /// Takes the next item; `None` if none is left.
-    fn take(&mut self) -> Option<Self::One>
-        ensures { YieldsFirst left self.old result self.new };
-}
-
-/// An item of an owned list, by reference.
-#[derive(Drop)]
-pub struct Lent<'a, T> {
-    item: &'a T,
-}
-
-impl<'a, T> Model for Lent<'a, T> {
-    ghost Value = { T };
-
-    ghost view = { λ l. l.item.now };
-}
-
 impl<'a, T: Put> Put for Lent<'a, T> {
     ghost form = { T.form };
 
     fn put(&self, out: &mut Vec<u8>) -> Result<(), AllocError> {
-        self.item.put(out)
-    }
-}
-
-impl<'a, T: Put> Left for Iter<'a, T> {
-    type One = Lent<'a, T>;
-
-    ghost left = { iter_rest };
-
-    fn take(&mut self) -> Option<Lent<'a, T>> {
-        match self.next() {
-            None => None,
-            Some(item) => Some(Lent { item }),
-        }
-    }
-}
-
-impl<'a, R: Element + Stands<KnownPayload<'a>> + Put> Left for Elements<'a, R> {
-    type One = R;
-
-    ghost left = { λ items. items };
-
-    fn take(&mut self) -> Option<R> {
-        self.next()
+        self.get().put(out)
     }
 }
 
 fn put_elements<I: Left>(out: &mut Vec<u8>, items: I, sign: u8) -> Result<(), AllocError>
+where
+    I::One: Put,
     ensures spelled { OnOk result (out.new.items ≡ out.old.items ++ flat_map (λ y. sign ∷ I.One.form.spell y) (I.left items)) }
     ensures fits { OnOk result (AllByRecursion I.One.form.fits (I.left items)) }
     ensures keeps { Keeps out.old.items out.new.items }
@@ -184,6 +136,8 @@ fn put_elements<I: Left>(out: &mut Vec<u8>, items: I, sign: u8) -> Result<(), Al
 
 /// Appends the items after the first.
 fn put_others<I: Left>(out: &mut Vec<u8>, items: I, signs: Signs) -> Result<(), AllocError>
+where
+    I::One: Put,
     ensures spelled { OnOk result (out.new.items ≡ out.old.items ++ (flat_map (λ y. signs.between ∷ I.One.form.spell y) (I.left items) ++ (signs.behind ∷ []))) }
     ensures fits { OnOk result (AllByRecursion I.One.form.fits (I.left items)) }
     ensures keeps { Keeps out.old.items out.new.items }
@@ -194,6 +148,8 @@ fn put_others<I: Left>(out: &mut Vec<u8>, items: I, signs: Signs) -> Result<(), 
 
 /// Appends the items that are left, with a sign between two and one after the last.
 pub fn put_series<I: Left>(out: &mut Vec<u8>, items: I, signs: Signs) -> Result<(), AllocError>
+where
+    I::One: Put,
     ensures spelled { OnOk result (out.new.items ≡ out.old.items ++ series_spell signs.between signs.behind I.One.form.spell (I.left items)) }
     ensures fits { OnOk result (AllByRecursion I.One.form.fits (I.left items)) }
     ensures keeps { Keeps out.old.items out.new.items }
@@ -234,7 +190,7 @@ impl<T: Item> Item for List<T> {
         if line.passes(b"~") {
             return Ok(List::Null);
         }
-        line.front(b"[")?;
+        line.literal(b"[")?;
         Ok(List::Full(read_series(line, COMMAS)?))
     }
 }
@@ -244,14 +200,14 @@ impl<T: Copies> Copies for List<T> {
         if line.passes(b"~") {
             return append(out, &-1_i32);
         }
-        let Ok(()) = line.front(b"[") else {
+        let Ok(()) = line.literal(b"[") else {
             return None;
         };
         copy_counted::<T>(line, out)
     }
 }
 
-impl<'a, R: Element + Stands<KnownPayload<'a>> + Put> Put for Series<'a, R> {
+impl<'a, R: Element + Decode<KnownPayload<'a>> + Put> Put for Series<'a, R> {
     ghost form = { list_of R.form };
 
     /// Appends `~`, or the items between brackets, with commas between them.

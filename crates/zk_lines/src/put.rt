@@ -33,14 +33,13 @@ pub fn put_field<T: Put>(out: &mut Vec<u8>, word: Word, value: &T) -> Result<(),
     value.put(out)
 }
 
-/// `put_fields!(out, record: Path path: Text, Version version: i32)` appends these fields of a record in order, each after
-/// its word.
+/// `fields_of!(R, put_fields, out, record)` appends the fields of the record in order, each after its word.
 macro_rules! put_fields {
-    ($out:ident, $record:ident: $word:ident $field:ident: $item:ty) => {
-        put_field($out, Word::$word, &$record.$field)
+    ($out:ident, $record:ident: $field:ident $name:ident $kind:ident) => {
+        put_field($out, field_word!($field), &$record.$field)
     };
-    ($out:ident, $record:ident: $word:ident $field:ident: $item:ty, $($rest:tt)+) => {{
-        put_field($out, Word::$word, &$record.$field)?;
+    ($out:ident, $record:ident: $field:ident $name:ident $kind:ident, $($rest:tt)+) => {{
+        put_field($out, field_word!($field), &$record.$field)?;
         put_fields!($out, $record: $($rest)+)
     }};
 }

@@ -38,6 +38,33 @@ pub enum Word {
     Zxid,
 }
 
+/// The word before a field, by the field's name in its record.
+macro_rules! field_word {
+    (acl) => { Word::Acl };
+    (auth) => { Word::Auth };
+    (blob) => { Word::Blob };
+    (child_watches) => { Word::ChildWatches };
+    (data_watches) => { Word::DataWatches };
+    (exist_watches) => { Word::ExistWatches };
+    (flags) => { Word::Flags };
+    (kind) => { Word::Kind };
+    (last_zxid_seen) => { Word::Zxid };
+    (names) => { Word::Names };
+    (passwd) => { Word::Passwd };
+    (path) => { Word::Path };
+    (protocol_version) => { Word::Version };
+    (scheme) => { Word::Scheme };
+    (session_id) => { Word::Session };
+    (stat) => { Word::Stat };
+    (state) => { Word::State };
+    (time_out) => { Word::Timeout };
+    (version) => { Word::Version };
+    (watch) => { Word::Watch };
+    (zxid) => { Word::Zxid };
+}
+
+pub(crate) use field_word;
+
 /// The bytes of a word.
 #[inline(always)]
 #[tactic(auto, unfolding(crate::specs::Words::word_of))]
@@ -89,5 +116,5 @@ pub fn put_word(out: &mut Vec<u8>, word: Word) -> Result<(), AllocError>
 pub fn read_word(line: &mut Reader<'_>, word: Word) -> Result<(), LineFault>
     ensures { Passes result line.new (word_at (word_of word) line.old) }
 {
-    line.front(word_bytes(word))
+    line.literal(word_bytes(word))
 }

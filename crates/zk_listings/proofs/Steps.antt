@@ -15,7 +15,7 @@ use Rattle.zk_listings.specs.declared.summary.Summary.TheVariants.{Ended, Broken
 use Rattle.zk_listings.specs.Lines.{text_of}
 use Rattle.zk_recordings.specs.Recording.{Recording, place_of, history_of, limits_of}
 use Rattle.zk_recordings.specs.Reading.{IsAt, IsDecidedBy, IsHeaded, ReadsOn, content_of}
-use Rattle.zk_listings.specs.Following.{Follows, Talks, Gives, Decides, Advances}
+use Rattle.zk_listings.specs.Following.{Follows, Talks, TakesContent, Decides, Advances}
 use Rattle.zk_listings.proofs.Stops.{decides-by_fault, decides-by_damage}
 use Rattle.zk_listings.proofs.Decided.{broken-by}
 use Rattle.zk_listings.proofs.Talking.{Given, given, has-good}
@@ -23,7 +23,7 @@ use Rattle.zk_listings.proofs.Talking.{Given, given, has-good}
 module _ (listing : Listing) (p : Progress) (lines lines_now block : List ℕ) (used : ℕ) (side : Option Side) (state : ReaderState) (now_limits : Limits) (refused : Option Fault) (talk : Option TalkState)
     (reads : (x : List ℕ) (r : Recording) → IsAt p.reader x r → ReadsOn state x r (take used block) side)
     (limits_are : (x : List ℕ) (r : Recording) → IsAt state x r → IsHeaded (place_of r) → now_limits ≡ limits_of p.limits r)
-    (gives : Gives now_limits listing p.talk lines (content_of side (take used block)) refused talk lines_now)
+    (gives : TakesContent now_limits listing p.talk lines (content_of side (take used block)) refused talk lines_now)
     (same : side ≡ None → talk ≡ p.talk) where
   comes : (limits : Limits) (x : List ℕ) (messages : List Message) (i : Follows limits x messages p) → (other : Option Fault) → refused ≡ other →
       Given limits now_limits i.recording (reads x i.recording i.at).new (take used block) listing lines lines_now messages other talk
@@ -31,7 +31,7 @@ module _ (listing : Listing) (p : Progress) (lines lines_now block : List ℕ) (
       let r = reads x i.recording i.at in
       given limits now_limits i.recording r.new (take used block) listing lines lines_now messages other side p.talk talk r.goes_on
       (λ is. limits_are _ r.new r.is is ∙ ap (λ l. limits_of l r.new) i.options) i.talks
-      (subst (λ z. Gives now_limits listing p.talk lines (content_of side (take used block)) z talk lines_now) e gives) same
+      (subst (λ z. TakesContent now_limits listing p.talk lines (content_of side (take used block)) z talk lines_now) e gives) same
 
   -- this stands, whatever follows the block
   abbrev pub Finds : Summary → Type 0

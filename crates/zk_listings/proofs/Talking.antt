@@ -13,7 +13,7 @@ use Rattle.zk_recordings.specs.Recording.{piece_history, Place, AtLetters, InHea
 use Rattle.zk_recordings.specs.Reading.{content_of, IsHeaded, IsBare, GoesOn, in_head, within, ends}
 use Rattle.zk_listings.specs.Lines.{text_of}
 use Rattle.zk_listings.specs.Outcome.{IsGoodWith}
-use Rattle.zk_listings.specs.Following.{Has, IsHeadedBy, Talks, HasOr, Judges, Takes, Gives}
+use Rattle.zk_listings.specs.Following.{Has, IsHeadedBy, Talks, HasOr, Judges, Takes, TakesContent}
 use Rattle.zk_recordings.proofs.Lists.{flat_map-snoc}
 use Rattle.zk_listings.proofs.Feeding.{good-here}
 
@@ -94,7 +94,7 @@ begun-stands limits None t h messages begun has = (subst (λ z. Stands t z messa
 begun-stands limits (Some o) t h messages begun has = subst (λ z. Stands z h messages × (z.limits ≡ limits)) (sym begun) has
 
 pub gives-by : (limits : Limits) (listing : Listing) (old : Option TalkState) (t u : TalkState) (lines lines_now : List ℕ) (bytes : History) (refused : Option Fault) →
-    MatchOption old ((t.limits ≡ limits) × Stands t [] []) (λ o. t ≡ o) → u.limits ≡ t.limits → Takes listing t lines bytes refused u lines_now → Gives limits listing old lines bytes refused (Some u) lines_now
+    MatchOption old ((t.limits ≡ limits) × Stands t [] []) (λ o. t ≡ o) → u.limits ≡ t.limits → Takes listing t lines bytes refused u lines_now → TakesContent limits listing old lines bytes refused (Some u) lines_now
 gives-by limits listing old t u lines lines_now bytes refused begun same takes h messages has =
     let s = begun-stands limits old t h messages begun has in
     let r = takes h messages s.0 in
@@ -123,14 +123,14 @@ module _ (options now : Limits) (r new : Recording) (used : List ℕ) (listing :
   Given talk = (more : List Message) × TalksOr options new (messages ++ more) talk refused × (lines_now ≡ lines ++ text_of listing more)
 
   given-headed : (side : Option Side) (old talk : Option TalkState) → GoesOn r used side new → IsHeaded (place_of new) → now ≡ limits_of options new → Has now old (history_of r) messages →
-      Gives now listing old lines (content_of side used) refused talk lines_now → Given talk
+      TakesContent now listing old lines (content_of side used) refused talk lines_now → Given talk
   given-headed side old talk goes is e has gives =
       let g = gives (history_of r) messages has in
       let here = subst (λ h. HasOr now talk refused h (messages ++ g.0)) (sym (goes-history r new used side goes)) g.1 in
       (g.0, talks-or options new (messages ++ g.0) talk refused is (subst (λ l. HasOr l talk refused (history_of new) (messages ++ g.0)) e here), g.2)
 
   pub given : (side : Option Side) (old talk : Option TalkState) → GoesOn r used side new → (IsHeaded (place_of new) → now ≡ limits_of options new) → Talks options r messages old →
-      Gives now listing old lines (content_of side used) refused talk lines_now → (side ≡ None → talk ≡ old) → Given talk
+      TakesContent now listing old lines (content_of side used) refused talk lines_now → (side ≡ None → talk ≡ old) → Given talk
   given side (Some t) talk goes limits_are talks gives same =
       let stays = goes-headed r new used side goes talks.headed in
       let e = limits_are stays.headed in

@@ -100,8 +100,8 @@ abbrev pub HasOr : Limits → Option TalkState → Option Fault → History → 
 HasOr limits talk None h messages = Has limits talk h messages
 HasOr limits talk (Some fault) h messages = HasRefused limits talk h messages fault
 
-abbrev pub Gives : Limits → Listing → Option TalkState → List ℕ → History → Option Fault → Option TalkState → List ℕ → Type 0
-Gives limits listing old lines bytes refused new lines_now = (h : History) (messages : List Message) → Has limits old h messages →
+abbrev pub TakesContent : Limits → Listing → Option TalkState → List ℕ → History → Option Fault → Option TalkState → List ℕ → Type 0
+TakesContent limits listing old lines bytes refused new lines_now = (h : History) (messages : List Message) → Has limits old h messages →
     (more : List Message) × HasOr limits new refused (h ++ bytes) (messages ++ more) × (lines_now ≡ lines ++ text_of listing more)
 
 -- ---- what a block does to a recording that is read

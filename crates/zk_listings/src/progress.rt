@@ -9,7 +9,7 @@ ghost use Rattle.zk_answers.specs.declared.layout.Layout.TheVariants as layouts;
 ghost use Rattle.zk_listings.specs.declared.listing.Listing.TheVariants.{All, Last};
 ghost use Rattle.zk_listings.specs.Earliest.{TellsBody};
 ghost use Rattle.zk_recordings.specs.Reading.{content_of, place_in};
-ghost use Rattle.zk_listings.specs.Following.{Follows, Finishes, HasRefused, Takes, TakesTo, Gives, Has, Advances, Steps};
+ghost use Rattle.zk_listings.specs.Following.{Follows, Finishes, HasRefused, Takes, TakesTo, TakesContent, Has, Advances, Steps};
 
 use crate::listing::{Listing, tell};
 use crate::summary::Summary;
@@ -26,7 +26,7 @@ pub fn rest(bytes: &[u8], at: usize) -> &[u8]
     &bytes[at..]
 }
 
-/// Gives bytes of one side to the conversation, and appends no line.
+/// TakesContent bytes of one side to the conversation, and appends no line.
 #[inline(always)]
 fn pass_all(talk: &mut Talk, side: Side, bytes: &[u8]) -> Option<Fault>
     ensures limits { talk.new.limits ≡ talk.old.limits }
@@ -55,7 +55,7 @@ fn judge(talk: &mut Talk, side: Side, bytes: &[u8]) -> Option<Fault>
     }
 }
 
-/// Gives bytes of one side to the conversation, and appends the lines of its messages, each borrowed from its frame.
+/// TakesContent bytes of one side to the conversation, and appends the lines of its messages, each borrowed from its frame.
 fn list(
     talk: &mut Talk,
     side: Side,
@@ -77,9 +77,9 @@ fn list(
     Ok(None)
 }
 
-/// Gives bytes of one side to the conversation, and appends what `listing` has of its messages.
+/// TakesContent bytes of one side to the conversation, and appends what `listing` has of its messages.
 #[inline(always)]
-fn feed(
+fn take(
     talk: &mut Talk,
     side: Side,
     bytes: &[u8],
@@ -95,10 +95,10 @@ fn feed(
     }
 }
 
-/// `feed`; `found` becomes the summary of a fault.
-// A call of its own, so that what `feed` returns is made only there.
+/// `take`; `found` becomes the summary of a fault.
+// A call of its own, so that what `take` returns is made only there.
 #[inline(never)]
-fn feed_into(
+fn take_to(
     talk: &mut Talk,
     side: Side,
     bytes: &[u8],
@@ -110,7 +110,7 @@ fn feed_into(
     ensures limits { talk.new.limits ≡ talk.old.limits }
     ensures taken { IfOk result (λ _. TakesTo listing talk.old lines.old.items (on side bytes.now) found.new talk.new lines.new.items) }
 {
-    match feed(talk, side, bytes, listing, lines)? {
+    match take(talk, side, bytes, listing, lines)? {
         Some(refused) => {
             *found = Some(Summary::Ended(Ending::Refused(refused)));
             Ok(())
@@ -119,10 +119,10 @@ fn feed_into(
     }
 }
 
-/// `feed_into`, whose first frame, where no lines are listed, is passed here.
+/// `take_to`, whose first frame, where no lines are listed, is passed here.
 // Most pieces are one frame, of which no result in memory is made.
 #[inline(always)]
-fn feed_piece(
+fn take_piece(
     talk: &mut Talk,
     side: Side,
     bytes: &[u8],
@@ -135,14 +135,14 @@ fn feed_piece(
     ensures taken { IfOk result (λ _. TakesTo listing talk.old lines.old.items (on side bytes.now) found.new talk.new lines.new.items) }
 {
     match listing {
-        Listing::All => feed_into(talk, side, bytes, listing, lines, found),
+        Listing::All => take_to(talk, side, bytes, listing, lines, found),
         Listing::Last => match talk.pass(side, bytes) {
             Ok(stepped) => {
                 if stepped.used == bytes.len() {
                     return Ok(());
                 }
                 let behind = rest(bytes, stepped.used);
-                feed_into(talk, side, behind, listing, lines, found)
+                take_to(talk, side, behind, listing, lines, found)
             }
             Err(fault) => {
                 *found = Some(Summary::Ended(Ending::Refused(fault)));
@@ -152,9 +152,9 @@ fn feed_piece(
     }
 }
 
-/// Gives the first bytes of a block to the conversation, if they are content of a side. The conversation begins with the
+/// TakesContent the first bytes of a block to the conversation, if they are content of a side. The conversation begins with the
 /// first of them, and isn't moved after that.
-fn give(
+fn take_content(
     alloc: Global,
     limits: Limits,
     talk: &mut Option<Talk>,
@@ -163,17 +163,17 @@ fn give(
     listing: Listing,
     lines: &mut Vec<u8>,
 ) -> Result<Option<Fault>, AllocError>
-    ensures gives { IfOk result (λ refused. Gives limits listing talk.old lines.old.items (content_of side bytes.now) refused talk.new lines.new.items) }
+    ensures gives { IfOk result (λ refused. TakesContent limits listing talk.old lines.old.items (content_of side bytes.now) refused talk.new lines.new.items) }
     ensures same { side ≡ None → talk.new ≡ talk.old }
 {
     let Some(side) = side else {
         return Ok(None);
     };
     match talk {
-        Some(now) => feed(now, side, bytes, listing, lines),
+        Some(now) => take(now, side, bytes, listing, lines),
         None => {
             let mut now = Talk::new(alloc, limits)?;
-            let refused = feed(&mut now, side, bytes, listing, lines)?;
+            let refused = take(&mut now, side, bytes, listing, lines)?;
             *talk = Some(now);
             Ok(refused)
         }
@@ -223,7 +223,7 @@ impl Progress {
         let run = self.reader.next(block);
         let limits = self.reader.limits(self.limits);
         let bytes = &block[..run.used];
-        let refused = give(
+        let refused = take_content(
             self.alloc,
             limits,
             &mut self.talk,
@@ -263,7 +263,7 @@ impl Progress {
         if let Some(talk) = &mut self.talk {
             if let Some(piece) = self.reader.next_piece(block) {
                 let content = &block[piece.head..piece.used];
-                feed_piece(talk, piece.side, content, listing, lines, found)?;
+                take_piece(talk, piece.side, content, listing, lines, found)?;
                 return Ok(piece.used);
             }
         }

@@ -1,159 +1,128 @@
 -- Items of a record's layout are some record's.
-use Rattle.zk_jute.specs.Wired.{int, long, boolean, ustring, buffer, vector}
-use Rattle.zk_records.specs.Records.{id, acl, stat, connect_request, connect_response, request_header, reply_header, multi_header, watcher_event, create_ask, delete_ask, watch_ask, set_data_ask, path_ask, set_acl_ask, auth_ask, set_watches_ask, check_ask, data_body, acl_body, children_body, create_body}
+use Rattle.std.proofs.Common.{◌≡◌, subst, ◌∙◌, refl}
+use Rattle.std.specs.Prelude.{ℤ, Bool}
+use Rattle.zk_jute.specs.Held.{Text, Blob, Vector}
+use Rattle.zk_records.specs.Held.{Id, Acl}
+use Rattle.zk_records.specs.declared.stat.Stat.{Stat}
+use Rattle.zk_jute.specs.Layout.{Unfolds}
+use Rattle.zk_jute.specs.Wired.{Wired, ◌and◌, int, long, boolean, ustring, buffer, vector}
 use Rattle.zk_jute.proofs.Covers.{Covers, field, joined, int_covered, long_covered, bool_covered, text_covered, blob_covered, vector_covered}
+use Rattle.zk_records.specs.Made as made
+use Rattle.zk_records.specs.Records.{id, acl, stat, connect_request, connect_response, request_header, reply_header, multi_header, watcher_event, create_ask, delete_ask, watch_ask, set_data_ask, path_ask, set_acl_ask, auth_ask, set_watches_ask, check_ask, data_body, acl_body, children_body, create_body}
+
+-- a type of value whose layout's items are all some value's
+record Covering (X : Type 0) : Type 0 where
+  of : Wired X
+  covers : Covers of
+
+both_covered : {X Y : Type 0} (v : Wired X) (w : Wired Y) → Covers v → Covers w → Covers (v and w)
+both_covered v w p q items u =
+    let a = field v p w.layout items u in
+    let b = q a.1 a.2 in
+    ((a.0, b.0), joined (v.items a.0) a.1 (w.items b.0) items b.1 a.3)
+
+infixr 20 ◌both◌
+abbrev ◌both◌ : {X Y : Type 0} → Covering X → Covering Y → Covering (X × Y)
+v both w = record { of = v.of and w.of; covers = both_covered v.of w.of v.covers w.covers }
+
+-- a record that is made of a value with its layout and its items
+abbrev Makes : {X Y : Type 0} → Wired X → Wired Y → (X → Y) → Type 0
+Makes {X} v w make = (w.layout ≡ v.layout) × ((x : X) → w.items (make x) ≡ v.items x)
+
+by : {X Y : Type 0} (v : Covering X) (w : Wired Y) (make : X → Y) → Makes v.of w make → Covers w
+by v w make m items u =
+    let x = v.covers items (subst (λ l. Unfolds l items) m.0 u) in
+    (make x.0, m.1 x.0 ∙ x.1)
+
+abbrev an_int : Covering ℤ
+an_int = record { of = int; covers = int_covered }
+
+abbrev a_long : Covering ℤ
+a_long = record { of = long; covers = long_covered }
+
+abbrev a_boolean : Covering Bool
+a_boolean = record { of = boolean; covers = bool_covered }
+
+abbrev a_text : Covering Text
+a_text = record { of = ustring; covers = text_covered }
+
+abbrev a_blob : Covering Blob
+a_blob = record { of = buffer; covers = blob_covered }
+
+abbrev texts : Covering (Vector Text)
+texts = record { of = vector ustring; covers = vector_covered ustring text_covered }
 
 pub id_covered : Covers id
-id_covered items u =
-    let a = field ustring text_covered _ items u in
-    let b = text_covered a.1 a.2 in
-    (record { scheme = a.0; ident = b.0 }, joined (ustring.items a.0) a.1 _ items (b.1) a.3)
+id_covered = by (a_text both a_text) id made.id (refl, λ x. refl)
+
+abbrev an_id : Covering Id
+an_id = record { of = id; covers = id_covered }
 
 pub acl_covered : Covers acl
-acl_covered items u =
-    let a = field int int_covered _ items u in
-    let b = id_covered a.1 a.2 in
-    (record { perms = a.0; who = b.0 }, joined (int.items a.0) a.1 _ items (b.1) a.3)
+acl_covered = by (an_int both an_id) acl made.acl (refl, λ x. refl)
+
+abbrev rights : Covering (Vector Acl)
+rights = record { of = vector acl; covers = vector_covered acl acl_covered }
 
 pub stat_covered : Covers stat
-stat_covered items u =
-    let a = field long long_covered _ items u in
-    let b = field long long_covered _ a.1 a.2 in
-    let c = field long long_covered _ b.1 b.2 in
-    let d = field long long_covered _ c.1 c.2 in
-    let e = field int int_covered _ d.1 d.2 in
-    let f = field int int_covered _ e.1 e.2 in
-    let g = field int int_covered _ f.1 f.2 in
-    let h = field long long_covered _ g.1 g.2 in
-    let i = field int int_covered _ h.1 h.2 in
-    let j = field int int_covered _ i.1 i.2 in
-    let k = long_covered j.1 j.2 in
-    (record { czxid = a.0; mzxid = b.0; ctime = c.0; mtime = d.0; version = e.0; cversion = f.0; aversion = g.0; ephemeral_owner = h.0; data_length = i.0; num_children = j.0; pzxid = k.0 }, joined (long.items a.0) a.1 _ items (joined (long.items b.0) b.1 _ a.1 (joined (long.items c.0) c.1 _ b.1 (joined (long.items d.0) d.1 _ c.1 (joined (int.items e.0) e.1 _ d.1 (joined (int.items f.0) f.1 _ e.1 (joined (int.items g.0) g.1 _ f.1 (joined (long.items h.0) h.1 _ g.1 (joined (int.items i.0) i.1 _ h.1 (joined (int.items j.0) j.1 _ i.1 (k.1) j.3) i.3) h.3) g.3) f.3) e.3) d.3) c.3) b.3) a.3)
+stat_covered = by (a_long both a_long both a_long both a_long both an_int both an_int both an_int both a_long both an_int both an_int both a_long) stat made.stat (refl, λ x. refl)
+
+abbrev a_stat : Covering Stat
+a_stat = record { of = stat; covers = stat_covered }
 
 pub connect_request_covered : Covers connect_request
-connect_request_covered items u =
-    let a = field int int_covered _ items u in
-    let b = field long long_covered _ a.1 a.2 in
-    let c = field int int_covered _ b.1 b.2 in
-    let d = field long long_covered _ c.1 c.2 in
-    let e = blob_covered d.1 d.2 in
-    (record { protocol_version = a.0; last_zxid_seen = b.0; time_out = c.0; session_id = d.0; passwd = e.0 }, joined (int.items a.0) a.1 _ items (joined (long.items b.0) b.1 _ a.1 (joined (int.items c.0) c.1 _ b.1 (joined (long.items d.0) d.1 _ c.1 (e.1) d.3) c.3) b.3) a.3)
+connect_request_covered = by (an_int both a_long both an_int both a_long both a_blob) connect_request made.connect_request (refl, λ x. refl)
 
 pub connect_response_covered : Covers connect_response
-connect_response_covered items u =
-    let a = field int int_covered _ items u in
-    let b = field int int_covered _ a.1 a.2 in
-    let c = field long long_covered _ b.1 b.2 in
-    let d = blob_covered c.1 c.2 in
-    (record { protocol_version = a.0; time_out = b.0; session_id = c.0; passwd = d.0 }, joined (int.items a.0) a.1 _ items (joined (int.items b.0) b.1 _ a.1 (joined (long.items c.0) c.1 _ b.1 (d.1) c.3) b.3) a.3)
+connect_response_covered = by (an_int both an_int both a_long both a_blob) connect_response made.connect_response (refl, λ x. refl)
 
 pub request_header_covered : Covers request_header
-request_header_covered items u =
-    let a = field int int_covered _ items u in
-    let b = int_covered a.1 a.2 in
-    (record { xid = a.0; kind = b.0 }, joined (int.items a.0) a.1 _ items (b.1) a.3)
+request_header_covered = by (an_int both an_int) request_header made.request_header (refl, λ x. refl)
 
 pub reply_header_covered : Covers reply_header
-reply_header_covered items u =
-    let a = field int int_covered _ items u in
-    let b = field long long_covered _ a.1 a.2 in
-    let c = int_covered b.1 b.2 in
-    (record { xid = a.0; zxid = b.0; err = c.0 }, joined (int.items a.0) a.1 _ items (joined (long.items b.0) b.1 _ a.1 (c.1) b.3) a.3)
+reply_header_covered = by (an_int both a_long both an_int) reply_header made.reply_header (refl, λ x. refl)
 
 pub multi_header_covered : Covers multi_header
-multi_header_covered items u =
-    let a = field int int_covered _ items u in
-    let b = field boolean bool_covered _ a.1 a.2 in
-    let c = int_covered b.1 b.2 in
-    (record { kind = a.0; done = b.0; err = c.0 }, joined (int.items a.0) a.1 _ items (joined (boolean.items b.0) b.1 _ a.1 (c.1) b.3) a.3)
+multi_header_covered = by (an_int both a_boolean both an_int) multi_header made.multi_header (refl, λ x. refl)
 
 pub watcher_event_covered : Covers watcher_event
-watcher_event_covered items u =
-    let a = field int int_covered _ items u in
-    let b = field int int_covered _ a.1 a.2 in
-    let c = text_covered b.1 b.2 in
-    (record { kind = a.0; state = b.0; path = c.0 }, joined (int.items a.0) a.1 _ items (joined (int.items b.0) b.1 _ a.1 (c.1) b.3) a.3)
+watcher_event_covered = by (an_int both an_int both a_text) watcher_event made.watcher_event (refl, λ x. refl)
 
 pub create_ask_covered : Covers create_ask
-create_ask_covered items u =
-    let a = field ustring text_covered _ items u in
-    let b = field buffer blob_covered _ a.1 a.2 in
-    let c = field (vector acl) (vector_covered acl acl_covered) _ b.1 b.2 in
-    let d = int_covered c.1 c.2 in
-    (record { path = a.0; blob = b.0; acl = c.0; flags = d.0 }, joined (ustring.items a.0) a.1 _ items (joined (buffer.items b.0) b.1 _ a.1 (joined ((vector acl).items c.0) c.1 _ b.1 (d.1) c.3) b.3) a.3)
+create_ask_covered = by (a_text both a_blob both rights both an_int) create_ask made.create_ask (refl, λ x. refl)
 
 pub delete_ask_covered : Covers delete_ask
-delete_ask_covered items u =
-    let a = field ustring text_covered _ items u in
-    let b = int_covered a.1 a.2 in
-    (record { path = a.0; version = b.0 }, joined (ustring.items a.0) a.1 _ items (b.1) a.3)
-
-pub watch_ask_covered : Covers watch_ask
-watch_ask_covered items u =
-    let a = field ustring text_covered _ items u in
-    let b = bool_covered a.1 a.2 in
-    (record { path = a.0; watch = b.0 }, joined (ustring.items a.0) a.1 _ items (b.1) a.3)
+delete_ask_covered = by (a_text both an_int) delete_ask made.delete_ask (refl, λ x. refl)
 
 pub set_data_ask_covered : Covers set_data_ask
-set_data_ask_covered items u =
-    let a = field ustring text_covered _ items u in
-    let b = field buffer blob_covered _ a.1 a.2 in
-    let c = int_covered b.1 b.2 in
-    (record { path = a.0; blob = b.0; version = c.0 }, joined (ustring.items a.0) a.1 _ items (joined (buffer.items b.0) b.1 _ a.1 (c.1) b.3) a.3)
-
-pub path_ask_covered : Covers path_ask
-path_ask_covered items u =
-    let a = text_covered items u in
-    (record { path = a.0 }, a.1)
+set_data_ask_covered = by (a_text both a_blob both an_int) set_data_ask made.set_data_ask (refl, λ x. refl)
 
 pub set_acl_ask_covered : Covers set_acl_ask
-set_acl_ask_covered items u =
-    let a = field ustring text_covered _ items u in
-    let b = field (vector acl) (vector_covered acl acl_covered) _ a.1 a.2 in
-    let c = int_covered b.1 b.2 in
-    (record { path = a.0; acl = b.0; version = c.0 }, joined (ustring.items a.0) a.1 _ items (joined ((vector acl).items b.0) b.1 _ a.1 (c.1) b.3) a.3)
-
-pub auth_ask_covered : Covers auth_ask
-auth_ask_covered items u =
-    let a = field int int_covered _ items u in
-    let b = field ustring text_covered _ a.1 a.2 in
-    let c = blob_covered b.1 b.2 in
-    (record { kind = a.0; scheme = b.0; auth = c.0 }, joined (int.items a.0) a.1 _ items (joined (ustring.items b.0) b.1 _ a.1 (c.1) b.3) a.3)
-
-pub set_watches_ask_covered : Covers set_watches_ask
-set_watches_ask_covered items u =
-    let a = field long long_covered _ items u in
-    let b = field (vector ustring) (vector_covered ustring text_covered) _ a.1 a.2 in
-    let c = field (vector ustring) (vector_covered ustring text_covered) _ b.1 b.2 in
-    let d = (vector_covered ustring text_covered) c.1 c.2 in
-    (record { zxid = a.0; data_watches = b.0; exist_watches = c.0; child_watches = d.0 }, joined (long.items a.0) a.1 _ items (joined ((vector ustring).items b.0) b.1 _ a.1 (joined ((vector ustring).items c.0) c.1 _ b.1 (d.1) c.3) b.3) a.3)
+set_acl_ask_covered = by (a_text both rights both an_int) set_acl_ask made.set_acl_ask (refl, λ x. refl)
 
 pub check_ask_covered : Covers check_ask
-check_ask_covered items u =
-    let a = field ustring text_covered _ items u in
-    let b = int_covered a.1 a.2 in
-    (record { path = a.0; version = b.0 }, joined (ustring.items a.0) a.1 _ items (b.1) a.3)
+check_ask_covered = by (a_text both an_int) check_ask made.check_ask (refl, λ x. refl)
+
+pub watch_ask_covered : Covers watch_ask
+watch_ask_covered = by (a_text both a_boolean) watch_ask made.watch_ask (refl, λ x. refl)
+
+pub path_ask_covered : Covers path_ask
+path_ask_covered = by a_text path_ask made.path_ask (refl, λ x. refl)
+
+pub auth_ask_covered : Covers auth_ask
+auth_ask_covered = by (an_int both a_text both a_blob) auth_ask made.auth_ask (refl, λ x. refl)
+
+pub set_watches_ask_covered : Covers set_watches_ask
+set_watches_ask_covered = by (a_long both texts both texts both texts) set_watches_ask made.set_watches_ask (refl, λ x. refl)
 
 pub data_body_covered : Covers data_body
-data_body_covered items u =
-    let a = field buffer blob_covered _ items u in
-    let b = stat_covered a.1 a.2 in
-    (record { blob = a.0; stat = b.0 }, joined (buffer.items a.0) a.1 _ items (b.1) a.3)
+data_body_covered = by (a_blob both a_stat) data_body made.data_body (refl, λ x. refl)
 
 pub acl_body_covered : Covers acl_body
-acl_body_covered items u =
-    let a = field (vector acl) (vector_covered acl acl_covered) _ items u in
-    let b = stat_covered a.1 a.2 in
-    (record { acl = a.0; stat = b.0 }, joined ((vector acl).items a.0) a.1 _ items (b.1) a.3)
+acl_body_covered = by (rights both a_stat) acl_body made.acl_body (refl, λ x. refl)
 
 pub children_body_covered : Covers children_body
-children_body_covered items u =
-    let a = field (vector ustring) (vector_covered ustring text_covered) _ items u in
-    let b = stat_covered a.1 a.2 in
-    (record { names = a.0; stat = b.0 }, joined ((vector ustring).items a.0) a.1 _ items (b.1) a.3)
+children_body_covered = by (texts both a_stat) children_body made.children_body (refl, λ x. refl)
 
 pub create_body_covered : Covers create_body
-create_body_covered items u =
-    let a = field ustring text_covered _ items u in
-    let b = stat_covered a.1 a.2 in
-    (record { path = a.0; stat = b.0 }, joined (ustring.items a.0) a.1 _ items (b.1) a.3)
+create_body_covered = by (a_text both a_stat) create_body made.create_body (refl, λ x. refl)

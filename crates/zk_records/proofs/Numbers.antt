@@ -1,6 +1,8 @@
 -- Each operation and each part has a number of its own.
-use Rattle.std.specs.Prelude.{◌≡◌, ◌≢◌, ◌↔◌, ℤ, pos, List, [], ◌∷◌, map, Option, Some, refl}
-use Rattle.std.proofs.Common.{sym, ap, ◌∙◌}
+use Rattle.std.specs.Prelude.{◌≡◌, ◌≢◌, ◌↔◌, ℤ, pos, List, [], ◌∷◌, map, Option, Some, IfSome, refl}
+use Rattle.std.specs.List.{All}
+use Rattle.std.proofs.Common.{sym, ap, subst, ◌∙◌}
+use Rattle.std.proofs.lemmas.Map.Views.{IfSome-lookup_from_All}
 use Rattle.std.specs.Map.{lookup}
 use Rattle.std.specs.Ordering.{int_eq}
 use Rattle.zk_records.specs.declared.op.Op.{Op}
@@ -35,21 +37,11 @@ op_rows = map (λ op. (op_number op, op)) every_op
 
 op_again : (op : Op) → lookup (int_eq (op_number op)) op_rows ≡ Some op
 op_again ops.Create = refl
-op_again ops.Delete = refl
-op_again ops.Exists = refl
-op_again ops.GetData = refl
-op_again ops.SetData = refl
-op_again ops.GetAcl = refl
-op_again ops.SetAcl = refl
-op_again ops.GetChildren = refl
-op_again ops.Sync = refl
-op_again ops.Ping = refl
-op_again ops.GetChildren2 = refl
-op_again ops.Multi = refl
-op_again ops.Create2 = refl
-op_again ops.Auth = refl
-op_again ops.SetWatches = refl
-op_again ops.CloseSession = refl
+op_again _ = refl
+
+-- what holds of each one in the list holds of each operation
+pub each_op : (P : Op → Type 0) → All P every_op → (op : Op) → P op
+each_op P all op = subst (λ (o : Option Op). IfSome o P) (op_again op) (IfSome-lookup_from_All P (int_eq (op_number op)) op_rows all)
 
 pub op_number_apart : (a b : Op) → op_number a ≡ op_number b → a ≡ b
 op_number_apart a b e =
@@ -60,19 +52,18 @@ op_number_apart a b e =
 pub older_number : (op : Op) → HasOp profiles.V34 op ↔ (op_number op ≢ pos 15)
 older_number op = ((λ other e. other (op_number_apart op ops.Create2 e)), (λ other e. other (ap op_number e)))
 
+abbrev pub every_part : List PartOp
+every_part = parts.Create ∷ parts.Delete ∷ parts.SetData ∷ parts.Check ∷ []
+
 abbrev part_rows : List (ℤ × PartOp)
-part_rows =
-    (pos 1, parts.Create) ∷
-    (pos 2, parts.Delete) ∷
-    (pos 5, parts.SetData) ∷
-    (pos 13, parts.Check) ∷
-    []
+part_rows = map (λ op. (part_number op, op)) every_part
 
 part_again : (op : PartOp) → lookup (int_eq (part_number op)) part_rows ≡ Some op
 part_again parts.Create = refl
-part_again parts.Delete = refl
-part_again parts.SetData = refl
-part_again parts.Check = refl
+part_again _ = refl
+
+pub each_part : (P : PartOp → Type 0) → All P every_part → (op : PartOp) → P op
+each_part P all op = subst (λ (o : Option PartOp). IfSome o P) (part_again op) (IfSome-lookup_from_All P (int_eq (part_number op)) part_rows all)
 
 pub part_number_apart : (a b : PartOp) → part_number a ≡ part_number b → a ≡ b
 part_number_apart a b e =

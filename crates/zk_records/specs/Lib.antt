@@ -1,4 +1,5 @@
 pub mod Listed
+pub mod Made
 pub mod Codes
 pub mod Names
 pub mod Records

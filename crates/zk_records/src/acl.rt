@@ -3,9 +3,10 @@ ghost use Rattle.std.specs.Prelude.{◌≡◌, refl};
 ghost use Rattle.zk_records.specs.Records.{id, acl, id_of, acl_of};
 ghost use Rattle.zk_records.specs.Shown.{acl_value, acl_is_value};
 
-use crate::fields::{decode, ends, fields};
+use crate::fields::{decode, ends, held, pairs};
+use crate::fields_of;
 use zk_jute::{
-    Element, Ends, Form, ItemFault, Origin, Output, Series, Spell, Stands, Text, TextRef, Wire,
+    Decode, Element, Ends, Form, ItemFault, Origin, Output, Series, Spell, Text, TextRef, Wire,
 };
 
 /// Someone under a scheme of authentication: `Id`.
@@ -27,7 +28,7 @@ impl Spell for Id {
     ghost items = { id.items };
 
     fn put<O: Output>(&self, out: &mut O) -> Result<(), O::Error> {
-        fields!(self: scheme, ident).put(out)
+        fields_of!(Id, pairs, self).put(out)
     }
 }
 
@@ -35,16 +36,16 @@ impl<T: Form> Form for IdOf<T> {
     ghost wired = { id_of T.wired };
 }
 
-impl<P: Origin, T: Stands<P>> Stands<P> for IdOf<T> {
+impl<P: Origin, T: Decode<P>> Decode<P> for IdOf<T> {
     fn decode(src: &P, place: usize) -> Result<(Self, usize), ItemFault> {
-        decode!(src, place => IdOf { scheme, ident })
+        fields_of!(Id, decode, src, place, IdOf)
     }
 }
 
 impl<T: Ends> Ends for IdOf<T> {
     #[inline(always)]
     fn end_at(payload: &[u8], place: usize) -> Option<usize> {
-        ends!(payload, place => T, T)
+        fields_of!(Id, ends, payload, place)
     }
 }
 
@@ -71,7 +72,7 @@ impl Spell for Acl {
     ghost items = { acl.items };
 
     fn put<O: Output>(&self, out: &mut O) -> Result<(), O::Error> {
-        fields!(self: perms, who).put(out)
+        fields_of!(Acl, pairs, self).put(out)
     }
 }
 
@@ -79,16 +80,16 @@ impl<W: Form> Form for AclOf<W> {
     ghost wired = { acl_of W.wired };
 }
 
-impl<P: Origin, W: Stands<P>> Stands<P> for AclOf<W> {
+impl<P: Origin, W: Decode<P>> Decode<P> for AclOf<W> {
     fn decode(src: &P, place: usize) -> Result<(Self, usize), ItemFault> {
-        decode!(src, place => AclOf { perms, who })
+        fields_of!(Acl, decode, src, place, AclOf)
     }
 }
 
 impl<W: Ends> Ends for AclOf<W> {
     #[inline(always)]
     fn end_at(payload: &[u8], place: usize) -> Option<usize> {
-        ends!(payload, place => i32, W)
+        fields_of!(Acl, ends, payload, place)
     }
 }
 

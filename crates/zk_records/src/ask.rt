@@ -6,9 +6,10 @@ ghost use Rattle.std.specs.Prelude.{◌≡◌, refl};
 ghost use Rattle.zk_records.specs.Records.{create_ask, delete_ask, set_data_ask, set_acl_ask, check_ask, create_ask_of, delete_ask_of, set_data_ask_of, set_acl_ask_of, check_ask_of};
 
 use crate::acl::{Acl, AclList};
-use crate::fields::{decode, ends, fields};
+use crate::fields::{decode, ends, held, pairs};
+use crate::fields_of;
 use zk_jute::{
-    Blob, BlobRef, Ends, Form, ItemFault, List, Origin, Output, Spell, Stands, Text, TextRef, Wire,
+    Blob, BlobRef, Decode, Ends, Form, ItemFault, List, Origin, Output, Spell, Text, TextRef, Wire,
 };
 
 /// Creates a node: `CreateRequest`.
@@ -34,7 +35,7 @@ impl Spell for CreateAsk {
     ghost items = { create_ask.items };
 
     fn put<O: Output>(&self, out: &mut O) -> Result<(), O::Error> {
-        fields!(self: path, blob, acl, flags).put(out)
+        fields_of!(CreateAsk, pairs, self).put(out)
     }
 }
 
@@ -42,17 +43,17 @@ impl<T: Form, B: Form, A: Form> Form for CreateAskOf<T, B, A> {
     ghost wired = { create_ask_of T.wired B.wired A.wired };
 }
 
-impl<P: Origin, T: Stands<P>, B: Stands<P>, A: Stands<P>> Stands<P> for CreateAskOf<T, B, A> {
+impl<P: Origin, T: Decode<P>, B: Decode<P>, A: Decode<P>> Decode<P> for CreateAskOf<T, B, A> {
     #[inline(always)]
     fn decode(src: &P, place: usize) -> Result<(Self, usize), ItemFault> {
-        decode!(src, place => CreateAskOf { path, blob, acl, flags })
+        fields_of!(CreateAsk, decode, src, place, CreateAskOf)
     }
 }
 
 impl<T: Ends, B: Ends, A: Ends> Ends for CreateAskOf<T, B, A> {
     #[inline(always)]
     fn end_at(payload: &[u8], place: usize) -> Option<usize> {
-        ends!(payload, place => T, B, A, i32)
+        fields_of!(CreateAsk, ends, payload, place)
     }
 }
 
@@ -79,7 +80,7 @@ impl Spell for DeleteAsk {
     ghost items = { delete_ask.items };
 
     fn put<O: Output>(&self, out: &mut O) -> Result<(), O::Error> {
-        fields!(self: path, version).put(out)
+        fields_of!(DeleteAsk, pairs, self).put(out)
     }
 }
 
@@ -87,17 +88,17 @@ impl<T: Form> Form for DeleteAskOf<T> {
     ghost wired = { delete_ask_of T.wired };
 }
 
-impl<P: Origin, T: Stands<P>> Stands<P> for DeleteAskOf<T> {
+impl<P: Origin, T: Decode<P>> Decode<P> for DeleteAskOf<T> {
     #[inline(always)]
     fn decode(src: &P, place: usize) -> Result<(Self, usize), ItemFault> {
-        decode!(src, place => DeleteAskOf { path, version })
+        fields_of!(DeleteAsk, decode, src, place, DeleteAskOf)
     }
 }
 
 impl<T: Ends> Ends for DeleteAskOf<T> {
     #[inline(always)]
     fn end_at(payload: &[u8], place: usize) -> Option<usize> {
-        ends!(payload, place => T, i32)
+        fields_of!(DeleteAsk, ends, payload, place)
     }
 }
 
@@ -126,7 +127,7 @@ impl Spell for SetDataAsk {
     ghost items = { set_data_ask.items };
 
     fn put<O: Output>(&self, out: &mut O) -> Result<(), O::Error> {
-        fields!(self: path, blob, version).put(out)
+        fields_of!(SetDataAsk, pairs, self).put(out)
     }
 }
 
@@ -134,17 +135,17 @@ impl<T: Form, B: Form> Form for SetDataAskOf<T, B> {
     ghost wired = { set_data_ask_of T.wired B.wired };
 }
 
-impl<P: Origin, T: Stands<P>, B: Stands<P>> Stands<P> for SetDataAskOf<T, B> {
+impl<P: Origin, T: Decode<P>, B: Decode<P>> Decode<P> for SetDataAskOf<T, B> {
     #[inline(always)]
     fn decode(src: &P, place: usize) -> Result<(Self, usize), ItemFault> {
-        decode!(src, place => SetDataAskOf { path, blob, version })
+        fields_of!(SetDataAsk, decode, src, place, SetDataAskOf)
     }
 }
 
 impl<T: Ends, B: Ends> Ends for SetDataAskOf<T, B> {
     #[inline(always)]
     fn end_at(payload: &[u8], place: usize) -> Option<usize> {
-        ends!(payload, place => T, B, i32)
+        fields_of!(SetDataAsk, ends, payload, place)
     }
 }
 
@@ -173,7 +174,7 @@ impl Spell for SetAclAsk {
     ghost items = { set_acl_ask.items };
 
     fn put<O: Output>(&self, out: &mut O) -> Result<(), O::Error> {
-        fields!(self: path, acl, version).put(out)
+        fields_of!(SetAclAsk, pairs, self).put(out)
     }
 }
 
@@ -181,17 +182,17 @@ impl<T: Form, A: Form> Form for SetAclAskOf<T, A> {
     ghost wired = { set_acl_ask_of T.wired A.wired };
 }
 
-impl<P: Origin, T: Stands<P>, A: Stands<P>> Stands<P> for SetAclAskOf<T, A> {
+impl<P: Origin, T: Decode<P>, A: Decode<P>> Decode<P> for SetAclAskOf<T, A> {
     #[inline(always)]
     fn decode(src: &P, place: usize) -> Result<(Self, usize), ItemFault> {
-        decode!(src, place => SetAclAskOf { path, acl, version })
+        fields_of!(SetAclAsk, decode, src, place, SetAclAskOf)
     }
 }
 
 impl<T: Ends, A: Ends> Ends for SetAclAskOf<T, A> {
     #[inline(always)]
     fn end_at(payload: &[u8], place: usize) -> Option<usize> {
-        ends!(payload, place => T, A, i32)
+        fields_of!(SetAclAsk, ends, payload, place)
     }
 }
 
@@ -218,7 +219,7 @@ impl Spell for CheckAsk {
     ghost items = { check_ask.items };
 
     fn put<O: Output>(&self, out: &mut O) -> Result<(), O::Error> {
-        fields!(self: path, version).put(out)
+        fields_of!(CheckAsk, pairs, self).put(out)
     }
 }
 
@@ -226,17 +227,17 @@ impl<T: Form> Form for CheckAskOf<T> {
     ghost wired = { check_ask_of T.wired };
 }
 
-impl<P: Origin, T: Stands<P>> Stands<P> for CheckAskOf<T> {
+impl<P: Origin, T: Decode<P>> Decode<P> for CheckAskOf<T> {
     #[inline(always)]
     fn decode(src: &P, place: usize) -> Result<(Self, usize), ItemFault> {
-        decode!(src, place => CheckAskOf { path, version })
+        fields_of!(CheckAsk, decode, src, place, CheckAskOf)
     }
 }
 
 impl<T: Ends> Ends for CheckAskOf<T> {
     #[inline(always)]
     fn end_at(payload: &[u8], place: usize) -> Option<usize> {
-        ends!(payload, place => T, i32)
+        fields_of!(CheckAsk, ends, payload, place)
     }
 }
 

@@ -5,10 +5,11 @@ ghost use Rattle.std.specs.Prelude.{◌≡◌, refl};
 ghost use Rattle.zk_records.specs.Records.{data_body, acl_body, children_body, create_body, data_body_of, acl_body_of, children_body_of, create_body_of};
 
 use crate::acl::{Acl, AclList};
-use crate::fields::{decode, ends, fields};
+use crate::fields::{decode, ends, held, pairs};
+use crate::fields_of;
 use crate::stat::Stat;
 use zk_jute::{
-    Blob, BlobRef, Ends, Form, ItemFault, List, Origin, Output, Spell, Stands, Text, TextList,
+    Blob, BlobRef, Decode, Ends, Form, ItemFault, List, Origin, Output, Spell, Text, TextList,
     TextRef, Wire,
 };
 
@@ -31,7 +32,7 @@ impl Spell for DataBody {
     ghost items = { data_body.items };
 
     fn put<O: Output>(&self, out: &mut O) -> Result<(), O::Error> {
-        fields!(self: blob, stat).put(out)
+        fields_of!(DataBody, pairs, self).put(out)
     }
 }
 
@@ -39,17 +40,17 @@ impl<B: Form> Form for DataBodyOf<B> {
     ghost wired = { data_body_of B.wired };
 }
 
-impl<P: Origin, B: Stands<P>> Stands<P> for DataBodyOf<B> {
+impl<P: Origin, B: Decode<P>> Decode<P> for DataBodyOf<B> {
     #[inline(always)]
     fn decode(src: &P, place: usize) -> Result<(Self, usize), ItemFault> {
-        decode!(src, place => DataBodyOf { blob, stat })
+        fields_of!(DataBody, decode, src, place, DataBodyOf)
     }
 }
 
 impl<B: Ends> Ends for DataBodyOf<B> {
     #[inline(always)]
     fn end_at(payload: &[u8], place: usize) -> Option<usize> {
-        ends!(payload, place => B, Stat)
+        fields_of!(DataBody, ends, payload, place)
     }
 }
 
@@ -76,7 +77,7 @@ impl Spell for AclBody {
     ghost items = { acl_body.items };
 
     fn put<O: Output>(&self, out: &mut O) -> Result<(), O::Error> {
-        fields!(self: acl, stat).put(out)
+        fields_of!(AclBody, pairs, self).put(out)
     }
 }
 
@@ -84,17 +85,17 @@ impl<A: Form> Form for AclBodyOf<A> {
     ghost wired = { acl_body_of A.wired };
 }
 
-impl<P: Origin, A: Stands<P>> Stands<P> for AclBodyOf<A> {
+impl<P: Origin, A: Decode<P>> Decode<P> for AclBodyOf<A> {
     #[inline(always)]
     fn decode(src: &P, place: usize) -> Result<(Self, usize), ItemFault> {
-        decode!(src, place => AclBodyOf { acl, stat })
+        fields_of!(AclBody, decode, src, place, AclBodyOf)
     }
 }
 
 impl<A: Ends> Ends for AclBodyOf<A> {
     #[inline(always)]
     fn end_at(payload: &[u8], place: usize) -> Option<usize> {
-        ends!(payload, place => A, Stat)
+        fields_of!(AclBody, ends, payload, place)
     }
 }
 
@@ -121,7 +122,7 @@ impl Spell for ChildrenBody {
     ghost items = { children_body.items };
 
     fn put<O: Output>(&self, out: &mut O) -> Result<(), O::Error> {
-        fields!(self: names, stat).put(out)
+        fields_of!(ChildrenBody, pairs, self).put(out)
     }
 }
 
@@ -129,17 +130,17 @@ impl<L: Form> Form for ChildrenBodyOf<L> {
     ghost wired = { children_body_of L.wired };
 }
 
-impl<P: Origin, L: Stands<P>> Stands<P> for ChildrenBodyOf<L> {
+impl<P: Origin, L: Decode<P>> Decode<P> for ChildrenBodyOf<L> {
     #[inline(always)]
     fn decode(src: &P, place: usize) -> Result<(Self, usize), ItemFault> {
-        decode!(src, place => ChildrenBodyOf { names, stat })
+        fields_of!(ChildrenBody, decode, src, place, ChildrenBodyOf)
     }
 }
 
 impl<L: Ends> Ends for ChildrenBodyOf<L> {
     #[inline(always)]
     fn end_at(payload: &[u8], place: usize) -> Option<usize> {
-        ends!(payload, place => L, Stat)
+        fields_of!(ChildrenBody, ends, payload, place)
     }
 }
 
@@ -166,7 +167,7 @@ impl Spell for CreateBody {
     ghost items = { create_body.items };
 
     fn put<O: Output>(&self, out: &mut O) -> Result<(), O::Error> {
-        fields!(self: path, stat).put(out)
+        fields_of!(CreateBody, pairs, self).put(out)
     }
 }
 
@@ -174,17 +175,17 @@ impl<T: Form> Form for CreateBodyOf<T> {
     ghost wired = { create_body_of T.wired };
 }
 
-impl<P: Origin, T: Stands<P>> Stands<P> for CreateBodyOf<T> {
+impl<P: Origin, T: Decode<P>> Decode<P> for CreateBodyOf<T> {
     #[inline(always)]
     fn decode(src: &P, place: usize) -> Result<(Self, usize), ItemFault> {
-        decode!(src, place => CreateBodyOf { path, stat })
+        fields_of!(CreateBody, decode, src, place, CreateBodyOf)
     }
 }
 
 impl<T: Ends> Ends for CreateBodyOf<T> {
     #[inline(always)]
     fn end_at(payload: &[u8], place: usize) -> Option<usize> {
-        ends!(payload, place => T, Stat)
+        fields_of!(CreateBody, ends, payload, place)
     }
 }
 

@@ -2,8 +2,9 @@
 ghost use Rattle.std.specs.Prelude.{◌≡◌, refl};
 ghost use Rattle.zk_records.specs.Records.{connect_request, connect_response, connect_request_of, connect_response_of};
 
-use crate::fields::{decode, fields};
-use zk_jute::{Blob, BlobRef, Form, ItemFault, Origin, Output, Spell, Stands, Wire};
+use crate::fields::{decode, pairs};
+use crate::fields_of;
+use zk_jute::{Blob, BlobRef, Decode, Form, ItemFault, Origin, Output, Spell, Wire};
 
 /// What a client asks a session with: `ConnectRequest`.
 #[derive(Debug, Drop)]
@@ -30,7 +31,7 @@ impl Spell for ConnectRequest {
     ghost items = { connect_request.items };
 
     fn put<O: Output>(&self, out: &mut O) -> Result<(), O::Error> {
-        fields!(self: protocol_version, last_zxid_seen, time_out, session_id, passwd).put(out)
+        fields_of!(ConnectRequest, pairs, self).put(out)
     }
 }
 
@@ -38,9 +39,9 @@ impl<B: Form> Form for ConnectRequestOf<B> {
     ghost wired = { connect_request_of B.wired };
 }
 
-impl<P: Origin, B: Stands<P>> Stands<P> for ConnectRequestOf<B> {
+impl<P: Origin, B: Decode<P>> Decode<P> for ConnectRequestOf<B> {
     fn decode(src: &P, place: usize) -> Result<(Self, usize), ItemFault> {
-        decode!(src, place => ConnectRequestOf { protocol_version, last_zxid_seen, time_out, session_id, passwd })
+        fields_of!(ConnectRequest, decode, src, place, ConnectRequestOf)
     }
 }
 
@@ -71,7 +72,7 @@ impl Spell for ConnectResponse {
     ghost items = { connect_response.items };
 
     fn put<O: Output>(&self, out: &mut O) -> Result<(), O::Error> {
-        fields!(self: protocol_version, time_out, session_id, passwd).put(out)
+        fields_of!(ConnectResponse, pairs, self).put(out)
     }
 }
 
@@ -79,9 +80,9 @@ impl<B: Form> Form for ConnectResponseOf<B> {
     ghost wired = { connect_response_of B.wired };
 }
 
-impl<P: Origin, B: Stands<P>> Stands<P> for ConnectResponseOf<B> {
+impl<P: Origin, B: Decode<P>> Decode<P> for ConnectResponseOf<B> {
     fn decode(src: &P, place: usize) -> Result<(Self, usize), ItemFault> {
-        decode!(src, place => ConnectResponseOf { protocol_version, time_out, session_id, passwd })
+        fields_of!(ConnectResponse, decode, src, place, ConnectResponseOf)
     }
 }
 

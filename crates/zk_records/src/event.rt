@@ -2,8 +2,9 @@
 ghost use Rattle.std.specs.Prelude.{◌≡◌, refl};
 ghost use Rattle.zk_records.specs.Records.{watcher_event, watcher_event_of};
 
-use crate::fields::{decode, ends, fields};
-use zk_jute::{Ends, Form, ItemFault, Origin, Output, Spell, Stands, Text, TextRef, Wire};
+use crate::fields::{decode, ends, held, pairs};
+use crate::fields_of;
+use zk_jute::{Decode, Ends, Form, ItemFault, Origin, Output, Spell, Text, TextRef, Wire};
 
 /// A change that a watch saw: `WatcherEvent`.
 #[derive(Debug, Drop)]
@@ -26,7 +27,7 @@ impl Spell for WatcherEvent {
     ghost items = { watcher_event.items };
 
     fn put<O: Output>(&self, out: &mut O) -> Result<(), O::Error> {
-        fields!(self: kind, state, path).put(out)
+        fields_of!(WatcherEvent, pairs, self).put(out)
     }
 }
 
@@ -34,16 +35,16 @@ impl<T: Form> Form for WatcherEventOf<T> {
     ghost wired = { watcher_event_of T.wired };
 }
 
-impl<P: Origin, T: Stands<P>> Stands<P> for WatcherEventOf<T> {
+impl<P: Origin, T: Decode<P>> Decode<P> for WatcherEventOf<T> {
     fn decode(src: &P, place: usize) -> Result<(Self, usize), ItemFault> {
-        decode!(src, place => WatcherEventOf { kind, state, path })
+        fields_of!(WatcherEvent, decode, src, place, WatcherEventOf)
     }
 }
 
 impl<T: Ends> Ends for WatcherEventOf<T> {
     #[inline(always)]
     fn end_at(payload: &[u8], place: usize) -> Option<usize> {
-        ends!(payload, place => i32, i32, T)
+        fields_of!(WatcherEvent, ends, payload, place)
     }
 }
 

@@ -1,41 +1,138 @@
-//! Macros by which a record lists its fields, in order, as nested pairs.
+//! `fields_of!`: the fields of each record, and the macros that go over them.
 
-/// `fields!(self: a, b, c)` is `(&self.a, (&self.b, &self.c))`, `fields!(let a, b, c)` the pattern
-/// `(a, (b, c))`, and `fields!(A, B, C)` the type `(A, (B, C))`.
-macro_rules! fields {
-    ($record:ident: $last:ident) => { &$record.$last };
-    ($record:ident: $first:ident, $($rest:ident),+) => { (&$record.$first, fields!($record: $($rest),+)) };
-    (let $last:ident) => { $last };
-    (let $first:ident, $($rest:ident),+) => { ($first, fields!(let $($rest),+)) };
-    ($last:ty) => { $last };
-    ($first:ty, $($rest:ty),+) => { ($first, fields!($($rest),+)) };
+/// `fields_of!(CreateAsk, then, with)` is `then!(with: path PATH text, ..)`: the fields of the record in the order of
+/// zookeeper.jute, each by its name here, its name in jute (a constant of `zk_fields`, `NONE` for a record within this
+/// one) and its kind.
+#[macro_export]
+macro_rules! fields_of {
+    (Id, $then:ident, $($with:tt)*) => { $then!($($with)*: scheme SCHEME text, ident ID text) };
+    (Acl, $then:ident, $($with:tt)*) => { $then!($($with)*: perms PERMS int, who NONE id) };
+    (Stat, $then:ident, $($with:tt)*) => {
+        $then!($($with)*:
+            czxid CZXID long, mzxid MZXID long, ctime CTIME long, mtime MTIME long, version VERSION int,
+            cversion CVERSION int, aversion AVERSION int, ephemeral_owner EPHEMERAL_OWNER long,
+            data_length DATA_LENGTH int, num_children NUM_CHILDREN int, pzxid PZXID long)
+    };
+    (ConnectRequest, $then:ident, $($with:tt)*) => {
+        $then!($($with)*:
+            protocol_version PROTOCOL_VERSION int, last_zxid_seen LAST_ZXID_SEEN long, time_out TIME_OUT int,
+            session_id SESSION_ID long, passwd PASSWD blob)
+    };
+    (ConnectResponse, $then:ident, $($with:tt)*) => {
+        $then!($($with)*:
+            protocol_version PROTOCOL_VERSION int, time_out TIME_OUT int, session_id SESSION_ID long,
+            passwd PASSWD blob)
+    };
+    (RequestHeader, $then:ident, $($with:tt)*) => { $then!($($with)*: xid XID int, kind TYPE int) };
+    (ReplyHeader, $then:ident, $($with:tt)*) => { $then!($($with)*: xid XID int, zxid ZXID long, err ERR int) };
+    (MultiHeader, $then:ident, $($with:tt)*) => { $then!($($with)*: kind TYPE int, done DONE boolean, err ERR int) };
+    (WatcherEvent, $then:ident, $($with:tt)*) => {
+        $then!($($with)*: kind TYPE int, state STATE int, path PATH text)
+    };
+    (CreateAsk, $then:ident, $($with:tt)*) => {
+        $then!($($with)*: path PATH text, blob DATA blob, acl ACL rights, flags FLAGS int)
+    };
+    (DeleteAsk, $then:ident, $($with:tt)*) => { $then!($($with)*: path PATH text, version VERSION int) };
+    (SetDataAsk, $then:ident, $($with:tt)*) => {
+        $then!($($with)*: path PATH text, blob DATA blob, version VERSION int)
+    };
+    (SetAclAsk, $then:ident, $($with:tt)*) => {
+        $then!($($with)*: path PATH text, acl ACL rights, version VERSION int)
+    };
+    (CheckAsk, $then:ident, $($with:tt)*) => { $then!($($with)*: path PATH text, version VERSION int) };
+    (WatchAsk, $then:ident, $($with:tt)*) => { $then!($($with)*: path PATH text, watch WATCH boolean) };
+    (PathAsk, $then:ident, $($with:tt)*) => { $then!($($with)*: path PATH text) };
+    (AuthAsk, $then:ident, $($with:tt)*) => {
+        $then!($($with)*: kind TYPE int, scheme SCHEME text, auth AUTH blob)
+    };
+    (SetWatchesAsk, $then:ident, $($with:tt)*) => {
+        $then!($($with)*:
+            zxid ZXID long, data_watches DATA_WATCHES texts, exist_watches EXIST_WATCHES texts,
+            child_watches CHILD_WATCHES texts)
+    };
+    (DataBody, $then:ident, $($with:tt)*) => { $then!($($with)*: blob DATA blob, stat NONE stat) };
+    (AclBody, $then:ident, $($with:tt)*) => { $then!($($with)*: acl ACL rights, stat NONE stat) };
+    (ChildrenBody, $then:ident, $($with:tt)*) => { $then!($($with)*: names CHILDREN texts, stat NONE stat) };
+    (CreateBody, $then:ident, $($with:tt)*) => { $then!($($with)*: path PATH text, stat NONE stat) };
 }
 
-/// `decode!(src, place => R { a, b, c })` is the body of `decode` for the record `R`.
+/// The owned type of a field by its kind.
+#[macro_export]
+macro_rules! owned {
+    (int) => { i32 };
+    (long) => { i64 };
+    (boolean) => { bool };
+    (stat) => { $crate::Stat };
+    (text) => { zk_jute::Text };
+    (blob) => { zk_jute::Blob };
+    (texts) => { zk_jute::List<zk_jute::Text> };
+    (rights) => { zk_jute::List<$crate::Acl> };
+    (id) => { $crate::Id };
+}
+
+/// The type of a field by its kind, where it is borrowed.
+#[macro_export]
+macro_rules! borrowed {
+    (text) => { zk_jute::TextRef<'_> };
+    (blob) => { zk_jute::BlobRef<'_> };
+    (texts) => { zk_jute::TextList<'_> };
+    (rights) => { $crate::AclList<'_> };
+    (id) => { $crate::IdRef<'_> };
+    ($number:ident) => { $crate::owned!($number) };
+}
+
+/// `pairs!(self: a A int, b B text, c C blob)` is `(&self.a, (&self.b, &self.c))`, `pairs!(let: ..)` the pattern
+/// `(a, (b, c))`, and `pairs!(type: ..)` the type `(i32, (T, B))`, by the parameters of the record's type.
+macro_rules! pairs {
+    (type: $last:ident $name:ident $kind:ident) => { held!($kind) };
+    (type: $first:ident $name:ident $kind:ident, $($rest:tt)+) => { (held!($kind), pairs!(type: $($rest)+)) };
+    (let: $last:ident $name:ident $kind:ident) => { $last };
+    (let: $first:ident $name:ident $kind:ident, $($rest:tt)+) => { ($first, pairs!(let: $($rest)+)) };
+    ($record:ident: $last:ident $name:ident $kind:ident) => { &$record.$last };
+    ($record:ident: $first:ident $name:ident $kind:ident, $($rest:tt)+) => {
+        (&$record.$first, pairs!($record: $($rest)+))
+    };
+}
+
+/// The type of a field by its kind: a number's, `Stat`, or the parameter of the record's type.
+macro_rules! held {
+    (int) => { i32 };
+    (long) => { i64 };
+    (boolean) => { bool };
+    (stat) => { Stat };
+    (text) => { T };
+    (blob) => { B };
+    (texts) => { L };
+    (rights) => { A };
+    (id) => { W };
+}
+
+/// The body of `decode` for the record `R`: `fields_of!(R, decode, src, place, R)`.
 macro_rules! decode {
-    ($src:ident, $place:ident => $record:ident { $($field:ident),+ }) => {
-        match Stands::decode($src, $place) {
-            Ok((fields!(let $($field),+), place)) => Ok(($record { $($field),+ }, place)),
+    ($src:ident, $place:ident, $record:ident: $($field:ident $name:ident $kind:ident),+) => {
+        match Decode::decode($src, $place) {
+            Ok((pairs!(let: $($field $name $kind),+), place)) => Ok(($record { $($field),+ }, place)),
             Err(fault) => Err(fault),
         }
     };
 }
 
-/// `ends!(payload, place => A, B, C)` is the body of `end_at` for a record whose fields are of these types.
+/// The body of `end_at`: `fields_of!(R, ends, payload, place)`.
 macro_rules! ends {
-    ($payload:ident, $place:ident => $($field:ty),+) => {
-        <fields!($($field),+) as Ends>::end_at($payload, $place)
+    ($payload:ident, $place:ident: $($fields:tt)+) => {
+        <pairs!(type: $($fields)+) as Ends>::end_at($payload, $place)
     };
 }
 
-/// `own!(self, alloc => R { a, b, c })` is the body of `own` for the record `R`.
+/// The body of `own`: `fields_of!(R, own, self, alloc, R)`.
 macro_rules! own {
-    ($record:ident, $alloc:ident => $owned:ident { $($field:ident),+ }) => {
+    ($record:ident, $alloc:ident, $owned:ident: $($field:ident $name:ident $kind:ident),+) => {
         Ok($owned { $($field: $record.$field.own($alloc)?),+ })
     };
 }
 
 pub(crate) use decode;
 pub(crate) use ends;
-pub(crate) use fields;
+pub(crate) use held;
 pub(crate) use own;
+pub(crate) use pairs;

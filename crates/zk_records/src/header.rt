@@ -4,8 +4,9 @@
 ghost use Rattle.std.specs.Prelude.{◌≡◌, refl};
 ghost use Rattle.zk_records.specs.Records.{request_header, reply_header, multi_header};
 
-use crate::fields::{decode, fields};
-use zk_jute::{Form, ItemFault, Origin, Output, Spell, Stands, Wire};
+use crate::fields::{decode, pairs};
+use crate::fields_of;
+use zk_jute::{Decode, Form, ItemFault, Origin, Output, Spell, Wire};
 
 /// The header of each request: `RequestHeader`, 8 bytes.
 #[derive(Debug, Drop)]
@@ -20,7 +21,7 @@ impl Spell for RequestHeader {
     ghost items = { request_header.items };
 
     fn put<O: Output>(&self, out: &mut O) -> Result<(), O::Error> {
-        fields!(self: xid, kind).put(out)
+        fields_of!(RequestHeader, pairs, self).put(out)
     }
 }
 
@@ -28,10 +29,10 @@ impl Form for RequestHeader {
     ghost wired = { request_header };
 }
 
-impl<P: Origin> Stands<P> for RequestHeader {
+impl<P: Origin> Decode<P> for RequestHeader {
     #[inline(always)]
     fn decode(src: &P, place: usize) -> Result<(Self, usize), ItemFault> {
-        decode!(src, place => RequestHeader { xid, kind })
+        fields_of!(RequestHeader, decode, src, place, RequestHeader)
     }
 }
 
@@ -54,7 +55,7 @@ impl Spell for ReplyHeader {
     ghost items = { reply_header.items };
 
     fn put<O: Output>(&self, out: &mut O) -> Result<(), O::Error> {
-        fields!(self: xid, zxid, err).put(out)
+        fields_of!(ReplyHeader, pairs, self).put(out)
     }
 }
 
@@ -62,10 +63,10 @@ impl Form for ReplyHeader {
     ghost wired = { reply_header };
 }
 
-impl<P: Origin> Stands<P> for ReplyHeader {
+impl<P: Origin> Decode<P> for ReplyHeader {
     #[inline(always)]
     fn decode(src: &P, place: usize) -> Result<(Self, usize), ItemFault> {
-        decode!(src, place => ReplyHeader { xid, zxid, err })
+        fields_of!(ReplyHeader, decode, src, place, ReplyHeader)
     }
 }
 
@@ -88,7 +89,7 @@ impl Spell for MultiHeader {
     ghost items = { multi_header.items };
 
     fn put<O: Output>(&self, out: &mut O) -> Result<(), O::Error> {
-        fields!(self: kind, done, err).put(out)
+        fields_of!(MultiHeader, pairs, self).put(out)
     }
 }
 
@@ -96,10 +97,10 @@ impl Form for MultiHeader {
     ghost wired = { multi_header };
 }
 
-impl<P: Origin> Stands<P> for MultiHeader {
+impl<P: Origin> Decode<P> for MultiHeader {
     #[inline(always)]
     fn decode(src: &P, place: usize) -> Result<(Self, usize), ItemFault> {
-        decode!(src, place => MultiHeader { kind, done, err })
+        fields_of!(MultiHeader, decode, src, place, MultiHeader)
     }
 }
 

@@ -1,7 +1,7 @@
 //! The records of ZooKeeper 3.4, and `create2` of 3.5: headers, bodies, and the numbers and names of operations.
 //!
 //! Each record of zookeeper.jute is a struct of its fields, in jute's order, that is read and written by `zk_jute`'s
-//! `Wire` and `Stands`. One with texts, blobs or lists is generic, as `CreateAskOf`, and has two names: the owned
+//! `Wire` and `Decode`. One with texts, blobs or lists is generic, as `CreateAskOf`, and has two names: the owned
 //! `CreateAsk` and the borrowed `CreateAskRef`. `Own::own` copies the borrowed one into memory of its own.
 //!
 //! - Headers: `RequestHeader`, `ReplyHeader`, `MultiHeader`.
@@ -22,8 +22,8 @@
 //! # Choices
 //!
 //! **Records are nested pairs inside, and structs outside.** A pair's parser and writer are proved once, so a record
-//! needs no proof file. `specs/Records.antt` has its list of fields, each with its kind; `fields!` and `decode!` write
-//! the nesting in the bodies.
+//! needs no proof file. In code its fields are in one place, each with its kind: `fields_of!`. This crate's macros and those
+//! of `zk_lines`, `zk_fields` and `zk_earliest` go over them. `specs/Records.antt` has them in definitions.
 //!
 //! **`Own::own` copies a borrowed value.** Owned and borrowed are two types in code and one in contracts, which the
 //! trait can't know; so a ghost member, `same`, names the copy's value. The trait is in this crate because a list of

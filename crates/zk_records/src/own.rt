@@ -19,6 +19,7 @@ use crate::connect::{
 };
 use crate::event::{WatcherEvent, WatcherEventOf, WatcherEventRef};
 use crate::fields::own;
+use crate::fields_of;
 use crate::query::{PathAsk, PathAskOf, PathAskRef, WatchAsk, WatchAskOf, WatchAskRef};
 use crate::session::{
     AuthAsk, AuthAskOf, AuthAskRef, SetWatchesAsk, SetWatchesAskOf, SetWatchesAskRef,
@@ -26,7 +27,7 @@ use crate::session::{
 use crate::stat::Stat;
 use std::alloc::{AllocError, Global};
 use zk_jute::{
-    Blob, BlobRef, Bytes, Chars, Element, Items, KnownPayload, List, Series, Stands, Text,
+    Blob, BlobRef, Bytes, Chars, Decode, Element, Items, KnownPayload, List, Series, Text,
     TextList, TextRef,
 };
 
@@ -140,7 +141,7 @@ impl<'a> Own for BlobRef<'a> {
 }
 
 /// A copy of a list: null, or a copy of each element.
-fn own_list<'a, R: Element + Stands<KnownPayload<'a>> + Own>(
+fn own_list<'a, R: Element + Decode<KnownPayload<'a>> + Own>(
     list: &Series<'a, R>,
     alloc: Global,
 ) -> Result<List<R::Owned>, AllocError>
@@ -180,7 +181,7 @@ impl<'a> Own for IdRef<'a> {
     ghost same = { λ x. x };
 
     fn own(&self, alloc: Global) -> Result<Id, AllocError> {
-        own!(self, alloc => IdOf { scheme, ident })
+        fields_of!(Id, own, self, alloc, IdOf)
     }
 }
 
@@ -190,7 +191,7 @@ impl<'a> Own for AclRef<'a> {
     ghost same = { λ x. x };
 
     fn own(&self, alloc: Global) -> Result<Acl, AllocError> {
-        own!(self, alloc => AclOf { perms, who })
+        fields_of!(Acl, own, self, alloc, AclOf)
     }
 }
 
@@ -200,7 +201,7 @@ impl<'a> Own for ConnectRequestRef<'a> {
     ghost same = { λ x. x };
 
     fn own(&self, alloc: Global) -> Result<ConnectRequest, AllocError> {
-        own!(self, alloc => ConnectRequestOf { protocol_version, last_zxid_seen, time_out, session_id, passwd })
+        fields_of!(ConnectRequest, own, self, alloc, ConnectRequestOf)
     }
 }
 
@@ -210,7 +211,7 @@ impl<'a> Own for ConnectResponseRef<'a> {
     ghost same = { λ x. x };
 
     fn own(&self, alloc: Global) -> Result<ConnectResponse, AllocError> {
-        own!(self, alloc => ConnectResponseOf { protocol_version, time_out, session_id, passwd })
+        fields_of!(ConnectResponse, own, self, alloc, ConnectResponseOf)
     }
 }
 
@@ -220,7 +221,7 @@ impl<'a> Own for WatcherEventRef<'a> {
     ghost same = { λ x. x };
 
     fn own(&self, alloc: Global) -> Result<WatcherEvent, AllocError> {
-        own!(self, alloc => WatcherEventOf { kind, state, path })
+        fields_of!(WatcherEvent, own, self, alloc, WatcherEventOf)
     }
 }
 
@@ -230,7 +231,7 @@ impl<'a> Own for CreateAskRef<'a> {
     ghost same = { λ x. x };
 
     fn own(&self, alloc: Global) -> Result<CreateAsk, AllocError> {
-        own!(self, alloc => CreateAskOf { path, blob, acl, flags })
+        fields_of!(CreateAsk, own, self, alloc, CreateAskOf)
     }
 }
 
@@ -240,7 +241,7 @@ impl<'a> Own for DeleteAskRef<'a> {
     ghost same = { λ x. x };
 
     fn own(&self, alloc: Global) -> Result<DeleteAsk, AllocError> {
-        own!(self, alloc => DeleteAskOf { path, version })
+        fields_of!(DeleteAsk, own, self, alloc, DeleteAskOf)
     }
 }
 
@@ -250,7 +251,7 @@ impl<'a> Own for SetDataAskRef<'a> {
     ghost same = { λ x. x };
 
     fn own(&self, alloc: Global) -> Result<SetDataAsk, AllocError> {
-        own!(self, alloc => SetDataAskOf { path, blob, version })
+        fields_of!(SetDataAsk, own, self, alloc, SetDataAskOf)
     }
 }
 
@@ -260,7 +261,7 @@ impl<'a> Own for SetAclAskRef<'a> {
     ghost same = { λ x. x };
 
     fn own(&self, alloc: Global) -> Result<SetAclAsk, AllocError> {
-        own!(self, alloc => SetAclAskOf { path, acl, version })
+        fields_of!(SetAclAsk, own, self, alloc, SetAclAskOf)
     }
 }
 
@@ -270,7 +271,7 @@ impl<'a> Own for CheckAskRef<'a> {
     ghost same = { λ x. x };
 
     fn own(&self, alloc: Global) -> Result<CheckAsk, AllocError> {
-        own!(self, alloc => CheckAskOf { path, version })
+        fields_of!(CheckAsk, own, self, alloc, CheckAskOf)
     }
 }
 
@@ -280,7 +281,7 @@ impl<'a> Own for WatchAskRef<'a> {
     ghost same = { λ x. x };
 
     fn own(&self, alloc: Global) -> Result<WatchAsk, AllocError> {
-        own!(self, alloc => WatchAskOf { path, watch })
+        fields_of!(WatchAsk, own, self, alloc, WatchAskOf)
     }
 }
 
@@ -290,7 +291,7 @@ impl<'a> Own for PathAskRef<'a> {
     ghost same = { λ x. x };
 
     fn own(&self, alloc: Global) -> Result<PathAsk, AllocError> {
-        own!(self, alloc => PathAskOf { path })
+        fields_of!(PathAsk, own, self, alloc, PathAskOf)
     }
 }
 
@@ -300,7 +301,7 @@ impl<'a> Own for AuthAskRef<'a> {
     ghost same = { λ x. x };
 
     fn own(&self, alloc: Global) -> Result<AuthAsk, AllocError> {
-        own!(self, alloc => AuthAskOf { kind, scheme, auth })
+        fields_of!(AuthAsk, own, self, alloc, AuthAskOf)
     }
 }
 
@@ -310,7 +311,7 @@ impl<'a> Own for SetWatchesAskRef<'a> {
     ghost same = { λ x. x };
 
     fn own(&self, alloc: Global) -> Result<SetWatchesAsk, AllocError> {
-        own!(self, alloc => SetWatchesAskOf { zxid, data_watches, exist_watches, child_watches })
+        fields_of!(SetWatchesAsk, own, self, alloc, SetWatchesAskOf)
     }
 }
 
@@ -320,7 +321,7 @@ impl<'a> Own for DataBodyRef<'a> {
     ghost same = { λ x. x };
 
     fn own(&self, alloc: Global) -> Result<DataBody, AllocError> {
-        own!(self, alloc => DataBodyOf { blob, stat })
+        fields_of!(DataBody, own, self, alloc, DataBodyOf)
     }
 }
 
@@ -330,7 +331,7 @@ impl<'a> Own for AclBodyRef<'a> {
     ghost same = { λ x. x };
 
     fn own(&self, alloc: Global) -> Result<AclBody, AllocError> {
-        own!(self, alloc => AclBodyOf { acl, stat })
+        fields_of!(AclBody, own, self, alloc, AclBodyOf)
     }
 }
 
@@ -340,7 +341,7 @@ impl<'a> Own for ChildrenBodyRef<'a> {
     ghost same = { λ x. x };
 
     fn own(&self, alloc: Global) -> Result<ChildrenBody, AllocError> {
-        own!(self, alloc => ChildrenBodyOf { names, stat })
+        fields_of!(ChildrenBody, own, self, alloc, ChildrenBodyOf)
     }
 }
 
@@ -350,6 +351,6 @@ impl<'a> Own for CreateBodyRef<'a> {
     ghost same = { λ x. x };
 
     fn own(&self, alloc: Global) -> Result<CreateBody, AllocError> {
-        own!(self, alloc => CreateBodyOf { path, stat })
+        fields_of!(CreateBody, own, self, alloc, CreateBodyOf)
     }
 }

@@ -5,8 +5,9 @@
 ghost use Rattle.std.specs.Prelude.{◌≡◌, refl};
 ghost use Rattle.zk_records.specs.Records.{watch_ask, path_ask, watch_ask_of, path_ask_of};
 
-use crate::fields::{decode, ends, fields};
-use zk_jute::{Ends, Form, ItemFault, Origin, Output, Spell, Stands, Text, TextRef, Wire};
+use crate::fields::{decode, ends, held, pairs};
+use crate::fields_of;
+use zk_jute::{Decode, Ends, Form, ItemFault, Origin, Output, Spell, Text, TextRef, Wire};
 
 /// Looks at a node, and may set a watch: `ExistsRequest`, `GetDataRequest`, `GetChildrenRequest` and
 /// `GetChildren2Request`.
@@ -28,7 +29,7 @@ impl Spell for WatchAsk {
     ghost items = { watch_ask.items };
 
     fn put<O: Output>(&self, out: &mut O) -> Result<(), O::Error> {
-        fields!(self: path, watch).put(out)
+        fields_of!(WatchAsk, pairs, self).put(out)
     }
 }
 
@@ -36,17 +37,17 @@ impl<T: Form> Form for WatchAskOf<T> {
     ghost wired = { watch_ask_of T.wired };
 }
 
-impl<P: Origin, T: Stands<P>> Stands<P> for WatchAskOf<T> {
+impl<P: Origin, T: Decode<P>> Decode<P> for WatchAskOf<T> {
     #[inline(always)]
     fn decode(src: &P, place: usize) -> Result<(Self, usize), ItemFault> {
-        decode!(src, place => WatchAskOf { path, watch })
+        fields_of!(WatchAsk, decode, src, place, WatchAskOf)
     }
 }
 
 impl<T: Ends> Ends for WatchAskOf<T> {
     #[inline(always)]
     fn end_at(payload: &[u8], place: usize) -> Option<usize> {
-        ends!(payload, place => T, bool)
+        fields_of!(WatchAsk, ends, payload, place)
     }
 }
 
@@ -71,7 +72,7 @@ impl Spell for PathAsk {
     ghost items = { path_ask.items };
 
     fn put<O: Output>(&self, out: &mut O) -> Result<(), O::Error> {
-        self.path.put(out)
+        fields_of!(PathAsk, pairs, self).put(out)
     }
 }
 
@@ -79,17 +80,17 @@ impl<T: Form> Form for PathAskOf<T> {
     ghost wired = { path_ask_of T.wired };
 }
 
-impl<P: Origin, T: Stands<P>> Stands<P> for PathAskOf<T> {
+impl<P: Origin, T: Decode<P>> Decode<P> for PathAskOf<T> {
     #[inline(always)]
     fn decode(src: &P, place: usize) -> Result<(Self, usize), ItemFault> {
-        decode!(src, place => PathAskOf { path })
+        fields_of!(PathAsk, decode, src, place, PathAskOf)
     }
 }
 
 impl<T: Ends> Ends for PathAskOf<T> {
     #[inline(always)]
     fn end_at(payload: &[u8], place: usize) -> Option<usize> {
-        ends!(payload, place => T)
+        fields_of!(PathAsk, ends, payload, place)
     }
 }
 

@@ -2,9 +2,10 @@
 ghost use Rattle.std.specs.Prelude.{◌≡◌, refl};
 ghost use Rattle.zk_records.specs.Records.{auth_ask, set_watches_ask, auth_ask_of, set_watches_ask_of};
 
-use crate::fields::{decode, ends, fields};
+use crate::fields::{decode, ends, held, pairs};
+use crate::fields_of;
 use zk_jute::{
-    Blob, BlobRef, Ends, Form, ItemFault, List, Origin, Output, Spell, Stands, Text, TextList,
+    Blob, BlobRef, Decode, Ends, Form, ItemFault, List, Origin, Output, Spell, Text, TextList,
     TextRef, Wire,
 };
 
@@ -29,7 +30,7 @@ impl Spell for AuthAsk {
     ghost items = { auth_ask.items };
 
     fn put<O: Output>(&self, out: &mut O) -> Result<(), O::Error> {
-        fields!(self: kind, scheme, auth).put(out)
+        fields_of!(AuthAsk, pairs, self).put(out)
     }
 }
 
@@ -37,16 +38,16 @@ impl<T: Form, B: Form> Form for AuthAskOf<T, B> {
     ghost wired = { auth_ask_of T.wired B.wired };
 }
 
-impl<P: Origin, T: Stands<P>, B: Stands<P>> Stands<P> for AuthAskOf<T, B> {
+impl<P: Origin, T: Decode<P>, B: Decode<P>> Decode<P> for AuthAskOf<T, B> {
     fn decode(src: &P, place: usize) -> Result<(Self, usize), ItemFault> {
-        decode!(src, place => AuthAskOf { kind, scheme, auth })
+        fields_of!(AuthAsk, decode, src, place, AuthAskOf)
     }
 }
 
 impl<T: Ends, B: Ends> Ends for AuthAskOf<T, B> {
     #[inline(always)]
     fn end_at(payload: &[u8], place: usize) -> Option<usize> {
-        ends!(payload, place => i32, T, B)
+        fields_of!(AuthAsk, ends, payload, place)
     }
 }
 
@@ -77,7 +78,7 @@ impl Spell for SetWatchesAsk {
     ghost items = { set_watches_ask.items };
 
     fn put<O: Output>(&self, out: &mut O) -> Result<(), O::Error> {
-        fields!(self: zxid, data_watches, exist_watches, child_watches).put(out)
+        fields_of!(SetWatchesAsk, pairs, self).put(out)
     }
 }
 
@@ -85,16 +86,16 @@ impl<L: Form> Form for SetWatchesAskOf<L> {
     ghost wired = { set_watches_ask_of L.wired };
 }
 
-impl<P: Origin, L: Stands<P>> Stands<P> for SetWatchesAskOf<L> {
+impl<P: Origin, L: Decode<P>> Decode<P> for SetWatchesAskOf<L> {
     fn decode(src: &P, place: usize) -> Result<(Self, usize), ItemFault> {
-        decode!(src, place => SetWatchesAskOf { zxid, data_watches, exist_watches, child_watches })
+        fields_of!(SetWatchesAsk, decode, src, place, SetWatchesAskOf)
     }
 }
 
 impl<L: Ends> Ends for SetWatchesAskOf<L> {
     #[inline(always)]
     fn end_at(payload: &[u8], place: usize) -> Option<usize> {
-        ends!(payload, place => i64, L, L, L)
+        fields_of!(SetWatchesAsk, ends, payload, place)
     }
 }
 

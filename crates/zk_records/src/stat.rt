@@ -2,8 +2,9 @@
 ghost use Rattle.std.specs.Prelude.{◌≡◌, refl};
 ghost use Rattle.zk_records.specs.Records.{stat};
 
-use crate::fields::{decode, fields};
-use zk_jute::{Ends, Form, ItemFault, Origin, Output, Spell, Stands, Wire};
+use crate::fields::{decode, pairs};
+use crate::fields_of;
+use zk_jute::{Decode, Ends, Form, ItemFault, Origin, Output, Spell, Wire};
 
 /// What is known of a node: `Stat`, 68 bytes.
 #[derive(Clone, Copy, Debug)]
@@ -36,9 +37,7 @@ impl Spell for Stat {
     ghost items = { stat.items };
 
     fn put<O: Output>(&self, out: &mut O) -> Result<(), O::Error> {
-        let fields = fields!(self: czxid, mzxid, ctime, mtime, version, cversion, aversion,
-            ephemeral_owner, data_length, num_children, pzxid);
-        fields.put(out)
+        fields_of!(Stat, pairs, self).put(out)
     }
 }
 
@@ -46,10 +45,10 @@ impl Form for Stat {
     ghost wired = { stat };
 }
 
-impl<P: Origin> Stands<P> for Stat {
+impl<P: Origin> Decode<P> for Stat {
     #[inline(always)]
     fn decode(src: &P, place: usize) -> Result<(Self, usize), ItemFault> {
-        decode!(src, place => Stat { czxid, mzxid, ctime, mtime, version, cversion, aversion, ephemeral_owner, data_length, num_children, pzxid })
+        fields_of!(Stat, decode, src, place, Stat)
     }
 }
 

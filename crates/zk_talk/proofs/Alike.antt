@@ -1,5 +1,5 @@
 -- A message is known by its kind and the bytes of its payload, where one that may be said has them.
-use Rattle.std.proofs.Common.{◌≡◌, ℕ, ℤ, pos, negsuc, List, [], ◌∷◌, ◌++◌, refl, sym, ap, ◌∙◌, subst, append_assoc, true, false}
+use Rattle.std.proofs.Common.{◌≡◌, ℕ, ℤ, negsuc, List, [], ◌∷◌, ◌++◌, refl, sym, ap, ◌∙◌, subst, append_assoc}
 use Rattle.std.proofs.lemmas.List.{append-nil}
 use Rattle.zk_jute.specs.Item.{Item, bytes_of, HaveBytes}
 use Rattle.zk_jute.proofs.Layouts.{bytes_only, bytes_both, have_parts}
@@ -7,7 +7,6 @@ use Rattle.zk_records.specs.declared.header.MultiHeader.{MultiHeader}
 use Rattle.zk_records.specs.declared.header.ReplyHeader.{ReplyHeader}
 use Rattle.zk_records.specs.declared.op.Op.{Op}
 use Rattle.zk_records.specs.declared.op.PartOp.{PartOp}
-use Rattle.zk_records.specs.declared.op.PartOp.TheVariants as parts
 use Rattle.zk_records.specs.Codes.{op_number}
 use Rattle.zk_records.specs.Records.{request_header, multi_header, reply_header}
 use Rattle.zk_records.proofs.Numbers.{op_number_apart}
@@ -26,9 +25,11 @@ use Rattle.zk_answers.specs.declared.frame.OutcomeOf.TheVariants as outcome
 use Rattle.zk_answers.specs.declared.frame.ServerFrameOf.TheVariants.{Connected, Answered, Event}
 use Rattle.zk_answers.specs.Frames.{Fits, OutcomeFits, BodyFits, IsOutcome, err_of, header_of, op_of_outcome, op_of_reply, rest_items, reply_items}
 use Rattle.zk_answers.specs.Frames as answers
-use Rattle.zk_answers.specs.Results.{Answers, AnswerAll, result_header, done_items, multi_items, mark_before, result_of}
+use Rattle.zk_answers.specs.Results.{Answers, AnswerAll, done_items, multi_items, mark_before, result_of}
 use Rattle.zk_answers.specs.Rows.{op_of_body, body_items}
 use Rattle.zk_answers.proofs.Dones.{end_mark, mark_is, mark_same, multi_more, split_items}
+use Rattle.zk_answers.proofs.Lying.{items_are, own_of, own_kind, own_answers}
+use Rattle.zk_answers.proofs.Passing.{not_end}
 use Rattle.zk_answers.proofs.Heads.{head_unique, stands_head}
 use Rattle.zk_answers.proofs.Results.{done_only}
 use Rattle.zk_talk.specs.Payloads.{client_payload, server_payload}
@@ -65,47 +66,14 @@ client_known kind p (Ask xid a) (Ask id b) sent is k w =
 
 -- ---- results of a multi
 
-done_split : (d : PartDone) → done_items d ≡ marked (mark_before d) ++ result_of d
-done_split (done.Created path) = refl
-done_split done.Deleted = sym (append-nil (marked (result_header parts.Delete)))
-done_split (done.DataSet s) = refl
-done_split done.Checked = sym (append-nil (marked (result_header parts.Check)))
-done_split (done.PartFailed e) = refl
-
 kind_before : (d e : PartDone) → mark_before d ≡ mark_before e → (mark_before d).kind ≡ (mark_before e).kind
 kind_before d e same = ap (λ (h : MultiHeader). h.kind) same
 
 -- what answers a part, and has the same header as another result, which answers it: so does that
 alike : (op : PartOp) (d e : PartDone) → mark_before d ≡ mark_before e → Answers op e → Answers op d
 alike op (done.PartFailed x) e same a = tt
-alike op (done.Created p) (done.Created q) same a = a
-alike op (done.Created p) done.Deleted same a = let k : pos 1 ≡ pos 2 = kind_before (done.Created p) done.Deleted same in absurd (cc)
-alike op (done.Created p) (done.DataSet t) same a = let k : pos 1 ≡ pos 5 = kind_before (done.Created p) (done.DataSet t) same in absurd (cc)
-alike op (done.Created p) done.Checked same a = let k : pos 1 ≡ pos 13 = kind_before (done.Created p) done.Checked same in absurd (cc)
-alike op (done.Created p) (done.PartFailed y) same a = let k : pos 1 ≡ negsuc 0 = kind_before (done.Created p) (done.PartFailed y) same in absurd (cc)
-alike op done.Deleted (done.Created q) same a = let k : pos 2 ≡ pos 1 = kind_before done.Deleted (done.Created q) same in absurd (cc)
-alike op done.Deleted done.Deleted same a = a
-alike op done.Deleted (done.DataSet t) same a = let k : pos 2 ≡ pos 5 = kind_before done.Deleted (done.DataSet t) same in absurd (cc)
-alike op done.Deleted done.Checked same a = let k : pos 2 ≡ pos 13 = kind_before done.Deleted done.Checked same in absurd (cc)
-alike op done.Deleted (done.PartFailed y) same a = let k : pos 2 ≡ negsuc 0 = kind_before done.Deleted (done.PartFailed y) same in absurd (cc)
-alike op (done.DataSet s) (done.Created q) same a = let k : pos 5 ≡ pos 1 = kind_before (done.DataSet s) (done.Created q) same in absurd (cc)
-alike op (done.DataSet s) done.Deleted same a = let k : pos 5 ≡ pos 2 = kind_before (done.DataSet s) done.Deleted same in absurd (cc)
-alike op (done.DataSet s) (done.DataSet t) same a = a
-alike op (done.DataSet s) done.Checked same a = let k : pos 5 ≡ pos 13 = kind_before (done.DataSet s) done.Checked same in absurd (cc)
-alike op (done.DataSet s) (done.PartFailed y) same a = let k : pos 5 ≡ negsuc 0 = kind_before (done.DataSet s) (done.PartFailed y) same in absurd (cc)
-alike op done.Checked (done.Created q) same a = let k : pos 13 ≡ pos 1 = kind_before done.Checked (done.Created q) same in absurd (cc)
-alike op done.Checked done.Deleted same a = let k : pos 13 ≡ pos 2 = kind_before done.Checked done.Deleted same in absurd (cc)
-alike op done.Checked (done.DataSet t) same a = let k : pos 13 ≡ pos 5 = kind_before done.Checked (done.DataSet t) same in absurd (cc)
-alike op done.Checked done.Checked same a = a
-alike op done.Checked (done.PartFailed y) same a = let k : pos 13 ≡ negsuc 0 = kind_before done.Checked (done.PartFailed y) same in absurd (cc)
-
--- no result begins as the end does
-not_end : (d : PartDone) → mark_before d ≡ end_header → ⊥
-not_end (done.Created p) e = let k : false ≡ true = ap (λ (h : MultiHeader). h.done) e in cc
-not_end done.Deleted e = let k : false ≡ true = ap (λ (h : MultiHeader). h.done) e in cc
-not_end (done.DataSet s) e = let k : false ≡ true = ap (λ (h : MultiHeader). h.done) e in cc
-not_end done.Checked e = let k : false ≡ true = ap (λ (h : MultiHeader). h.done) e in cc
-not_end (done.PartFailed x) e = let k : false ≡ true = ap (λ (h : MultiHeader). h.done) e in cc
+alike op d (done.PartFailed y) same a = let k : (mark_before d).kind ≡ negsuc 0 = kind_before d (done.PartFailed y) same in absurd (cc)
+alike op d e same a = own_answers op d (own_of d op (kind_before d e same ∙ own_kind op e a))
 
 -- the headers that two lists of items begin with are equal, where their bytes are
 marks_alike : (g h : MultiHeader) (a b : List Item) (x y : List ℕ) → HaveBytes (marked g) → HaveBytes (marked h) → bytes_of (marked g ++ a) ++ x ≡ bytes_of (marked h ++ b) ++ y → g ≡ h
@@ -116,7 +84,7 @@ marks_alike g h a b x y have has e =
 
 -- the header of a result, before whatever follows
 front_of : (d : PartDone) (ds : List PartDone) → multi_items (d ∷ ds) ≡ marked (mark_before d) ++ (result_of d ++ multi_items ds)
-front_of d ds = multi_more d ds ∙ ap (λ (z : List Item). z ++ multi_items ds) (done_split d) ∙ append_assoc (marked (mark_before d)) (result_of d) (multi_items ds)
+front_of d ds = multi_more d ds ∙ ap (λ (z : List Item). z ++ multi_items ds) (items_are d) ∙ append_assoc (marked (mark_before d)) (result_of d) (multi_items ds)
 
 mark_of : (d : PartDone) (ds : List PartDone) → HaveBytes (multi_items (d ∷ ds)) → HaveBytes (marked (mark_before d))
 mark_of d ds have = (have_parts (marked (mark_before d)) (result_of d ++ multi_items ds) (subst HaveBytes (front_of d ds) have)).0

@@ -13,7 +13,7 @@ use Rattle.std.proofs.lemmas.List.{take-append-drop, take_all}
 use Rattle.std.proofs.Math.Seq.{take-add}
 use Rattle.zk_jute.specs.declared.fault.Reason.TheVariants.{NoMemory}
 use Rattle.zk_talk.specs.Taking.{GoesOn, Fails}
-use Rattle.zk_talk.specs.Answer.{Feeds}
+use Rattle.zk_talk.specs.Answer.{TakesAll}
 
 on-append : (side : Side) (a b : List ℕ) → on side (a ++ b) ≡ on side a ++ on side b
 on-append side a b = map-append (λ (z : ℕ). (side, z)) a b
@@ -29,7 +29,7 @@ feed_more old mid new side bytes at' used before now more inv goes h st =
     subst (λ z. Stands new z (now ++ more)) joined (goes (h ++ on side (take at' bytes)) now (inv h st))
 
 pub feed_fails : (old mid new : TalkState) (side : Side) (bytes : List ℕ) (at' : ℕ) (before now : List Message) (fault : Fault) →
-    ((h : History) → Stands old h before → Stands mid (h ++ on side (take at' bytes)) now) → (fault.reason ≡ NoMemory → ⊥) → Fails mid side (drop at' bytes) fault new → Feeds old before side bytes (Some fault) new now
+    ((h : History) → Stands old h before → Stands mid (h ++ on side (take at' bytes)) now) → (fault.reason ≡ NoMemory → ⊥) → Fails mid side (drop at' bytes) fault new → TakesAll old before side bytes (Some fault) new now
 feed_fails old mid new side bytes at' before now fault inv known (inl w) h st = absurd (known (ap (λ z. z.reason) w.told))
 feed_fails old mid new side bytes at' before now fault inv known (inr r) h st =
     let joined : (h ++ on side (take at' bytes)) ++ on side (drop at' bytes) ≡ h ++ on side bytes =
@@ -37,5 +37,5 @@ feed_fails old mid new side bytes at' before now fault inv known (inr r) h st =
     subst (λ z. Refuses new z now fault) joined (r (h ++ on side (take at' bytes)) now (inv h st))
 
 pub feed_ends : (old new : TalkState) (side : Side) (bytes : List ℕ) (at' : ℕ) (before now : List Message) → length bytes ≤ at' →
-    ((h : History) → Stands old h before → Stands new (h ++ on side (take at' bytes)) now) → Feeds old before side bytes None new now
+    ((h : History) → Stands old h before → Stands new (h ++ on side (take at' bytes)) now) → TakesAll old before side bytes None new now
 feed_ends old new side bytes at' before now l inv h st = subst (λ z. Stands new (h ++ on side z) now) (take_all at' bytes l) (inv h st)

@@ -24,7 +24,7 @@ use Rattle.zk_talk.specs.declared.message.Side.{Side}
 use Rattle.zk_talk.specs.declared.message.Ending.{Ending}
 use Rattle.zk_talk.specs.declared.message.Ending.TheVariants.{Whole, Cut, Refused}
 use Rattle.zk_talk.specs.Ending.{IsEnding, unanswered}
-use Rattle.zk_talk.specs.Answer.{history_of, AreMessages, Feeds}
+use Rattle.zk_talk.specs.Answer.{history_of, AreMessages, TakesAll}
 use Rattle.std.proofs.lemmas.List.Concat.{flat_map-append}
 use Rattle.zk_talk.proofs.GoodFronts.{good_front}
 
@@ -110,20 +110,20 @@ pub history_step : (pieces : List (Side × Bor (List ℕ))) (i : ℕ) (p : Side 
 history_step pieces i p l = sym (history_more pieces i p l)
 
 pub read_refused : (limits : Limits) (t new : TalkState) (M N : List Message) (f : Fault) (pieces : List (Side × Bor (List ℕ))) (i : ℕ) (p : Side × Bor (List ℕ)) (o : Option Fault) → i < length pieces → new.limits ≡ limits →
-    Stands t (history_of (take i pieces)) M → o ≡ Some f → Feeds t M (get_or pieces i p).0 (get_or pieces i p).1.now o new N → IsEnding limits (history_of pieces) (Refused f) × AreMessages limits (history_of pieces) N (Refused f)
+    Stands t (history_of (take i pieces)) M → o ≡ Some f → TakesAll t M (get_or pieces i p).0 (get_or pieces i p).1.now o new N → IsEnding limits (history_of pieces) (Refused f) × AreMessages limits (history_of pieces) N (Refused f)
 read_refused limits t new M N f pieces i p o l same st is fed =
     let x = get_or pieces i p in
-    let r = subst (λ z. Feeds t M x.0 x.1.now z new N) is fed (history_of (take i pieces)) st in
+    let r = subst (λ z. TakesAll t M x.0 x.1.now z new N) is fed (history_of (take i pieces)) st in
     let r' = subst (λ z. Refuses new z N f) (history_step pieces i p l) r in
     let both = refused new (history_of (take (i + 1) pieces)) (history_of (drop (i + 1) pieces)) N f r' in
     let whole = subst (λ z. IsEnding new.limits z (Refused f) × AreMessages new.limits z N (Refused f)) (history_rest pieces (i + 1)) both in
     subst (λ z. IsEnding z (history_of pieces) (Refused f) × AreMessages z (history_of pieces) N (Refused f)) same whole
 
 pub read_more : (t new : TalkState) (M N : List Message) (pieces : List (Side × Bor (List ℕ))) (i : ℕ) (p : Side × Bor (List ℕ)) (o : Option Fault) → i < length pieces →
-    Stands t (history_of (take i pieces)) M → o ≡ None → Feeds t M (get_or pieces i p).0 (get_or pieces i p).1.now o new N → Stands new (history_of (take (i + 1) pieces)) N
+    Stands t (history_of (take i pieces)) M → o ≡ None → TakesAll t M (get_or pieces i p).0 (get_or pieces i p).1.now o new N → Stands new (history_of (take (i + 1) pieces)) N
 read_more t new M N pieces i p o l st is fed =
     let x = get_or pieces i p in
-    subst (λ z. Stands new z N) (history_step pieces i p l) (subst (λ z. Feeds t M x.0 x.1.now z new N) is fed (history_of (take i pieces)) st)
+    subst (λ z. Stands new z N) (history_step pieces i p l) (subst (λ z. TakesAll t M x.0 x.1.now z new N) is fed (history_of (take i pieces)) st)
 
 pub read_ends : (limits : Limits) (t : TalkState) (M : List Message) (e : Ending) (pieces : List (Side × Bor (List ℕ))) (i : ℕ) → length pieces ≤ i → t.limits ≡ limits → Stands t (history_of (take i pieces)) M →
     ((h : History) (M : List Message) → Stands t h M → IsEnding t.limits h e) → IsEnding limits (history_of pieces) e × AreMessages limits (history_of pieces) M e

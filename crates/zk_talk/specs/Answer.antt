@@ -40,6 +40,6 @@ IsReadAs limits h messages ending = (answered : List Message) (end : Ending) →
     IsEnding limits h end → (answered ≡ messages) × (end ≡ ending)
 
 -- a talk after all of a piece, with the messages so far, or with the history's fault
-abbrev pub Feeds : TalkState → List Message → Side → List ℕ → Option Fault → TalkState → List Message → Type 0
-Feeds old before side bytes None new after = (h : History) → Stands old h before → Stands new (h ++ on side bytes) after
-Feeds old before side bytes (Some fault) new after = (h : History) → Stands old h before → Refuses new (h ++ on side bytes) after fault
+abbrev pub TakesAll : TalkState → List Message → Side → List ℕ → Option Fault → TalkState → List Message → Type 0
+TakesAll old before side bytes None new after = (h : History) → Stands old h before → Stands new (h ++ on side bytes) after
+TakesAll old before side bytes (Some fault) new after = (h : History) → Stands old h before → Refuses new (h ++ on side bytes) after fault

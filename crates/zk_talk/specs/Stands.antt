@@ -39,6 +39,10 @@ abbrev pub kept_on : Side → TalkState → List ℕ
 kept_on Client t = t.client_kept
 kept_on Server t = t.server_kept
 
+-- this holds where the talk keeps a frame of the server
+abbrev pub WhereKept : TalkState → Type 0 → Type 0
+WhereKept t Says = (kept_on Server t ≡ [] → ⊥) → Says
+
 -- The talk has come through this history, and has given these messages.
 pub record Stands (t : TalkState) (h : History) (messages : List Message) : Type 0 where
   pub conversation : Conversation

@@ -7,7 +7,7 @@ ghost use Rattle.zk_talk.specs.Judged.{KeepsClient, KeepsServer, TellsClient, Te
 ghost use Rattle.zk_talk.specs.Streams.{IsAtFrame, TakenBack, passed, kept_now, held_in};
 
 use crate::judge::{
-    await_front, await_numbered, forget_front, forget_seen, next_client, next_server, replied,
+    await_numbered, await_quick, forget_quick, forget_seen, next_client, next_server, replied,
 };
 use crate::replied::Replied;
 use crate::stream::{Stream, carried};
@@ -44,7 +44,7 @@ pub fn keep_client(
     ensures same { result ≡ false → (waiting.new ≡ waiting.old) × (stream.new ≡ stream.old) }
 {
     let count = stream.count();
-    if !await_front(profile, count, count, waiting, stream.payload()) {
+    if !await_quick(profile, count, count, waiting, stream.payload()) {
         return false;
     }
     stream.keep(used);
@@ -70,7 +70,7 @@ pub fn pass_client(
     ensures same { result ≡ false → (waiting.new ≡ waiting.old) × (stream.new ≡ stream.old) }
 {
     let count = stream.count();
-    if !await_front(profile, count, count, waiting, carried(piece, used)) {
+    if !await_quick(profile, count, count, waiting, carried(piece, used)) {
         return false;
     }
     stream.pass_front(used);
@@ -150,7 +150,7 @@ pub fn keep_server(
     ensures kept { IfSome result (λ told. stream.new ≡ kept_now stream.old used) }
     ensures same { IfNone result ((waiting.new ≡ waiting.old) × (stream.new ≡ stream.old)) }
 {
-    let answered = forget_front(stream.count(), waiting, stream.payload())?;
+    let answered = forget_quick(stream.count(), waiting, stream.payload())?;
     stream.keep(used);
     Some(answered)
 }
@@ -168,11 +168,11 @@ pub fn pass_server(
     requires front { IsAtFrame (held_in stream.old (take used piece.now)) used }
     requires none { (stream.old.held ≡ []) × (stream.old.kept ≡ []) }
     ensures max { waiting.new.max ≡ waiting.old.max }
-    ensures found { (asked : ℕ) → IfSome result (λ told. (s : answers.ServerFrame) × PassesServer asked stream.old waiting.old (take used piece.now) s waiting.new) }
-    ensures passed { IfSome result (λ told. stream.new ≡ passed stream.old used) }
+    ensures found { (asked : ℕ) → IfSome result (λ _. (s : answers.ServerFrame) × PassesServer asked stream.old waiting.old (take used piece.now) s waiting.new) }
+    ensures passed { IfSome result (λ _. stream.new ≡ passed stream.old used) }
     ensures same { IfNone result ((waiting.new ≡ waiting.old) × (stream.new ≡ stream.old)) }
 {
-    let answered = forget_front(stream.count(), waiting, carried(piece, used))?;
+    let answered = forget_quick(stream.count(), waiting, carried(piece, used))?;
     stream.pass_front(used);
     Some(answered)
 }

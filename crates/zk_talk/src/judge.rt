@@ -1,5 +1,5 @@
 //! Whether a payload may come next, and what waits after it.
-ghost use Rattle.std.specs.Prelude.{◌≡◌, ◌≢◌, ◌<◌, ◌^◌, ◌↔◌, ℕ, ℤ, List, length, IsOk, IfOk, IfErr, IfSome, IfNone, OnOk, IsTrue, MatchBool, false, Some};
+ghost use Rattle.std.specs.Prelude.{◌≡◌, ◌≢◌, ◌<◌, ◌^◌, ◌↔◌, ℕ, List, length, IsOk, IfOk, IfErr, IfSome, IfNone, OnOk, IsTrue, MatchBool, false, Some};
 ghost use Rattle.zk_jute.specs.declared.fault.Reason.TheVariants.{NoMemory};
 ghost use Rattle.zk_asks.specs.Codes.{event_xid};
 ghost use Rattle.zk_asks.specs.Held as asks;
@@ -12,7 +12,7 @@ ghost use Rattle.zk_waiting.specs.Waiting.{IsDropped};
 ghost use Rattle.zk_talk.specs.Payloads.{client_payload, server_payload};
 ghost use Rattle.zk_talk.specs.Conversation.{Conversation, ServerMay};
 ghost use Rattle.zk_talk.specs.Describes.{Describes};
-ghost use Rattle.zk_talk.specs.Settled.{IsAwaited, IsDueReply, IsDueOf, IsSettled};
+ghost use Rattle.zk_talk.specs.Settled.{IsAwaited, IsDueReply, IsSettled};
 ghost use Rattle.zk_talk.specs.Judged.{TellsLater, TellsClient, TellsServer, IsInTurn, IsTurnFault, IsPutRefusal, HasRoomFor, IsNumbered, IsRemembered, IsDue, HasAsk, IsForgotten, TellsReplied};
 ghost use Rattle.zk_talk.specs.Said.{Heard};
 ghost use Rattle.zk_talk.specs.SaidPayload.{HearsFault};
@@ -21,14 +21,14 @@ use crate::replied::Replied;
 use std::alloc::Global;
 use zk_answers::{
     ServerFrame, ServerFrameOf, ServerRef, borrow_connected, borrow_event_under,
-    borrow_reply_under, form_of, front_event, front_reply, reply_head,
+    borrow_reply_under, form_of, quick_event, quick_reply, reply_head,
 };
 use zk_asks::{
-    Asked, ClientFrame, ClientFrameOf, ClientRef, RequestRef, borrow_ask, borrow_first, front_ask,
-    front_multi,
+    Asked, ClientFrame, ClientFrameOf, ClientRef, RequestRef, borrow_ask, borrow_first, quick_ask,
+    quick_multi,
 };
 use zk_jute::{ItemFault, Reason};
-use zk_records::{Op, Profile, ReplyHeader};
+use zk_records::{Profile, ReplyHeader};
 use zk_waiting::{Awaited, Lane, PutFault, lane_of};
 
 /// The client's payload after `count` frames, borrowed.
@@ -81,7 +81,7 @@ fn await_multi(profile: Profile, number: u64, waiting: &mut Awaited, payload: &[
     ensures found { IsTrue result → (count : ℕ) → (count ≡ 0 → ⊥) → (f : asks.ClientFrame) × IsAwaited profile count number payload.now waiting.old waiting.new f }
     ensures same { result ≡ false → waiting.new ≡ waiting.old }
 {
-    match front_multi(profile, payload) {
+    match quick_multi(profile, payload) {
         Some((xid, multi)) => waiting.put_numbered(xid, &multi, number).is_ok(),
         None => false,
     }
@@ -90,7 +90,7 @@ fn await_multi(profile: Profile, number: u64, waiting: &mut Awaited, payload: &[
 /// Lets the client's payload after `count` frames wait for its reply as its frame `number`, if it is a request that may
 /// come next; false: undecided, and nothing changed. No fault and no frame is made.
 #[inline(always)]
-pub fn await_front(
+pub fn await_quick(
     profile: Profile,
     count: u64,
     number: u64,
@@ -104,7 +104,7 @@ pub fn await_front(
     if count == 0 {
         return false;
     }
-    match front_ask(profile, payload) {
+    match quick_ask(profile, payload) {
         Some((xid, ask)) => waiting.put_numbered(xid, &ask, number).is_ok(),
         None => await_multi(profile, number, waiting, payload),
     }
@@ -124,17 +124,6 @@ pub fn await_numbered(waiting: &mut Awaited, frame: &ClientRef<'_>, count: u64)
             Err(PutFault::QueueFull) => unreachable!(),
         }
     }
-}
-
-/// Lets `frame` wait for its reply, if it is to have one, whatever its number; there is room for it.
-pub fn await_reply(waiting: &mut Awaited, frame: &ClientRef<'_>)
-    requires may { MaySend frame.now }
-    requires small { length (client_payload frame.now) < 2 ^ 32 }
-    requires room { HasRoomFor frame.now waiting.old }
-    ensures max { waiting.new.max ≡ waiting.old.max }
-    ensures waits { IsRemembered frame.now waiting.old waiting.new }
-{
-    await_numbered(waiting, frame, 0);
 }
 
 /// Lets `frame` wait for its reply, if it is to have one.
@@ -234,7 +223,7 @@ pub fn next_server<'a>(
 
 /// The oldest request of `lane`, that of the header `head`, if `payload` is a reply to it; `None`: undecided.
 #[inline(always)]
-fn front_answer(
+pub fn quick_answer(
     lane: Lane,
     head: &ReplyHeader,
     waiting: &Awaited,
@@ -246,7 +235,7 @@ fn front_answer(
     ensures { IfSome result (λ request. (r : answered.Reply) × IsDueReply head.now.xid payload.now request waiting.now r) }
 {
     let slot = waiting.oldest(lane)?;
-    if slot.xid() == head.xid && front_reply(&slot, head, payload) {
+    if slot.xid() == head.xid && quick_reply(&slot, head, payload) {
         let (op, frame) = (slot.op(), slot.frame());
         Some(Replied { op, frame })
     } else {
@@ -254,28 +243,7 @@ fn front_answer(
     }
 }
 
-/// Drops the request that `front_answer` returns, and returns it.
-#[inline(always)]
-fn forget_on(
-    lane: Lane,
-    head: &ReplyHeader,
-    waiting: &mut Awaited,
-    payload: &[u8],
-) -> Option<Replied>
-    requires lane { lane ≡ lane_of head.now.xid }
-    requires head { (rest : List ℕ) × IsHead payload.now head.now rest }
-    requires reply { head.now.xid ≢ event_xid }
-    ensures max { waiting.new.max ≡ waiting.old.max }
-    ensures due { IfSome result (λ request. (r : answered.Reply) × IsDueReply head.now.xid payload.now request waiting.old r) }
-    ensures dropped { IfSome result (λ request. IsDropped (lane_of head.now.xid) waiting.old waiting.new) }
-    ensures same { IfNone result (waiting.new ≡ waiting.old) }
-{
-    let request = front_answer(lane, head, waiting, payload)?;
-    waiting.drop_oldest(lane);
-    Some(request)
-}
-
-/// `forget_on` of any lane.
+/// Drops the request that `quick_answer` returns, of any lane, and returns it.
 // Not inlined, so that the way of the plain lane holds no values of the others.
 #[inline(never)]
 fn forget_special(
@@ -292,24 +260,26 @@ fn forget_special(
     ensures dropped { IfSome result (λ request. IsDropped (lane_of head.now.xid) waiting.old waiting.new) }
     ensures same { IfNone result (waiting.new ≡ waiting.old) }
 {
-    forget_on(lane, head, waiting, payload)
+    let request = quick_answer(lane, head, waiting, payload)?;
+    waiting.drop_oldest(lane);
+    Some(request)
 }
 
-/// Whether `payload`, which begins with the header `head`, is an event; false: undecided. As `front_event`.
+/// Whether `payload`, which begins with the header `head`, is an event; false: undecided. As `quick_event`.
 // Not inlined: with it the way of replies is too long to be inlined itself.
 #[inline(never)]
-fn is_event(head: &ReplyHeader, payload: &[u8]) -> bool
+pub fn is_event(head: &ReplyHeader, payload: &[u8]) -> bool
     requires head { (rest : List ℕ) × IsHead payload.now head.now rest }
     requires event { head.now.xid ≡ event_xid }
     ensures { IsTrue result → (s : answered.ServerFrame) × answers.IsEvent s × answers.IsSent s × (payload.now ≡ answers.payload s) }
 {
-    front_event(head, payload)
+    quick_event(head, payload)
 }
 
 /// Judges the server's payload after `count` frames: if it is a reply that may come next, drops the request and returns
 /// it; `Some(None)` if it is an event that may. `None`: undecided, and nothing changed. No fault and no frame is made.
 #[inline(always)]
-pub fn forget_front(count: u64, waiting: &mut Awaited, payload: &[u8]) -> Option<Option<Replied>>
+pub fn forget_quick(count: u64, waiting: &mut Awaited, payload: &[u8]) -> Option<Option<Replied>>
     ensures max { waiting.new.max ≡ waiting.old.max }
     ensures found { IfSome result (λ told. (s : answered.ServerFrame) × IsSettled count payload.now told waiting.old waiting.new s) }
     ensures same { IfNone result (waiting.new ≡ waiting.old) }
@@ -328,7 +298,8 @@ pub fn forget_front(count: u64, waiting: &mut Awaited, payload: &[u8]) -> Option
     }
     match lane_of(head.xid) {
         Lane::Plain => {
-            let request = forget_on(Lane::Plain, &head, waiting, payload)?;
+            let request = quick_answer(Lane::Plain, &head, waiting, payload)?;
+            waiting.drop_oldest(Lane::Plain);
             Some(Some(request))
         }
         lane => {
@@ -352,49 +323,6 @@ pub fn replied(waiting: &Awaited, frame: &ServerRef<'_>) -> Option<Replied>
         ServerFrameOf::Connected { .. } => None,
         ServerFrameOf::Event { .. } => None,
     }
-}
-
-/// Whether these are one operation.
-fn is_same(a: Op, b: Op) -> bool
-    ensures { IsTrue result → a ≡ b }
-{
-    a == b
-}
-
-/// Drops the request of the operation `op` that `payload` replies to, if it may come after the server's first; false:
-/// undecided, and nothing changed. No fault and no frame is made.
-pub fn forget_answer(op: Op, waiting: &mut Awaited, payload: &[u8]) -> bool
-    ensures max { waiting.new.max ≡ waiting.old.max }
-    ensures found { IsTrue result → (xid : ℤ) × (r : answered.Reply) × IsDueOf op xid payload.now waiting.old r × IsDropped (lane_of xid) waiting.old waiting.new }
-    ensures same { result ≡ false → waiting.new ≡ waiting.old }
-{
-    let Ok(head) = reply_head(payload) else {
-        return false;
-    };
-    if head.xid == -1 {
-        return false;
-    }
-    let Some(answered) = front_answer(lane_of(head.xid), &head, waiting, payload) else {
-        return false;
-    };
-    if !is_same(answered.op, op) {
-        return false;
-    }
-    waiting.drop_oldest(lane_of(head.xid));
-    true
-}
-
-/// Whether `payload` is an event; false: undecided. No fault and no frame is made.
-pub fn is_event_alone(payload: &[u8]) -> bool
-    ensures { IsTrue result → (s : answered.ServerFrame) × answers.IsEvent s × answers.IsSent s × (payload.now ≡ answers.payload s) }
-{
-    let Ok(head) = reply_head(payload) else {
-        return false;
-    };
-    if head.xid != -1 {
-        return false;
-    }
-    is_event(&head, payload)
 }
 
 /// Drops the request that `frame` replies to.

@@ -6,7 +6,7 @@ ghost use Rattle.zk_talk.specs.declared.say.SayFault.TheVariants.{NoMemory};
 ghost use Rattle.zk_talk.specs.declared.payload.PayloadFault.TheVariants.{Say};
 ghost use Rattle.zk_talk.specs.SaidPayload.{SaysClientPayload, StandsClientPayload, RefusesClientPayload, SaysServerPayload, StandsServerPayload, RefusesServerPayload};
 
-use crate::judge::{await_reply, forget_seen, has_room, seen_client, seen_server};
+use crate::judge::{await_numbered, forget_seen, has_room, seen_client, seen_server};
 use crate::limits::Limits;
 use crate::say::{SayFault, put_length};
 use std::alloc::AllocError;
@@ -85,7 +85,7 @@ pub fn say_client_payload(
     let Ok(()) = put_frame(payload, out) else {
         return Err(PayloadFault::Say(SayFault::NoMemory));
     };
-    await_reply(waiting, &frame);
+    await_numbered(waiting, &frame, 0);
     Ok(())
 }
 

@@ -9,7 +9,7 @@ ghost use Rattle.zk_talk.specs.Conversation.{Conversation};
 ghost use Rattle.zk_talk.specs.Good.{Good, IsOrder};
 ghost use Rattle.zk_talk.specs.Fault.{IsFaultOf};
 ghost use Rattle.zk_talk.specs.Ending.{IsEnding, unanswered};
-ghost use Rattle.zk_talk.specs.Answer.{history_of, AreMessages, Feeds};
+ghost use Rattle.zk_talk.specs.Answer.{history_of, AreMessages, TakesAll};
 
 use crate::limits::Limits;
 use crate::message::{Ended, Ending, Fault, Message, Side};
@@ -43,14 +43,14 @@ fn rest(bytes: &[u8], at: usize) -> &[u8]
 }
 
 /// Takes all of a piece, up to the history's fault.
-fn feed(
+fn take_all(
     talk: &mut Talk,
     side: Side,
     bytes: &[u8],
     messages: &mut Vec<Message>,
 ) -> Result<Option<Fault>, AllocError>
     ensures limits { talk.new.limits ≡ talk.old.limits }
-    ensures fed { IfOk result (λ fault. Feeds talk.old messages.old.items side bytes.now fault talk.new messages.new.items) }
+    ensures fed { IfOk result (λ fault. TakesAll talk.old messages.old.items side bytes.now fault talk.new messages.new.items) }
 {
     let mut at = 0;
     while at < bytes.len() {
@@ -92,7 +92,7 @@ pub fn read_all(
     let mut talk = Talk::new(alloc, limits)?;
     let mut messages = Vec::new(alloc);
     for piece in pieces {
-        if let Some(fault) = feed(&mut talk, piece.0, piece.1, &mut messages)? {
+        if let Some(fault) = take_all(&mut talk, piece.0, piece.1, &mut messages)? {
             return Ok(Ended {
                 messages,
                 ending: Ending::Refused(fault),

@@ -149,7 +149,7 @@ impl Stream {
     }
 
     /// The number of bytes that are held, those of a kept frame included.
-    pub fn lies(&self) -> u32
+    pub fn held_and_kept(&self) -> u32
         ensures count { result ≡ length self.now.held + length self.now.kept }
         ensures within { result ≤ 4 + self.now.limit }
     {

@@ -12,7 +12,7 @@ ghost use Rattle.zk_talk.specs.Fault.{side_limit, rest_on};
 ghost use Rattle.zk_talk.specs.Ending.{IsEnding};
 ghost use Rattle.zk_talk.specs.Numbers.{NewestAnswers};
 ghost use Rattle.zk_talk.specs.declared.message.Side.TheVariants.{Server};
-ghost use Rattle.zk_talk.specs.Stands.{held_on, kept_on, frames_on, Stands, Refuses, WhereItStands};
+ghost use Rattle.zk_talk.specs.Stands.{held_on, kept_on, frames_on, Stands, Refuses, WhereItStands, WhereKept};
 ghost use Rattle.zk_talk.specs.Refused.{TellsRefusedBody};
 ghost use Rattle.zk_records.specs.declared.op.Op.TheVariants as ops;
 ghost use Rattle.zk_answers.specs.declared.layout.Layout.TheVariants as layouts;
@@ -439,8 +439,8 @@ impl Talk {
     pub fn answered(&self) -> Option<u64>
         ensures none { kept_on Server self.now ≡ [] → result ≡ None }
         // A reply answers the request that has as many of its lane before it as the reply has replies.
-        ensures stands { WhereItStands self.now (λ v client_rest server_rest. (kept_on Server self.now ≡ [] → ⊥) → NewestAnswers v result) }
-        ensures refuses { (h : History) (M : List Message) (f : Fault) (r : Refuses self.now h M f) → (kept_on Server self.now ≡ [] → ⊥) → NewestAnswers r.is.conversation result }
+        ensures stands { WhereItStands self.now (λ v client_rest server_rest. WhereKept self.now (NewestAnswers v result)) }
+        ensures refuses { (h : History) (M : List Message) (f : Fault) (r : Refuses self.now h M f) → WhereKept self.now (NewestAnswers r.is.conversation result) }
     {
         let _payload = self.server.kept_payload()?;
         match self.answered {
@@ -534,8 +534,8 @@ impl Talk {
         ensures most { result ≤ 4 + side_limit self.now.limits side }
     {
         match side {
-            Side::Client => self.client.lies(),
-            Side::Server => self.server.lies(),
+            Side::Client => self.client.held_and_kept(),
+            Side::Server => self.server.held_and_kept(),
         }
     }
 

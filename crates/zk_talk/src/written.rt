@@ -1,12 +1,19 @@
 //! `await_written`, `forget_written`, `put_in_length`: a message that is given as its kind and its payload's bytes.
-ghost use Rattle.std.specs.Prelude.{◌≡◌, ◌+◌, ◌≤◌, ◌<◌, ◌^◌, ◌++◌, length, take, drop, false, IsTrue};
+ghost use Rattle.std.specs.Prelude.{◌≡◌, ◌+◌, ◌≤◌, ◌<◌, ◌^◌, ◌++◌, ℤ, length, take, drop, false, IsTrue};
+ghost use Rattle.zk_answers.specs.Held as answered;
+ghost use Rattle.zk_answers.specs.Frames as answers;
 ghost use Rattle.zk_frames.specs.Framing.{frame};
+ghost use Rattle.zk_waiting.specs.Lane.{lane_of};
+ghost use Rattle.zk_waiting.specs.Waiting.{IsDropped};
+ghost use Rattle.zk_talk.specs.Settled.{IsDueOf};
 ghost use Rattle.zk_talk.specs.Written.{SaysClientWritten, SaysServerWritten};
 
-use crate::judge::{await_front, forget_answer, is_event_alone, seen_client, seen_server};
+use crate::judge::{await_quick, is_event, quick_answer, seen_client, seen_server};
 use crate::limits::Limits;
 use crate::message::Kind;
-use zk_waiting::Awaited;
+use zk_answers::reply_head;
+use zk_records::Op;
+use zk_waiting::{Awaited, lane_of};
 
 /// Lets the client's message of this kind and payload wait for its reply, if it may be said; false: undecided, and nothing
 /// changed. It allocates nothing.
@@ -37,10 +44,53 @@ pub fn await_written(
             if !asked {
                 return false;
             }
-            await_front(limits.profile(), 1, 0, waiting, payload)
+            await_quick(limits.profile(), 1, 0, waiting, payload)
         }
         Kind::Connected | Kind::Answered(_) | Kind::Event => false,
     }
+}
+
+/// Whether these are one operation.
+fn is_same(a: Op, b: Op) -> bool
+    ensures { IsTrue result → a ≡ b }
+{
+    a == b
+}
+
+/// Drops the request of the operation `op` that `payload` replies to, if it may come after the server's first; false:
+/// undecided, and nothing changed. No fault and no frame is made.
+fn forget_answer(op: Op, waiting: &mut Awaited, payload: &[u8]) -> bool
+    ensures max { waiting.new.max ≡ waiting.old.max }
+    ensures found { IsTrue result → (xid : ℤ) × (r : answered.Reply) × IsDueOf op xid payload.now waiting.old r × IsDropped (lane_of xid) waiting.old waiting.new }
+    ensures same { result ≡ false → waiting.new ≡ waiting.old }
+{
+    let Ok(head) = reply_head(payload) else {
+        return false;
+    };
+    if head.xid == -1 {
+        return false;
+    }
+    let Some(answered) = quick_answer(lane_of(head.xid), &head, waiting, payload) else {
+        return false;
+    };
+    if !is_same(answered.op, op) {
+        return false;
+    }
+    waiting.drop_oldest(lane_of(head.xid));
+    true
+}
+
+/// Whether `payload` is an event; false: undecided. No fault and no frame is made.
+fn is_event_alone(payload: &[u8]) -> bool
+    ensures { IsTrue result → (s : answered.ServerFrame) × answers.IsEvent s × answers.IsSent s × (payload.now ≡ answers.payload s) }
+{
+    let Ok(head) = reply_head(payload) else {
+        return false;
+    };
+    if head.xid != -1 {
+        return false;
+    }
+    is_event(&head, payload)
 }
 
 /// Drops the request that the server's message of this kind and payload replies to, if it may be said; false: undecided,

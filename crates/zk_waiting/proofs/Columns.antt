@@ -1,5 +1,5 @@
 -- Columns over one list of rows, after one more or one less.
-use Rattle.std.proofs.Common.{◌≡◌, ℕ, suc, ◌+◌, ◌-◌, ◌<◌, ◌≤◌, inl, inr, List, [], ◌∷◌, ◌++◌, length, drop, refl, sym, ap, ◌∙◌, subst, Bool, true, false, Some, None, arith}
+use Rattle.std.proofs.Common.{◌≡◌, ℕ, suc, ◌+◌, ◌-◌, ◌<◌, ◌≤◌, ◌^◌, inl, inr, List, [], ◌∷◌, ◌++◌, length, drop, refl, sym, ap, ◌∙◌, subst, Bool, true, false, Option, Some, None, arith}
 use Rattle.std.specs.Prelude.{slice_get, slice_set, option_map, if◌then◌else◌, nat_le}
 use Rattle.std.proofs.lemmas.Bool.{cases_eq, cases_lt}
 use Rattle.std.proofs.lemmas.Bool.Decides.{nat_tests}
@@ -130,6 +130,30 @@ count_is Watches rows room spans laid = items_length watches_of rows room spans.
 count_is Plain rows room spans laid = items_length plain_of rows room spans.plain laid.plain
 count_is Part rows room spans laid = items_length part_of rows room spans.part laid.part
 
+-- a place after the column's last, where there is room
+module _ (col : Column) (rows : List Row) (room : ℕ) (spans : Spans) (laid : AreLaid room (length rows) spans) (fits : count_on col (columns rows room spans) < room) where
+  abbrev own : Span
+  own = span_on col spans
+
+  own_laid : IsLaid room (length rows) own
+  own_laid = laid_on col room (length rows) spans laid
+
+  pub few : own.count < room
+  few = omega (arith, fits, count_is col rows room spans laid)
+
+  head_small : own.head < room
+  head_small = own_laid.head (omega (arith, fits))
+
+  -- what `Span::place` asks of it
+  pub next_asks : (own.head < room) × (own.count ≤ room) × (room < 2 ^ 32)
+  next_asks = (head_small, own_laid.count, laid.small)
+
+  pub next_there : walk room own.head own.count ≤ length rows
+  next_there = place_there room (length rows) own own_laid laid.most few
+
+  pub next_below : walk room own.head own.count < room
+  next_below = walk_small room own.head own.count head_small few
+
 abbrev grown : Span → Span
 grown s = record { head = s.head; count = s.count + 1 }
 
@@ -245,3 +269,8 @@ module _ (rows : List Row) (room : ℕ) (spans : Spans) (laid : AreLaid room (le
 
   pub part_none : spans.part.count ≤ j → slice_get (columns rows room spans).parts j ≡ None
   part_none few = slice_get_past (columns rows room spans).parts j (omega (arith, items_length part_of rows room spans.part laid.part, few))
+
+  -- what is read at its place
+  pub part_read : j < spans.part.count → (found : Option Row) (read : List Row) (place : ℕ) → found ≡ slice_get read place → place ≡ walk room spans.part.head j → read ≡ rows →
+      option_map part_of found ≡ slice_get (columns rows room spans).parts j
+  part_read less found read place is at same = ap (option_map part_of) (is ∙ (λ i. slice_get (same i) (at i))) ∙ sym (part_is less)

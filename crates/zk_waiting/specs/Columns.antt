@@ -9,6 +9,7 @@ use Rattle.zk_waiting.specs.declared.row.Row.{Row}
 use Rattle.zk_waiting.specs.declared.span.Span.{Span}
 use Rattle.zk_waiting.specs.declared.span.Spans.{Spans}
 use Rattle.zk_waiting.specs.Rings.{parts_count}
+use Rattle.zk_waiting.specs.Waiting.{Request}
 
 -- of each special lane the numbers of frames, of the plain lane items of X, and operations of parts, each with the oldest
 -- first; and for how many each has room
@@ -46,6 +47,10 @@ with_numbers Auth numbers c = record c { auth = numbers }
 with_numbers Watches numbers c = record c { watches = numbers }
 with_numbers Plain numbers c = c
 with_numbers Part numbers c = c
+
+-- the columns, with one request more in the plain lane, after the others
+abbrev pub with_plain : Request → Columns Request → Columns Request
+with_plain r c = record c { plain = c.plain ++ r ∷ [] }
 
 -- the column's item of the row comes after its others
 abbrev pub with_item : Column → Row → Columns Entry → Columns Entry

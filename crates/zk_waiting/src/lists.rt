@@ -1,6 +1,6 @@
 //! `Lists`: the requests of four lanes, of which those of the special ones have only the numbers of their frames.
 ghost use Rattle.std.specs.Prelude.{◌≡◌, ◌+◌, ◌<◌, ◌≤◌, ◌^◌, [], ◌∷◌, ◌++◌, length, drop, slice_get, IfOk, IfSome};
-ghost use Rattle.zk_waiting.specs.Columns.{no_columns, numbers_on, with_numbers};
+ghost use Rattle.zk_waiting.specs.Columns.{no_columns, numbers_on, with_numbers, with_plain};
 ghost use Rattle.zk_waiting.specs.Waiting.{queue_weight, IsFit};
 
 use crate::entry::Entry;
@@ -10,7 +10,7 @@ use crate::rows::Rows;
 use std::alloc::{AllocError, Global};
 use std::marker::Model;
 use zk_asks::Asked;
-use zk_records::{Op, PartOp};
+use zk_records::Op;
 
 /// The numbers of the frames of the three special lanes and the requests of the plain one, each with the oldest first. The
 /// operations of the parts of all requests are one after another in a column of their own.
@@ -58,16 +58,10 @@ impl Lists {
         ensures { self.new ≡ with_numbers column (numbers_on column self.old ++ frame ∷ []) self.old }
     {
         let row = Row {
-            plain: Entry {
-                xid: 0,
-                op: Op::Ping,
-                parts: 0,
-                frame: 0,
-            },
             ping: frame,
             auth: frame,
             watches: frame,
-            part: PartOp::Check,
+            ..Row::unset()
         };
         match column {
             Column::Ping => self.rows.append(Column::Ping, row),
@@ -82,7 +76,7 @@ impl Lists {
     #[inline(always)]
     pub fn put<F: Asked>(&mut self, xid: i32, form: &F, frame: u64)
         requires { queue_weight self.old.plain + (1 + length (F.part_ops form.now)) ≤ self.old.room }
-        ensures { self.new ≡ record self.old { plain = self.old.plain ++ record { xid = xid; op = F.operation form.now; parts = F.part_ops form.now; frame = frame } ∷ [] } }
+        ensures { self.new ≡ with_plain (record { xid = xid; op = F.operation form.now; parts = F.part_ops form.now; frame = frame }) self.old }
     {
         push_parts(&mut self.rows, form);
         let entry = Entry {

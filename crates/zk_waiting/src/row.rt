@@ -1,9 +1,9 @@
 //! `Row`: what is at one place: an item of each column.
 ghost use Rattle.std.specs.Prelude.{◌≡◌};
-ghost use Rattle.zk_waiting.specs.Columns.{number_in, with_column};
+ghost use Rattle.zk_waiting.specs.Columns.{number_in, with_column, entry_row};
 
 use crate::entry::Entry;
-use zk_records::PartOp;
+use zk_records::{Op, PartOp};
 
 /// A list of `Rows`: a lane, or the operations of the plain lane's parts.
 #[derive(Clone, Copy)]
@@ -31,6 +31,25 @@ pub struct Row {
 }
 
 impl Row {
+    /// A row of which no item is used yet.
+    #[inline(always)]
+    pub fn unset() -> Row
+        ensures { result ≡ entry_row result.plain }
+    {
+        Row {
+            plain: Entry {
+                xid: 0,
+                op: Op::Ping,
+                parts: 0,
+                frame: 0,
+            },
+            ping: 0,
+            auth: 0,
+            watches: 0,
+            part: PartOp::Check,
+        }
+    }
+
     /// The column's number; `None` for a column of other items.
     #[inline(always)]
     pub fn number(&self, column: Column) -> Option<u64>

@@ -9,7 +9,7 @@ use crate::span::Spans;
 use std::alloc::{AllocError, Global};
 use std::marker::Model;
 use zk_asks::Room;
-use zk_records::{Op, PartOp};
+use zk_records::PartOp;
 
 /// The items of five columns, each with the oldest first. A row is written when its place is first used, and a column that
 /// was empty begins at the first place.
@@ -216,18 +216,9 @@ impl Room for Rows {
     ghost kept = { λ r. record r { parts = [] } };
 
     fn push(&mut self, op: PartOp) {
-        let plain = Entry {
-            xid: 0,
-            op: Op::Ping,
-            parts: 0,
-            frame: 0,
-        };
         let row = Row {
-            plain,
-            ping: 0,
-            auth: 0,
-            watches: 0,
             part: op,
+            ..Row::unset()
         };
         self.append(Column::Part, row);
     }

@@ -9,8 +9,8 @@ pub returns-then-count-le5-clause-spelled : goal.returns-then-count-le5-clause-s
 returns-then-count-le5-clause-spelled c =
     let most : 3 * c.args.count ≤ 16 = omega arith in
     on_piece _ _ _ _ _ (ap (take (3 * c.args.count)) (c.as_array.ensures ∙ c.five_escapes.ensures.escapes) ∙ take-take (3 * c.args.count) 16 (flat_map escape c.args.bytes) most
-    ∙ spelled_front c.args.count c.args.bytes (omega (arith, c.fits-bytes.0)) c.requires.odd) c.append_front.ensures.appended
+    ∙ spelled_front c.args.count c.args.bytes (omega (arith, c.fits-bytes.0)) c.requires.odd) c.append_first.ensures.appended
 
 pub returns-else-count-le5-clause-spelled : goal.returns-else-count-le5-clause-spelled
 returns-else-count-le5-clause-spelled c =
-    on_piece _ _ _ _ _ (ap (take (3 * c.args.count)) c.escapes.ensures ∙ spelled_front c.args.count c.args.bytes (omega (arith, c.fits-bytes.0)) c.requires.odd) c.append_front-else-count-le5.ensures.appended
+    on_piece _ _ _ _ _ (ap (take (3 * c.args.count)) c.escapes.ensures ∙ spelled_front c.args.count c.args.bytes (omega (arith, c.fits-bytes.0)) c.requires.odd) c.append_first-else-count-le5.ensures.appended

@@ -15,4 +15,4 @@ returns-clause-spelled c =
     let long : count ≡ length (signed_decimal c.args.n) = search (arith, ints, to_z-of_z, w.ensures.begins) in
     let digits : take count (take 20 ahead) ≡ signed_decimal c.args.n = front_of 20 count ahead (signed_decimal c.args.n) _ is long (omega arith) in
     let twenty : w.result + 20 - w.result ≡ 20 = omega arith in
-    on_piece c.append_front.result c.args.out.now.items c.append_front.new.out.items _ _ (ap (λ (k : ℕ). take count (take k ahead)) twenty ∙ digits) c.append_front.ensures.appended
+    on_piece c.append_first.result c.args.out.now.items c.append_first.new.out.items _ _ (ap (λ (k : ℕ). take count (take k ahead)) twenty ∙ digits) c.append_first.ensures.appended

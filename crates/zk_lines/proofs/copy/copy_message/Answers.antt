@@ -27,6 +27,6 @@ returns-clause-copied c =
     let other = rw c.if-passes.false at c.passes.ensures in
     let word = ap (word_at (codes "S ")) (sym other.1) ∙ c.in-Ok.ensures.read in
     if_some c.at_end-2.result
-    (λ k done. of_server line c.front.new.self old new k other.0 word
-    (subst (λ kind. CopiedMessage (said message.Server (whole (server_at c.front.new.self))) kind old new) (sym done.0) (server_whole c.front.new.self c.copy_server.new.line old new c.in_ok-kind-2.kind c.in_ok-kind-2.ensures.copied done.1)))
+    (λ k done. of_server line c.literal.new.self old new k other.0 word
+    (subst (λ kind. CopiedMessage (said message.Server (whole (server_at c.literal.new.self))) kind old new) (sym done.0) (server_whole c.literal.new.self c.copy_server.new.line old new c.in_ok-kind-2.kind c.in_ok-kind-2.ensures.copied done.1)))
     c.at_end-2.ensures

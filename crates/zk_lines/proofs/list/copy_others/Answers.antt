@@ -19,9 +19,9 @@ loop-turn-preserved g c =
     let other = rw c.if-passes.false at c.passes.ensures in
     let read = c.in_ok-copy.ensures.copied in
     let word = ap (word_at (sep ∷ [])) (sym other.1) ∙ c.in-Ok.ensures.read in
-    let element = element_some sep close at l.line c.front.new.self c.copy.new.line read.value other.0 word read.read in
+    let element = element_some sep close at l.line c.literal.new.self c.copy.new.line read.value other.0 word read.read in
     record {
-      begun = one_more (element_at sep close at) g.T.Spell.items c.args.line.now l.line c.front.new.self c.copy.new.line c.args.out.now.items l.out.items c.copy.new.out.items c.left-turns.result l.turn (omega arith) l.invariant.begun read element;
+      begun = one_more (element_at sep close at) g.T.Spell.items c.args.line.now l.line c.literal.new.self c.copy.new.line c.args.out.now.items l.out.items c.copy.new.out.items c.left-turns.result l.turn (omega arith) l.invariant.begun read element;
       keeps = λ front is. c.in_ok-copy.ensures.keeps front (l.invariant.keeps front is);
     }
 

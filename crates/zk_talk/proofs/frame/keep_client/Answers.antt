@@ -10,7 +10,7 @@ use Rattle.zk_talk.proofs.frame.keep_client.Goals as goal
 
 pub returns-clause-found : goal.returns-clause-found
 returns-clause-found c = λ yes.
-    let found = c.await_front.ensures.found c.if-not-await_front.false in
+    let found = c.await_quick.ensures.found c.if-not-await_quick.false in
     let f = found.0 in
     let k = found.1 in
     let old = c.args.stream.now in
@@ -18,8 +18,8 @@ returns-clause-found c = λ yes.
     let shows = client_shown c.count-count.result old.held f c.args.profile k.turn k.sent (c.payload.ensures ∙ ap frame (sym k.is)) in (
       f,
       (
-        client_seen old c.args.used c.count-count.result c.requires c.payload.result.now c.payload.ensures c.count-count.ensures w c.args.profile f k.turn k.sent k.is (room_before c.count-count.result f w c.await_front.new.waiting k.waits),
-        subst (λ (n : ℕ). IsNumbered n f w c.await_front.new.waiting) c.count-count.ensures k.waits,
+        client_seen old c.args.used c.count-count.result c.requires c.payload.result.now c.payload.ensures c.count-count.ensures w c.args.profile f k.turn k.sent k.is (room_before c.count-count.result f w c.await_quick.new.waiting k.waits),
+        subst (λ (n : ℕ). IsNumbered n f w c.await_quick.new.waiting) c.count-count.ensures k.waits,
         subst (λ (z : StreamState). ShowsClient z.count z.kept f) (sym c.keep.ensures) (subst (λ n. ShowsClient (n + 1) old.held f) c.count-count.ensures shows),
       ),
     )

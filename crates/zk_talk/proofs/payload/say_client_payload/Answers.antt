@@ -35,4 +35,4 @@ returns-clause-said c =
     let found = c.in-Ok.ensures.found in
     let turn = subst (λ z. IsInTurn z c.from.result c.in-Ok.frame) c.profile.ensures found.0 in
     let small : length c.args.payload.now ≤ c.args.limits.client = omega (arith, c.if-payload-client.false, c.client.ensures) in
-    client_payload_said c.args.limits c.args.asked c.from.result (spoken_frames c.args.asked c.from.result c.from.ensures) c.args.waiting.now c.args.payload.now c.in-Ok.frame turn found.1 found.2 c.await_reply.new.waiting c.requires.room small c.await_reply.ensures.waits
+    client_payload_said c.args.limits c.args.asked c.from.result (spoken_frames c.args.asked c.from.result c.from.ensures) c.args.waiting.now c.args.payload.now c.in-Ok.frame turn found.1 found.2 c.await_numbered.new.waiting c.requires.room small c.await_numbered.ensures.waits

@@ -1,10 +1,10 @@
-use Rattle.zk_fields.specs.Walks.{header_at, result_mark}
+use Rattle.zk_fields.specs.Walks.{header_at, headed_result}
 use Rattle.zk_fields.proofs.Walking.{head_there, head_fails}
 use Rattle.zk_fields.proofs.opened.AnyResultWalk.walk.Goals as goal
 
 pub returns-in-Ok-clause-walks : goal.returns-in-Ok-clause-walks
 returns-in-Ok-clause-walks c =
-    head_there result_mark c.args.payload.now c.args.at c.args.room.now c.walk_under.new.room (header_at c.args.payload.now c.args.place) c.in-Ok.header c.in-Ok.place c.result_mark-mark.result c.walk_under.result c.in-Ok.ensures.exact c.result_mark-mark.ensures c.walk_under.ensures.walks
+    head_there headed_result c.args.payload.now c.args.at c.args.room.now c.walk_under.new.room (header_at c.args.payload.now c.args.place) c.in-Ok.header c.in-Ok.place c.headed_result-headed.result c.walk_under.result c.in-Ok.ensures.exact c.headed_result-headed.ensures c.walk_under.ensures.walks
 
 pub returns-in-Err-clause-walks : goal.returns-in-Err-clause-walks
-returns-in-Err-clause-walks c = head_fails result_mark c.args.payload.now c.args.at c.args.room.now c.in-Err._fault (header_at c.args.payload.now c.args.place) c.in-Err.ensures.exact
+returns-in-Err-clause-walks c = head_fails headed_result c.args.payload.now c.args.at c.args.room.now c.in-Err._fault (header_at c.args.payload.now c.args.place) c.in-Err.ensures.exact

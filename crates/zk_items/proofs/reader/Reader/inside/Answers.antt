@@ -32,8 +32,8 @@ pub loop-first-preserved-then-count-gt0 : goal.loop-first-preserved-then-count-g
 loop-first-preserved-then-count-gt0 c =
     let l = c.loop-first in
     let e = c.escapes-count in
-    let new = c.append_front.new.out.items in
-    let appended = c.in_ok-append_front.ensures.appended ∙ ap (λ (xs : List ℕ). l.bytes.items ++ take e.result.1 xs) c.as_array.ensures in
+    let new = c.append_first.new.out.items in
+    let appended = c.in_ok-append_first.ensures.appended ∙ ap (λ (xs : List ℕ). l.bytes.items ++ take e.result.1 xs) c.as_array.ensures in
     record {
       read = past_run l.bytes.items new l.self c.pass.new.self e.result.0 e.result.1 e.ensures.bytes.1 appended e.ensures.read c.pass.ensures ∙ l.invariant.read;
       keeps = λ front is. keeps_more l.bytes.items _ new appended front (l.invariant.keeps front is);

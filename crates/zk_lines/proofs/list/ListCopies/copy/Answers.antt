@@ -12,4 +12,4 @@ pub returns-clause-copied : goal.returns-clause-copied
 returns-clause-copied g c =
     let other = rw c.if-passes.false at c.passes.ensures in
     let word = ap (word_at (91 ∷ [])) (sym other.1) ∙ c.in-Ok.ensures.read in
-    on_some c.copy_counted.result (λ k. full_list g.T.Put.form.at g.T.Spell.items c.args.line.now c.front.new.self c.copy_counted.new.line c.args.out.now.items c.copy_counted.new.out.items other.0 word k) c.copy_counted.ensures.copied
+    on_some c.copy_counted.result (λ k. full_list g.T.Put.form.at g.T.Spell.items c.args.line.now c.literal.new.self c.copy_counted.new.line c.args.out.now.items c.copy_counted.new.out.items other.0 word k) c.copy_counted.ensures.copied

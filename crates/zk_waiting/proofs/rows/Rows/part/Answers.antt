@@ -1,7 +1,7 @@
 use Rattle.std.proofs.Common.{◌∙◌, sym, ap, arith}
-use Rattle.std.specs.Prelude.{slice_get, option_map}
-use Rattle.zk_waiting.specs.Columns.{walk, part_of}
-use Rattle.zk_waiting.proofs.Columns.{part_is, part_none}
+use Rattle.std.specs.Prelude.{option_map}
+use Rattle.zk_waiting.specs.Columns.{part_of}
+use Rattle.zk_waiting.proofs.Columns.{part_read, part_none}
 use Rattle.zk_waiting.proofs.rows.Rows.part.Goals as goal
 
 pub place-requires : goal.place-requires
@@ -17,13 +17,11 @@ returns-then-span-j c =
 pub returns-in-Some : goal.returns-in-Some
 returns-in-Some c =
     let x = c.self.inside in
-    let is = part_is x.rows.items x.room x.spans c.self.invariant.0 c.args.j c.if-span-j.false in
-    let row = sym c.in-Some.is ∙ c.row_at.ensures ∙ ap (slice_get c.deref.result.now) c.place.ensures ∙ ap (λ rows. slice_get rows (walk x.room x.spans.part.head c.args.j)) c.deref.ensures.value in
-    rw (← c.self.view_is) (ap (option_map part_of) row ∙ sym is)
+    let read = part_read x.rows.items x.room x.spans c.self.invariant.0 c.args.j c.if-span-j.false _ _ _ c.row_at.ensures c.place.ensures c.deref.ensures.value in
+    rw (← c.self.view_is) (ap (option_map part_of) (sym c.in-Some.is) ∙ read)
 
 pub returns-in-None : goal.returns-in-None
 returns-in-None c =
     let x = c.self.inside in
-    let is = part_is x.rows.items x.room x.spans c.self.invariant.0 c.args.j c.if-span-j.false in
-    let row = sym c.in-None.is ∙ c.row_at.ensures ∙ ap (slice_get c.deref.result.now) c.place.ensures ∙ ap (λ rows. slice_get rows (walk x.room x.spans.part.head c.args.j)) c.deref.ensures.value in
-    rw (← c.self.view_is) (ap (option_map part_of) row ∙ sym is)
+    let read = part_read x.rows.items x.room x.spans c.self.invariant.0 c.args.j c.if-span-j.false _ _ _ c.row_at.ensures c.place.ensures c.deref.ensures.value in
+    rw (← c.self.view_is) (ap (option_map part_of) (sym c.in-None.is) ∙ read)
