@@ -144,8 +144,10 @@ def field_names():
 
 def names_in_c():
     """By the name of a field in zk_records, the one that zk_fields gives it."""
-    records_shown = " ".join(re.findall(r"fields!\(self: ([^)]*)\)", text_of("zk_fields", "record")))
-    pairs = {*re.findall(r"(\w+) ([A-Z_]+)\b", records_shown),
+    shown = re.findall(r"fields_of!\((\w+), named, self\)", text_of("zk_fields", "record"))
+    rows = dict(re.findall(r"\((\w+), \$then:ident.*?\$then!\(\$\(\$with\)\*:(.*?)\)\s", text_of("zk_records", "fields"), re.S))
+    pairs = {*re.findall(r"([a-z]\w*) ([A-Z]\w+) [a-z]", " ".join(rows[name] for name in shown)),
+             *re.findall(r": ([a-z]\w*) ([A-Z]\w+) [a-z]", text_of("zk_answers", "frame")),
              *re.findall(r"(\w+)\.show\(([A-Z_]+),", text_of("zk_fields", "body"))}
     return some([pair for pair in sorted(pairs) if pair[1] != "NONE"], "names in C")
 
@@ -154,10 +156,8 @@ def names_in_c():
 def names_in_lines():
     """By the name of a field in zk_records, the one that zk_lines has in a line."""
     words = dict(re.findall(r'Word::(\w+) => b" (\w+)="', body(text_of("zk_lines", "word"), "fn word_bytes")))
-    rows = " ".join(re.findall(r"\$then!\((.*?)\)\n", text_of("zk_lines", "request", "ask", "answer", "body"), re.S))
-    pairs = [*re.findall(r"\b([A-Z]\w*) ([a-z]\w*)(?=:)", rows), ("ReadOnly", "read_only"),
-             *((word, name) for name, word in re.findall(r"\b[A-Z]\w* ([a-z]\w*) ([A-Z]\w*)", rows))]
-    return some([(name, words[word]) for word, name in pairs if word in words], "words of fields")
+    pairs = [*re.findall(r"\((\w+)\) => \{\s*Word::(\w+)", text_of("zk_lines", "word")), ("read_only", "ReadOnly")]
+    return some([(name, words[word]) for name, word in pairs], "words of fields")
 
 
 def in_line(name):

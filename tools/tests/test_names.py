@@ -107,8 +107,8 @@ NEW = (
     ("crates/zk_asks/src/frame.rt", "    SetWatches(SetWatchesAskOf<L>),\n", "    GetEphemerals(PathAskOf<T>),\n"),
     ("crates/zk_answers/src/frame.rt", "    SetWatches,\n", "    GetEphemerals { paths: L },\n"),
     ("crates/zk_fields/src/name.rt", "pub const ERR: u16 = 34;\n", "pub const EPHEMERALS: u16 = 35;\n"),
-    ("crates/zk_fields/src/body.rt", "            BodyOf::SetWatches => at,\n",
-     "            BodyOf::GetEphemerals { paths } => paths.show(EPHEMERALS, room, at),\n"),
+    ("crates/zk_answers/src/frame.rt", "            Exists | SetData | SetAcl: stat NONE stat,\n",
+     "            GetEphemerals: paths EPHEMERALS texts,\n"),
 )
 PAGE = (
     ("docs/FORMATS.md", "| 100 | auth,", "| 103 | getEphemerals, `GetEphemerals` | `PathAsk` (GetEphemeralsRequest) | "
