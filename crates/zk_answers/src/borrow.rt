@@ -39,14 +39,14 @@ pub(crate) fn body_ref<'a, F: Asked, const KNOWN: bool>(
 {
     macro_rules! row {
         ($form:ident: $($($one:ident)|+: $only:ident $name:ident $kind:ident),+;
-         $($both:ident: $first:ident $jute:ident $shape:ident $pair:ident),+; $($bare:ident)|+) => {
+         $($both:ident: $first:ident $first_name:ident $first_kind:ident $borrowed:ident),+; $($bare:ident)|+) => {
             match $form.op() {
                 $($(Op::$one => match read_ref::<_, borrowed!($kind)>(src, place) {
                     Ok(($only, end)) => Ok((BodyOf::$one { $only }, end)),
                     Err(fault) => Err(fault),
                 },)+)+
-                $(Op::$both => match read_ref::<_, $pair>(src, place) {
-                    Ok(($pair { $first, stat }, end)) => Ok((BodyOf::$both { $first, stat }, end)),
+                $(Op::$both => match read_ref::<_, $borrowed>(src, place) {
+                    Ok(($borrowed { $first, stat }, end)) => Ok((BodyOf::$both { $first, stat }, end)),
                     Err(fault) => Err(fault),
                 },)+
                 $(Op::$bare => Ok((BodyOf::$bare, place)),)+

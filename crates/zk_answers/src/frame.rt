@@ -151,8 +151,8 @@ pub type ServerFrame = ServerFrameOf<Text, Blob, Body>;
 pub type ServerRef<'a> = ServerFrameOf<TextRef<'a>, BlobRef<'a>, BodyRef<'a>>;
 
 /// `body_rows!(row, with)` is `row!(with: ..; ..; ..)` with the operations whose replies have one field, by its name here,
-/// its name in jute and its kind, as in `fields_of!`; those that have one and a `Stat`, by the first field, too, and the
-/// record of both, borrowed; and those that have nothing. A multi has its results.
+/// its name in jute and its kind, as in `fields_of!`; those that have a field and a `Stat`, by that field and the record
+/// of both, borrowed; and those that have nothing. A multi has its results.
 #[macro_export]
 macro_rules! body_rows {
     ($row:ident, $($with:tt)+) => {
@@ -175,7 +175,7 @@ fn op_of<T, B, L, A, M>(body: &BodyOf<T, B, L, A, M>) -> Op
 {
     macro_rules! row {
         ($body:ident: $($($one:ident)|+: $only:ident $name:ident $kind:ident),+;
-         $($both:ident: $first:ident $jute:ident $shape:ident $pair:ident),+; $($bare:ident)|+) => {
+         $($both:ident: $first:ident $first_name:ident $first_kind:ident $borrowed:ident),+; $($bare:ident)|+) => {
             match $body {
                 $($(BodyOf::$one { .. } => Op::$one,)+)+
                 $(BodyOf::$both { .. } => Op::$both,)+

@@ -45,7 +45,7 @@ impl<'a> Own for BodyRef<'a> {
     fn own(&self, alloc: Global) -> Result<Body, AllocError> {
         macro_rules! row {
             ($body:ident: $($($one:ident)|+: $only:ident $name:ident $kind:ident),+;
-             $($both:ident: $first:ident $jute:ident $shape:ident $pair:ident),+; $($bare:ident)|+) => {
+             $($both:ident: $first:ident $first_name:ident $first_kind:ident $borrowed:ident),+; $($bare:ident)|+) => {
                 match $body {
                     $($(BodyOf::$one { $only } => Ok(BodyOf::$one { $only: $only.own(alloc)? }),)+)+
                     $(BodyOf::$both { $first, stat } => Ok(BodyOf::$both {

@@ -27,10 +27,10 @@ fn body_end(payload: &[u8], place: usize, op: Op) -> Option<usize>
 {
     macro_rules! row {
         ($op:ident: $($($one:ident)|+: $only:ident $name:ident $kind:ident),+;
-         $($both:ident: $first:ident $jute:ident $shape:ident $pair:ident),+; $($bare:ident)|+) => {
+         $($both:ident: $first:ident $first_name:ident $first_kind:ident $borrowed:ident),+; $($bare:ident)|+) => {
             match $op {
                 $($(Op::$one)|+ => <borrowed!($kind) as Ends>::end_at(payload, place),)+
-                $(Op::$both => <$pair as Ends>::end_at(payload, place),)+
+                $(Op::$both => <$borrowed as Ends>::end_at(payload, place),)+
                 $(Op::$bare)|+ => Some(place),
                 Op::Multi => None,
             }

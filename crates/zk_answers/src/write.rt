@@ -65,7 +65,7 @@ impl Spell for Body {
     fn put<O: Output>(&self, out: &mut O) -> Result<(), O::Error> {
         macro_rules! row {
             ($body:ident: $($($one:ident)|+: $only:ident $name:ident $kind:ident),+;
-             $($both:ident: $first:ident $jute:ident $shape:ident $pair:ident),+; $($bare:ident)|+) => {
+             $($both:ident: $first:ident $first_name:ident $first_kind:ident $borrowed:ident),+; $($bare:ident)|+) => {
                 match $body {
                     $($(Body::$one { $only } => $only.put(out),)+)+
                     $(Body::$both { $first, stat } => ($first, stat).put(out),)+

@@ -12,7 +12,7 @@ use zk_asks::ask_rows;
 use zk_jute::{Blob, List, Text};
 use zk_records::{Op, fields_of};
 
-/// The kind of value that a field is, by its kind; a record within another as its fields.
+/// The owned type of a field by its kind; of a record within another, the nested pairs of its fields.
 macro_rules! value {
     (int) => { i32 };
     (long) => { i64 };
@@ -25,7 +25,7 @@ macro_rules! value {
     (stat) => { fields_of!(Stat, values, type) };
 }
 
-/// `fields_of!(R, values, type)` is the fields of the record as nested pairs of values.
+/// `fields_of!(R, values, type)` is the nested pairs of the types of the record's fields.
 macro_rules! values {
     (type: $last:ident $name:ident $kind:ident) => { value!($kind) };
     (type: $first:ident $name:ident $kind:ident, $($rest:tt)+) => { (value!($kind), values!(type: $($rest)+)) };
@@ -64,10 +64,10 @@ fn answered(op: Op, bytes: &[u8]) -> Option<usize>
 {
     macro_rules! row {
         ($op:ident: $($($one:ident)|+: $only:ident $name:ident $kind:ident),+;
-         $($both:ident: $first:ident $jute:ident $shape:ident $pair:ident),+; $($bare:ident)|+) => {
+         $($both:ident: $first:ident $first_name:ident $first_kind:ident $borrowed:ident),+; $($bare:ident)|+) => {
             match $op {
                 $($(Op::$one => longest::<value!($kind)>(bytes),)+)+
-                $(Op::$both => longest::<(value!($shape), value!(stat))>(bytes),)+
+                $(Op::$both => longest::<(value!($first_kind), value!(stat))>(bytes),)+
                 $(Op::$bare => none(bytes),)+
                 Op::Multi => None,
             }

@@ -7,7 +7,7 @@ use Rattle.zk_records.specs.declared.op.PartOp.TheVariants as parts
 use Rattle.zk_records.specs.Codes.{part_number}
 use Rattle.zk_records.specs.declared.header.MultiHeader.{MultiHeader}
 use Rattle.std.specs.Option.{option_map}
-use Rattle.zk_fields.specs.declared.opened.Headed.TheVariants as mark
+use Rattle.zk_fields.specs.declared.opened.Headed.TheVariants as heads
 use Rattle.zk_fields.specs.Walks.{part_of, headed_part, own_or_error, headed_result}
 
 known : (k : ℤ) (op : PartOp) → k ≡ part_number op → part_of k ≡ Some op
@@ -35,11 +35,11 @@ pub part_none : (h : MultiHeader) → h.done ≡ false → ((op : PartOp) → h.
 unfolding headed_part
 part_none h done none = rw (done, unknown h.kind none) refl
 
-pub part_some : (h : MultiHeader) (op : PartOp) → h.done ≡ false → h.kind ≡ part_number op → Some (mark.Part op) ≡ headed_part h
+pub part_some : (h : MultiHeader) (op : PartOp) → h.done ≡ false → h.kind ≡ part_number op → Some (heads.Part op) ≡ headed_part h
 unfolding headed_part
 part_some h op done is = rw (done, known h.kind op is) refl
 
-not_error : (k : ℤ) → k ≢ negsuc 0 → own_or_error k ≡ option_map mark.Own (part_of k)
+not_error : (k : ℤ) → k ≢ negsuc 0 → own_or_error k ≡ option_map heads.Own (part_of k)
 not_error (pos n) differs = refl
 not_error (negsuc zero) differs = absurd (differs refl)
 not_error (negsuc (suc n)) differs = refl
@@ -52,7 +52,7 @@ pub result_end : (h : MultiHeader) → h.done ≡ true → None ≡ headed_resul
 unfolding headed_result
 result_end h done = rw done refl
 
-pub result_error : (h : MultiHeader) → h.done ≡ false → h.kind ≡ negsuc 0 → Some mark.Error ≡ headed_result h
+pub result_error : (h : MultiHeader) → h.done ≡ false → h.kind ≡ negsuc 0 → Some heads.Error ≡ headed_result h
 unfolding headed_result
 result_error h done is = rw (done, is) refl
 
@@ -60,6 +60,6 @@ pub result_none : (h : MultiHeader) → h.done ≡ false → h.kind ≢ negsuc 0
 unfolding headed_result
 result_none h done differs none = rw (done, not_error h.kind differs, unknown h.kind none) refl
 
-pub result_some : (h : MultiHeader) (op : PartOp) → h.done ≡ false → h.kind ≡ part_number op → Some (mark.Own op) ≡ headed_result h
+pub result_some : (h : MultiHeader) (op : PartOp) → h.done ≡ false → h.kind ≡ part_number op → Some (heads.Own op) ≡ headed_result h
 unfolding headed_result
 result_some h op done is = rw (done, not_error h.kind (λ e. no_error op (sym is ∙ e)), known h.kind op is) refl

@@ -1,11 +1,8 @@
 -- What a request's and a reply's entries are: of one shape, or each under a header of its own.
-use Rattle.std.proofs.Common.{◌≡◌, ℕ, ℤ, List, [], ◌++◌, refl, ap, ◌∙◌}
+use Rattle.std.proofs.Common.{◌≡◌, ℕ, List, [], ◌++◌, refl, ap, ◌∙◌}
 use Rattle.std.specs.Prelude.{Some}
 use Rattle.std.specs.List.{flat_map}
-use Rattle.zk_jute.specs.Held.{Text, Blob, Vector}
 use Rattle.zk_jute.specs.Item.{Item}
-use Rattle.zk_records.specs.Held.{Acl, CreateAsk, DeleteAsk, WatchAsk, SetDataAsk, PathAsk, SetAclAsk, CheckAsk, AuthAsk, SetWatchesAsk}
-use Rattle.zk_records.specs.declared.stat.Stat.{Stat}
 use Rattle.zk_asks.specs.Held.{Part, Ask}
 use Rattle.zk_asks.specs.declared.frame.PartOf.TheVariants as part
 use Rattle.zk_asks.specs.declared.frame.AskOf.TheVariants as ask
@@ -41,87 +38,30 @@ one k name x = record { of = k.formed name x; is = k.is name x }
 two : {X Y : Type 0} (k : Named X) (l : Named Y) (name : ℕ) (x : X) (y : Y) → Formed (Both (k.shape name) (l.shape 0)) (k.entries name x ++ l.entries 0 y) (k.items x ++ l.items y)
 two k l name x y = record { of = (k.entries name x, l.entries 0 y, k.formed name x, l.formed 0 y, refl); is = both_is (k.entries name x) (l.entries 0 y) (k.items x) (l.items y) (k.is name x) (l.is 0 y) }
 
--- ---- a row for each record
-
-nothing_row : Formed Nothing [] []
-nothing_row = record { of = refl; is = refl }
-
-create_row : (r : CreateAsk) → Formed (create_ask.shape 0) (create_ask.entries 0 r) (create_ask.items r)
-create_row = one create_ask 0
-
-delete_row : (r : DeleteAsk) → Formed (delete_ask.shape 0) (delete_ask.entries 0 r) (delete_ask.items r)
-delete_row = one delete_ask 0
-
-watch_row : (r : WatchAsk) → Formed (watch_ask.shape 0) (watch_ask.entries 0 r) (watch_ask.items r)
-watch_row = one watch_ask 0
-
-set_data_row : (r : SetDataAsk) → Formed (set_data_ask.shape 0) (set_data_ask.entries 0 r) (set_data_ask.items r)
-set_data_row = one set_data_ask 0
-
-path_row : (r : PathAsk) → Formed (path_ask.shape 0) (path_ask.entries 0 r) (path_ask.items r)
-path_row = one path_ask 0
-
-set_acl_row : (r : SetAclAsk) → Formed (set_acl_ask.shape 0) (set_acl_ask.entries 0 r) (set_acl_ask.items r)
-set_acl_row = one set_acl_ask 0
-
-check_row : (r : CheckAsk) → Formed (check_ask.shape 0) (check_ask.entries 0 r) (check_ask.items r)
-check_row = one check_ask 0
-
-auth_row : (r : AuthAsk) → Formed (auth_ask.shape 0) (auth_ask.entries 0 r) (auth_ask.items r)
-auth_row = one auth_ask 0
-
-set_watches_row : (r : SetWatchesAsk) → Formed (set_watches_ask.shape 0) (set_watches_ask.entries 0 r) (set_watches_ask.items r)
-set_watches_row = one set_watches_ask 0
-
-ruleset requests = (nothing_row, create_row, delete_row, watch_row, set_data_row, path_row, set_acl_row, check_row, auth_row, set_watches_row)
-
-text_row : (p : Text) → Formed (a_text.shape the_path) (a_text.entries the_path p) (a_text.items p)
-text_row = one a_text the_path
-
-stat_row : (s : Stat) → Formed (stat.shape 0) (stat.entries 0 s) (stat.items s)
-stat_row = one stat 0
-
-error_row : (e : ℤ) → Formed (an_int.shape the_err) (an_int.entries the_err e) (an_int.items e)
-error_row = one an_int the_err
-
-texts_row : (n : Vector Text) → Formed (texts.shape the_children) (texts.entries the_children n) (texts.items n)
-texts_row = one texts the_children
-
-content_row : (b : Blob) (s : Stat) → Formed (Both (a_blob.shape the_data) (stat.shape 0)) (a_blob.entries the_data b ++ stat.entries 0 s) (a_blob.items b ++ stat.items s)
-content_row = two a_blob stat the_data
-
-acls_row : (a : Vector Acl) (s : Stat) → Formed (Both (rights.shape the_acl) (stat.shape 0)) (rights.entries the_acl a ++ stat.entries 0 s) (rights.items a ++ stat.items s)
-acls_row = two rights stat the_acl
-
-children_row : (n : Vector Text) (s : Stat) → Formed (Both (texts.shape the_children) (stat.shape 0)) (texts.entries the_children n ++ stat.entries 0 s) (texts.items n ++ stat.items s)
-children_row = two texts stat the_children
-
-created_row : (p : Text) (s : Stat) → Formed (Both (a_text.shape the_path) (stat.shape 0)) (a_text.entries the_path p ++ stat.entries 0 s) (a_text.items p ++ stat.items s)
-created_row = two a_text stat the_path
-
-ruleset replies = (nothing_row, text_row, stat_row, error_row, texts_row, content_row, acls_row, children_row, created_row)
+nothing : Formed Nothing [] []
+nothing = record { of = refl; is = refl }
 
 -- ---- parts and results
 
 pub part_formed : (p : Part) → (m : Headed) × (headed_part (part_header (op_of_part p)) ≡ Some m) × Formed (headed_shape m) (record_entries p) (record_of p)
 unfolding headed_part
-part_formed (part.Create r) = (_, refl, create_row r)
-part_formed _ = (_, refl, search requests)
+part_formed (part.Create r) = (_, refl, one create_ask 0 r)
+part_formed _ = (_, refl, search (one delete_ask 0, one set_data_ask 0, one check_ask 0))
 
 pub done_formed : (d : PartDone) → (m : Headed) × (headed_result (mark_before d) ≡ Some m) × Formed (headed_shape m) (result_entries d) (result_of d)
 unfolding headed_result
-done_formed (done.Created p) = (_, refl, text_row p)
-done_formed _ = (_, refl, search replies)
+done_formed (done.Created p) = (_, refl, one a_text the_path p)
+done_formed _ = (_, refl, search (nothing, one stat 0, one an_int the_err))
 
 -- ---- requests and replies: what holds where the entries are of one shape, and of a multi's, holds of each
 
 module _ (P : Content → List Entry → List Item → List Item → Type 0) (shaped : (s : Shape) (es : List Entry) (items : List Item) → Formed s es items → P (Fields s) es [] items) where
   pub of_ask : ((ps : List Part) → P (Heads headed_part) (flat_map part_entries ps) (marked end_header) (asked.body_items (ask.Multi ps))) → (a : Ask) → P (ask_content (asked.op_of_ask a)) (ask_entries a) (ask_behind a) (asked.body_items a)
   of_ask multi (ask.Multi ps) = multi ps
-  of_ask multi (ask.Create r) = shaped _ _ _ (create_row r)
-  of_ask multi _ = shaped _ _ _ (search requests)
+  of_ask multi (ask.Create r) = shaped _ _ _ (one create_ask 0 r)
+  of_ask multi _ = shaped _ _ _ (search (nothing, one create_ask 0, one delete_ask 0, one watch_ask 0, one set_data_ask 0, one path_ask 0, one set_acl_ask 0, one auth_ask 0, one set_watches_ask 0))
 
   pub of_body : ((ds : List PartDone) → P (Heads headed_result) (flat_map done_entries ds) (marked end_header) (answered.body_items (body.Multi ds))) → (b : Body) → P (body_content (answered.op_of_body b)) (body_entries b) (body_behind b) (answered.body_items b)
   of_body multi (body.Multi ds) = multi ds
-  of_body multi (body.Create p) = shaped _ _ _ (text_row p)
-  of_body multi _ = shaped _ _ _ (search replies)
+  of_body multi (body.Create p) = shaped _ _ _ (one a_text the_path p)
+  of_body multi _ = shaped _ _ _ (search (nothing, one a_text the_path, one stat 0, one texts the_children, two a_blob stat the_data, two rights stat the_acl, two texts stat the_children, two a_text stat the_path))

@@ -72,9 +72,9 @@ list_full name f at mid room half new read n after next e takes w = rw e (walks_
 pub none_under : (at : At) (room : List Field) (h : MultiHeader) (m : Option Headed) (src : List ℕ) (place : ℕ) → m ≡ None → Walks at room (under h m src place) (stopped at) room
 none_under at room h m src place e = rw e (walks_none at room)
 
-pub walks_under : (at mid : At) (room half new : List Field) (h : MultiHeader) (m : Option Headed) (mark : Headed) (src : List ℕ) (place : ℕ) (next : Walked) → m ≡ Some mark → Takes at room (Head h ∷ []) mid half
-    → Walks mid half (walk (headed_shape mark) src place) next new → Walks at room (under h m src place) next new
-walks_under at mid room half new h m mark src place next e takes w = rw e (walks_on at mid room half new (Head h ∷ []) (walk (headed_shape mark) src place) next takes w)
+pub walks_under : (at mid : At) (room half new : List Field) (h : MultiHeader) (m : Option Headed) (one : Headed) (src : List ℕ) (place : ℕ) (next : Walked) → m ≡ Some one → Takes at room (Head h ∷ []) mid half
+    → Walks mid half (walk (headed_shape one) src place) next new → Walks at room (under h m src place) next new
+walks_under at mid room half new h m one src place next e takes w = rw e (walks_on at mid room half new (Head h ∷ []) (walk (headed_shape one) src place) next takes w)
 
 pub head_fails : (f : MultiHeader → Option Headed) (src : List ℕ) (at : At) (room : List Field) (e : ItemFault) (read : Read MultiHeader) → told read ≡ Err e → Walks at room (headed f src read) (stopped at) room
 head_fails f src at room e (Ok x) fails = absurd (cc)

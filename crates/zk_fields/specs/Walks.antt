@@ -19,7 +19,7 @@ use Rattle.zk_fields.specs.declared.field.Field.{Field}
 use Rattle.zk_fields.specs.declared.field.At.{At}
 use Rattle.zk_fields.specs.declared.walk.Walked.{Walked}
 use Rattle.zk_fields.specs.declared.opened.Headed.{Headed}
-use Rattle.zk_fields.specs.declared.opened.Headed.TheVariants as mark
+use Rattle.zk_fields.specs.declared.opened.Headed.TheVariants as heads
 use Rattle.zk_fields.specs.declared.opened.Opened.{Opened}
 use Rattle.zk_fields.specs.declared.opened.Opened.TheVariants as opened
 use Rattle.zk_fields.specs.Names.{the_path, the_data, the_acl, the_children, the_read_only, the_err}
@@ -86,11 +86,11 @@ part_of (negsuc n) = None
 
 -- what follows a header that isn't the end marker: in a request, and in a reply
 unfoldable pub headed_part : MultiHeader → Option Headed
-headed_part header = if header.done then None else option_map mark.Part (part_of header.kind)
+headed_part header = if header.done then None else option_map heads.Part (part_of header.kind)
 
 abbrev pub own_or_error : ℤ → Option Headed
-own_or_error (pos n) = option_map mark.Own (part_with n)
-own_or_error (negsuc zero) = Some mark.Error
+own_or_error (pos n) = option_map heads.Own (part_with n)
+own_or_error (negsuc zero) = Some heads.Error
 own_or_error (negsuc (suc n)) = None
 
 unfoldable pub headed_result : MultiHeader → Option Headed
@@ -103,23 +103,23 @@ record_shape parts.SetData = set_data_ask.shape 0
 record_shape parts.Check = check_ask.shape 0
 
 abbrev pub headed_shape : Headed → Shape
-headed_shape (mark.Part op) = record_shape op
-headed_shape (mark.Own parts.Create) = An the_path Ustring
-headed_shape (mark.Own parts.Delete) = Nothing
-headed_shape (mark.Own parts.SetData) = stat.shape 0
-headed_shape (mark.Own parts.Check) = Nothing
-headed_shape mark.Error = An the_err Int
+headed_shape (heads.Part op) = record_shape op
+headed_shape (heads.Own parts.Create) = An the_path Ustring
+headed_shape (heads.Own parts.Delete) = Nothing
+headed_shape (heads.Own parts.SetData) = stat.shape 0
+headed_shape (heads.Own parts.Check) = Nothing
+headed_shape heads.Error = An the_err Int
 
 abbrev pub under : MultiHeader → Option Headed → List ℕ → ℕ → Met
 under header None src place = none_met
 under header (Some m) src place = behind (Head header ∷ []) (Some place) (walk (headed_shape m) src)
 
 abbrev pub headed : (MultiHeader → Option Headed) → List ℕ → Read MultiHeader → Met
-headed mark_of src (Ok x) = under x.0 (mark_of x.0) src x.1
-headed mark_of src (Err f) = none_met
+headed of_head src (Ok x) = under x.0 (of_head x.0) src x.1
+headed of_head src (Err f) = none_met
 
 abbrev pub head_met : (MultiHeader → Option Headed) → List ℕ → ℕ → Met
-head_met mark_of src place = headed mark_of src (header_at src place)
+head_met of_head src place = headed of_head src (header_at src place)
 
 -- ---- whole payloads, by the kind of message that they are read as
 

@@ -85,11 +85,11 @@ impl<'a> Show for BodyRef<'a> {
     fn show(&self, _name: u16, room: &mut [Field], at: At) -> At {
         macro_rules! row {
             ($body:ident: $($($one:ident)|+: $only:ident $name:ident $kind:ident),+;
-             $($both:ident: $first:ident $jute:ident $shape:ident $pair:ident),+; $($bare:ident)|+) => {
+             $($both:ident: $first:ident $first_name:ident $first_kind:ident $borrowed:ident),+; $($bare:ident)|+) => {
                 match $body {
                     $($(BodyOf::$one { $only } => $only.show($name, room, at),)+)+
                     $(BodyOf::$both { $first, stat } => {
-                        let at = $first.show($jute, room, at);
+                        let at = $first.show($first_name, room, at);
                         stat.show(NONE, room, at)
                     })+
                     $(BodyOf::$bare => at,)+

@@ -14,7 +14,7 @@ pub struct Field {
     pub number: i64,
     /// The number of its name (`name.rt`).
     pub name: u16,
-    /// What it is (`kind.rt`).
+    /// The number of its kind (`kind.rt`).
     pub kind: u8,
     /// 1 if it is null, else 0.
     pub null: u8,

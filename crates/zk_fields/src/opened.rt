@@ -210,11 +210,11 @@ fn walk_body<'a>(op: Op, payload: &'a [u8], place: usize, room: &mut [Field], at
 {
     macro_rules! row {
         ($op:ident: $($($one:ident)|+: $only:ident $name:ident $kind:ident),+;
-         $($both:ident: $first:ident $jute:ident $shape:ident $pair:ident),+; $($bare:ident)|+) => {
+         $($both:ident: $first:ident $first_name:ident $first_kind:ident $borrowed:ident),+; $($bare:ident)|+) => {
             match $op {
                 $($(Op::$one)|+ => <borrowed!($kind)>::walk(payload, place, $name, room, at),)+
                 $(Op::$both => walk_fields!(
-                    payload, place, room, at: $first $jute $shape, stat NONE stat
+                    payload, place, room, at: $first $first_name $first_kind, stat NONE stat
                 ),)+
                 $(Op::$bare)|+ => walk_nothing(place, at),
                 Op::Multi => walk_times::<AnyResult>(payload, payload.len(), place, NONE, room, at),

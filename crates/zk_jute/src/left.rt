@@ -9,7 +9,7 @@ use crate::series::{Element, Elements};
 use std::marker::Model;
 use std::slice::Iter;
 
-/// What is left of a list. An `Iterator` says of no iterator what is left.
+/// What is left of a list. No definition says what is left of an `Iterator`.
 pub trait Left: Drop {
     /// An element.
     type One: Drop;

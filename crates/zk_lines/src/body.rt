@@ -33,7 +33,7 @@ fn read_with_stat<T: Item>(line: &mut Reader<'_>, word: Word) -> Result<(T, Stat
 macro_rules! put_body {
     (
         $out:ident, $body:ident: $($($one:ident)|+: $only:ident $name:ident $kind:ident),+;
-        $($both:ident: $first:ident $jute:ident $shape:ident $pair:ident),+; $($bare:ident)|+
+        $($both:ident: $first:ident $first_name:ident $first_kind:ident $borrowed:ident),+; $($bare:ident)|+
     ) => {
         match $body {
             $($(BodyOf::$one { $only } => put_field($out, field_word!($only), $only),)+)+
@@ -50,7 +50,7 @@ pub fn read_body(line: &mut Reader<'_>, op: Op) -> Result<Body, LineFault>
 {
     macro_rules! row {
         ($op:ident: $($($one:ident)|+: $only:ident $name:ident $kind:ident),+;
-         $($both:ident: $first:ident $jute:ident $shape:ident $pair:ident),+; $($bare:ident)|+) => {
+         $($both:ident: $first:ident $first_name:ident $first_kind:ident $borrowed:ident),+; $($bare:ident)|+) => {
             Ok(match $op {
                 $($(Op::$one => Body::$one { $only: read_field(line, field_word!($only))? },)+)+
                 $(Op::$both => {
@@ -82,10 +82,10 @@ pub fn copy_body(line: &mut Reader<'_>, op: Op, out: &mut Vec<u8>) -> Option<()>
 {
     macro_rules! row {
         ($op:ident: $($($one:ident)|+: $only:ident $name:ident $kind:ident),+;
-         $($both:ident: $first:ident $jute:ident $shape:ident $pair:ident),+; $($bare:ident)|+) => {
+         $($both:ident: $first:ident $first_name:ident $first_kind:ident $borrowed:ident),+; $($bare:ident)|+) => {
             match $op {
                 $($(Op::$one => copy_field::<owned!($kind)>(line, field_word!($only), out),)+)+
-                $(Op::$both => copy_with_stat::<owned!($shape)>(line, field_word!($first), out),)+
+                $(Op::$both => copy_with_stat::<owned!($first_kind)>(line, field_word!($first), out),)+
                 $(Op::$bare => Some(()),)+
                 Op::Multi => copy_multi::<PartDone>(line, out),
             }

@@ -8,9 +8,9 @@
 //! word. Each message has one line and each line one message, whether a conversation can have it or not; `line_laws`
 //! says so. docs/FORMATS.md has the words.
 //!
-//! Each record is written and read by a row of a macro (`fields_of!`, `ask_rows!`, `body_rows!`), so that writer and
-//! reader can't differ. The crate rests on `zk_items` for items, on `zk_talk` for messages and endings, on the types
-//! and names of the crates below, and on `hex` and `itoa`.
+//! Each record is written and read by its row in a macro of a lower crate (`fields_of!`, `ask_rows!`, `body_rows!`), so
+//! that writer and reader can't differ. The crate rests on `zk_items` for items, on `zk_talk` for messages and endings,
+//! on the types and names of the crates below, and on `hex` and `itoa`.
 //!
 //! ```text
 //! let message = read_line(rt.alloc(), b"C 1 sync path=\"/a\"")?;
@@ -25,8 +25,7 @@
 //! gives for each value what is given for each row. The laws of a form are one record, and a table has them if each of
 //! its forms has.
 //!
-//! **A list is written over what is left of it** (`Left`), not over an `Iterator`, which says of no iterator what is
-//! left.
+//! **A list is written over what is left of it** (`Left` of `zk_jute`), not over an `Iterator`.
 #![tactic(auto)]
 
 mod answer;

@@ -26,7 +26,7 @@ pub fn rest(bytes: &[u8], at: usize) -> &[u8]
     &bytes[at..]
 }
 
-/// TakesContent bytes of one side to the conversation, and appends no line.
+/// Gives bytes of one side to the conversation, and appends no line.
 #[inline(always)]
 fn pass_all(talk: &mut Talk, side: Side, bytes: &[u8]) -> Option<Fault>
     ensures limits { talk.new.limits ≡ talk.old.limits }
@@ -55,7 +55,7 @@ fn judge(talk: &mut Talk, side: Side, bytes: &[u8]) -> Option<Fault>
     }
 }
 
-/// TakesContent bytes of one side to the conversation, and appends the lines of its messages, each borrowed from its frame.
+/// Gives bytes of one side to the conversation, and appends the lines of its messages, each borrowed from its frame.
 fn list(
     talk: &mut Talk,
     side: Side,
@@ -77,7 +77,7 @@ fn list(
     Ok(None)
 }
 
-/// TakesContent bytes of one side to the conversation, and appends what `listing` has of its messages.
+/// Gives bytes of one side to the conversation, and appends what `listing` has of its messages.
 #[inline(always)]
 fn take(
     talk: &mut Talk,
@@ -152,7 +152,7 @@ fn take_piece(
     }
 }
 
-/// TakesContent the first bytes of a block to the conversation, if they are content of a side. The conversation begins with the
+/// Gives the first bytes of a block to the conversation, if they are content of a side. The conversation begins with the
 /// first of them, and isn't moved after that.
 fn take_content(
     alloc: Global,
