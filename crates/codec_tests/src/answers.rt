@@ -6,11 +6,11 @@ use std::process::Abort;
 use std::test::Fail;
 use zk_answers::{
     Form, ServerFrame, ServerRef, borrow_event_under, borrow_reply_under, fits, form_of,
-    quick_reply, read_connected, read_event, read_reply, reply_head, scan_connected, scan_event,
+    judge_reply, read_connected, read_event, read_reply, reply_head, scan_connected, scan_event,
     scan_reply, write_server,
 };
 use zk_asks::{Ask, ClientFrame, read_ask};
-use zk_jute::{ItemFault, Reason};
+use zk_jute::{ItemFault, Reason, Undecided};
 use zk_records::{Op, Profile};
 
 /// Payloads, each after the call that reads it and the request that it answers; what each is, or what is wrong with it.
@@ -89,7 +89,7 @@ fn reply_seen<'a>(form: &Form, payload: &'a [u8]) -> Result<ServerRef<'a>, ItemF
     borrow_reply_under(form, &head, payload)
 }
 
-/// Whether `quick_reply` returns that the payload is a reply to `form`.
+/// Whether `judge_reply` finds that the payload is a reply to `form`.
 fn is_front(form: &Form, payload: &[u8]) -> bool {
     let Ok(head) = reply_head(payload) else {
         return false;
@@ -97,7 +97,7 @@ fn is_front(form: &Form, payload: &[u8]) -> bool {
     if head.xid == -1 {
         return false;
     }
-    quick_reply(form, &head, payload)
+    judge_reply::<Form, Undecided>(form, &head, payload).is_ok()
 }
 
 /// The event, if the payload is one.
@@ -176,7 +176,7 @@ fn told(alloc: Global, call: &str, form: &Form, payload: &[u8]) -> Result<String
     }
 }
 
-/// The payload is what the row says; borrowed, scanned and by `quick_reply` it is judged alike.
+/// The payload is what the row says; borrowed, scanned and by `judge_reply` it is judged alike.
 fn judged(
     rt: &impl Abort,
     alloc: Global,

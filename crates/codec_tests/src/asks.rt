@@ -8,10 +8,10 @@ use std::alloc::Global;
 use std::process::Abort;
 use std::test::Fail;
 use zk_asks::{
-    Asked, ClientFrame, allowed, ask_laws, asked_laws, first_laws, form_laws, opening_laws,
-    quick_ask, quick_multi, read_ask, read_first, scan_ask, scan_first, write_client,
+    Asked, ClientFrame, allowed, ask_laws, asked_laws, first_laws, form_laws, judge_ask,
+    opening_laws, read_ask, read_first, scan_ask, scan_first, write_client,
 };
-use zk_jute::ItemFault;
+use zk_jute::{ItemFault, Reason, Undecided};
 use zk_records::{Op, PartOp, Profile};
 
 /// Payloads, each after the profile that it is read under, or that it is the first; what each is, or what is wrong with it.
@@ -161,27 +161,23 @@ fn xids_of_operations(rt: HostRuntime) {
 const TWO: &str =
     "000000010000000e0000000200ffffffff000000022f61ffffffff0000000d00ffffffff000000022f6100000003ffffffff01ffffffff";
 
-/// The xid and the operation that `quick_ask` returns.
-fn front_of(payload: &[u8]) -> Option<(i32, Op)> {
-    let (xid, front) = quick_ask(Profile::V34, payload)?;
-    Some((xid, front.op))
+/// What `judge_ask` keeps of a request: its xid, its operation and the number of its parts.
+fn outlined(payload: &[u8]) -> Option<(i32, Op, usize)> {
+    let outline = judge_ask::<Undecided>(Profile::V34, payload).ok()?;
+    Some((outline.xid, outline.op, outline.parts))
 }
 
-/// The xid, the operation and the parts that `quick_multi` returns.
-fn front_parts(payload: &[u8]) -> Option<(i32, Op, u32, [Option<PartOp>; 3])> {
-    let (xid, multi) = quick_multi(Profile::V34, payload)?;
-    let parts = [multi.part(0), multi.part(1), multi.part(2)];
-    Some((xid, multi.op(), multi.parts(), parts))
-}
-
-/// `quick_ask` and `quick_multi` decide.
+/// `judge_ask` decides, and reports the fault that is asked for: `TWO` ends within its last header.
 #[test]
-fn fronts(rt: HostRuntime) -> Result<(), Fail> {
-    let exists = front_of(b"\0\0\0\x01\0\0\0\x03\0\0\0\x02/a\x01");
-    assert!(rt; exists == Some((1, Op::Exists)));
+fn outlines(rt: HostRuntime) -> Result<(), Fail> {
+    let exists = outlined(b"\0\0\0\x01\0\0\0\x03\0\0\0\x02/a\x01");
+    assert!(rt; exists == Some((1, Op::Exists, 0)));
     let two = hex(rt.alloc(), TWO)?;
-    let parts = [Some(PartOp::Delete), Some(PartOp::Check), None];
-    assert!(rt; front_parts(&two) == Some((1, Op::Multi, 2, parts)));
+    assert!(rt; outlined(&two) == Some((1, Op::Multi, 2)));
+    let cut = &two[..two.len().saturating_sub(1)];
+    assert!(rt; outlined(cut).is_none());
+    let fault = judge_ask::<ItemFault>(Profile::V34, cut).err();
+    assert!(rt; fault == Some(ItemFault::at(51, Reason::Short)));
     Ok(())
 }
 

@@ -2,8 +2,8 @@
 use std::process::Abort;
 use std::test::Fail;
 use zk_jute::{
-    BlobRef, Decode, Ends, ItemFault, Items, Payload, Reason, TextList, TextRef, bool_at, end_of,
-    int_at, long_at, scan,
+    BlobRef, Decode, Ends, ItemFault, Items, Payload, Reason, TextList, TextRef, Undecided,
+    bool_at, int_at, long_at, scan,
 };
 
 #[test]
@@ -46,10 +46,14 @@ fn data_at_a_place(rt: HostRuntime) -> Result<(), Fail> {
 #[test]
 fn ends(rt: HostRuntime) -> Result<(), Fail> {
     assert_eq!(rt; scan::<TextRef>(TWO.bytes, 4)?, 10);
-    assert_eq!(rt; end_of::<TextRef>(TWO.bytes, 4), Some(10));
-    assert_eq!(rt; end_of::<TextRef>(&TWO.bytes[..9], 4), None);
-    assert_eq!(rt; TextRef::end_at(TWO.bytes, 4), Some(10));
-    assert_eq!(rt; TextRef::end_at(&TWO.bytes[..9], 4), None);
+    assert_eq!(rt; TextRef::end::<ItemFault>(TWO.bytes, 4)?, 10);
+    let short = ItemFault::at(4, Reason::Short);
+    assert_eq!(rt;
+        TextRef::end::<ItemFault>(&TWO.bytes[..9], 4).err(),
+        Some(short)
+    );
+    assert_eq!(rt; TextRef::end::<Undecided>(TWO.bytes, 4).ok(), Some(10));
+    assert_eq!(rt; TextRef::end::<Undecided>(&TWO.bytes[..9], 4).ok(), None);
     Ok(())
 }
 
@@ -59,11 +63,18 @@ fn ends_of_lists(rt: HostRuntime) -> Result<(), Fail> {
     let plain = b"\0\0\0\x02\0\0\0\x02/a\0\0\0\0";
     let letters = b"\0\0\0\x02\0\0\0\x02\xc3\xa4\xff\xff\xff\xff";
     let stray = b"\0\0\0\x02\0\0\0\x02\xc3\xa4\0\0\0\x01\xc3";
-    assert_eq!(rt; TextList::end_at(plain, 0), Some(14));
-    assert_eq!(rt; TextList::end_at(&plain[..13], 0), None);
-    assert_eq!(rt; TextList::end_at(TWO.bytes, 0), Some(14));
-    assert_eq!(rt; TextList::end_at(letters, 0), Some(14));
-    assert_eq!(rt; TextList::end_at(stray, 0), None);
+    assert_eq!(rt; TextList::end::<Undecided>(plain, 0).ok(), Some(14));
+    assert_eq!(rt; TextList::end::<Undecided>(&plain[..13], 0).ok(), None);
+    assert_eq!(rt; TextList::end::<Undecided>(TWO.bytes, 0).ok(), Some(14));
+    assert_eq!(rt; TextList::end::<Undecided>(letters, 0).ok(), Some(14));
+    assert_eq!(rt; TextList::end::<Undecided>(stray, 0).ok(), None);
+    let short = ItemFault::at(10, Reason::Short);
+    assert_eq!(rt;
+        TextList::end::<ItemFault>(&plain[..13], 0).err(),
+        Some(short)
+    );
+    let bad = ItemFault::at(14, Reason::BadText);
+    assert_eq!(rt; TextList::end::<ItemFault>(stray, 0).err(), Some(bad));
     Ok(())
 }
 
@@ -76,10 +87,18 @@ fn ends_of_many(rt: HostRuntime) -> Result<(), Fail> {
         many.extend_from_slice(b"\0\0\0\x01n")?;
     }
     many.extend_from_slice(b"\0\0\0\x02\xc3\xa4")?;
-    assert_eq!(rt; TextList::end_at(many.as_slice(), 0), Some(655));
-    assert_eq!(rt; end_of::<TextList>(many.as_slice(), 0), Some(655));
+    assert_eq!(rt;
+        TextList::end::<Undecided>(many.as_slice(), 0).ok(),
+        Some(655)
+    );
+    assert_eq!(rt; TextList::end::<ItemFault>(many.as_slice(), 0)?, 655);
     many.truncate(654);
-    assert_eq!(rt; TextList::end_at(many.as_slice(), 0), None);
+    assert_eq!(rt; TextList::end::<Undecided>(many.as_slice(), 0).ok(), None);
+    let short = ItemFault::at(649, Reason::Short);
+    assert_eq!(rt;
+        TextList::end::<ItemFault>(many.as_slice(), 0).err(),
+        Some(short)
+    );
     Ok(())
 }
 

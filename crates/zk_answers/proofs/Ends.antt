@@ -1,54 +1,91 @@
 -- Where a record ends that a reply's body is made of, the body ends; and where it reaches the end, the reply is the payload.
-use Rattle.std.proofs.Common.{◌≡◌, ℕ, ◌≤◌, List, [], ◌++◌, length, drop, refl, sym, ap, subst, ◌∙◌, arith}
-use Rattle.std.specs.Prelude.{◌≢◌, pos, negsuc, Option, IfSome}
+use Rattle.std.proofs.Common.{◌≡◌, ◌≢◌, ℕ, ◌≤◌, ◌<◌, List, [], ◌++◌, length, drop, Option, Result, Ok, Err, of_z, to_z, inr, refl, sym, ap, subst, ◌∙◌, arith}
+use Rattle.std.specs.Prelude.{pos, negsuc, ℤ, IfOk, IfErr}
+use Rattle.std.specs.Int.{w32}
+use Rattle.std.proofs.lemmas.Int.{to_z-of_z}
+use lib.Signed.{mag}
 use Rattle.std.proofs.Math.Seq.{drop-append_seam}
 use Rattle.std.proofs.lemmas.List.{length-append}
-use Rattle.std.proofs.lemmas.Option.{IfSome_then}
+use Rattle.zk_jute.specs.declared.fault.ItemFault.{ItemFault}
 use Rattle.zk_jute.specs.Item.{Item, bytes_of, HaveBytes}
-use Rattle.zk_jute.specs.Layout.{IsValueOf}
-use Rattle.zk_jute.specs.Told.{StandsAt}
+use Rattle.zk_jute.specs.Layout.{Layout, End, IsValueOf}
+use Rattle.zk_jute.specs.Told.{StandsAt, HasSureFault, IsToldAt, IsSurelyToldAt}
+use Rattle.zk_jute.specs.Verdict.{Says, IsValueAt}
+use Rattle.zk_jute.specs.Wired.{Wired}
+use Rattle.zk_jute.proofs.Covers.{Covers, text_covered}
+use Rattle.zk_jute.proofs.Judged.{says_more}
 use Rattle.zk_records.specs.Records.{reply_header}
 use Rattle.zk_records.specs.declared.header.ReplyHeader.{ReplyHeader}
 use Rattle.zk_records.specs.declared.op.Op.{Op}
+use Rattle.zk_records.specs.declared.op.Op.TheVariants as ops
 use Rattle.zk_records.specs.declared.op.PartOp.{PartOp}
-use Rattle.zk_answers.specs.Held.{Body, Outcome}
+use Rattle.zk_records.specs.declared.op.PartOp.TheVariants as parts
+use Rattle.zk_records.proofs.Covered.{stat_covered}
+use Rattle.zk_answers.specs.Held.{Body, Outcome, PartDone}
+use Rattle.zk_answers.specs.declared.frame.PartDoneOf.TheVariants as done
+use Rattle.zk_answers.specs.declared.frame.BodyOf.TheVariants as body
 use Rattle.zk_answers.specs.declared.frame.OutcomeOf.TheVariants as outcome
-use Rattle.zk_answers.specs.Results.{Own, result_of, result_layout}
-use Rattle.zk_answers.specs.Rows.{row_of, Content, remake, items_in}
-use Rattle.zk_answers.specs.Frames.{OutcomeFits, IsOutcome, err_of, rest_items}
-use Rattle.zk_answers.specs.Faults.{IsHead}
-use Rattle.zk_answers.specs.Fronts.{IsBodyAlone, IsReplyUnder, IsResultAt}
-use Rattle.zk_answers.specs.Scanned.{IsBodyAt}
-use Rattle.zk_answers.proofs.Bodies.{made_is, RowFits, made_fits}
-use Rattle.zk_answers.proofs.Dones.{Result, done_of, result_items, result_is, own_made}
+use Rattle.zk_answers.specs.Results.{Own, AnswerAll, IsDoneFault, multi_items, result_of, result_layout}
+use Rattle.zk_answers.specs.Rows.{op_of_body, body_items}
+use Rattle.zk_answers.specs.Frames.{BodyFits}
+use Rattle.zk_answers.specs.Faults.{Shape, Fields, IsShapeFault, body_shape, IsHead}
+use Rattle.zk_answers.specs.Fronts.{IsReplyUnder, IsResultAt}
+use Rattle.zk_answers.specs.Scanned.{IsBodyAt, IsOutcomeAt}
 use Rattle.zk_answers.proofs.Heads.{head_is}
 use Rattle.zk_answers.proofs.Refusals.{reply_found}
 
-module _ (src : List ℕ) (place : ℕ) (op : Op) where
-  -- of what an operation's reply is made of
-  pub row_ends : (end : Option ℕ) (o : Op) → op ≡ o → ((x : Content (row_of o)) (parts : List PartOp) → RowFits (row_of o) parts x)
-      → IfSome end (λ n. (x : Content (row_of o)) × HaveBytes (items_in (row_of o) x) × StandsAt (items_in (row_of o) x) src place n) → IfSome end (λ n. IsBodyAlone op src place n)
-  row_ends end o e fits h =
-      IfSome_then end h (λ n s.
-      let m = made_is o s.0 in (
-        remake (row_of o) s.0,
-        m.0 ∙ sym e,
-        λ parts. made_fits o parts s.0 (fits s.0 parts),
-        subst HaveBytes (sym m.1) s.1,
-        subst (λ (i : List Item). StandsAt i src place n) (sym m.1) s.2,
-      ))
+-- what a verdict says of more, of a result
+pub errs_more : {V X : Type 0} (tells : V → Option ItemFault) (P Q : ItemFault → Type 0) → ((e : ItemFault) → P e → Q e) → (r : Result X V) → IfErr r (Says tells P) → IfErr r (Says tells Q)
+errs_more tells P Q more (Ok x) h = tt
+errs_more tells P Q more (Err v) h = says_more tells P Q more v h
+
+module _ (src : List ℕ) (place : ℕ) (op : Op) (left : List PartOp) where
+  abbrev pub BodyEnds : {V : Type 0} → Result ℕ V → Type 0
+  BodyEnds result = IfOk result (λ end. (b : Body) × IsBodyAt op left b src place end)
+
+  -- of one record
+  pub of_record : {V X : Type 0} (w : Wired X) → Covers w → (make : X → Body) → ((x : X) → op_of_body (make x) ≡ op) → ((x : X) → BodyFits left (make x)) → ((x : X) → body_items (make x) ≡ w.items x)
+      → (result : Result ℕ V) → IfOk result (IsValueAt (IsValueOf w.layout) src place) → BodyEnds result
+  of_record w covers make is fits same (Ok end) v =
+      let x = covers v.0 v.1.0 in
+      let items : v.0 ≡ body_items (make x.0) = sym x.1 ∙ sym (same x.0) in
+      (make x.0, (is x.0, fits x.0, subst (λ (i : List Item). HaveBytes i) items v.1.1, subst (λ (i : List Item). StandsAt i src place end) items v.2))
+  of_record w covers make is fits same (Err e) v = tt
 
   -- of nothing
-  pub nothing_ends : (o : Op) → op ≡ o → (x : Content (row_of o)) → ((parts : List PartOp) → RowFits (row_of o) parts x) → items_in (row_of o) x ≡ [] → IsBodyAlone op src place place
-  nothing_ends o e x fits is =
-      let m = made_is o x in
-      let nothing = sym (m.1 ∙ is) in (
-        remake (row_of o) x,
-        m.0 ∙ sym e,
-        λ parts. made_fits o parts x (fits parts),
-        subst HaveBytes nothing tt,
-        subst (λ (i : List Item). StandsAt i src place place) nothing (refl, omega arith),
-      )
+  pub of_nothing : (b : Body) → op_of_body b ≡ op → BodyFits left b → body_items b ≡ [] → (b : Body) × IsBodyAt op left b src place place
+  of_nothing b is fits same = (
+    b,
+    (is, fits, subst (λ (i : List Item). HaveBytes i) (sym same) tt, subst (λ (i : List Item). StandsAt i src place place) (sym same) (refl, omega arith)),
+  )
+
+  -- a record's fault is the body's
+  sure : (l : Layout) → body_shape op left ≡ Fields l → (e : ItemFault) → HasSureFault (IsValueOf l) src place e → IsSurelyToldAt (IsShapeFault (body_shape op left)) src place e
+  unfolding IsToldAt
+  sure l is e f = (inr (f.0.0, subst (λ (s : Shape). IsShapeFault s (drop place src) f.0.0 e.reason) (sym is) f.0.1, f.0.2), f.1)
+
+  pub of_fault : {V : Type 0} (tells : V → Option ItemFault) (l : Layout) → body_shape op left ≡ Fields l → (result : Result ℕ V) → IfErr result (Says tells (HasSureFault (IsValueOf l) src place))
+      → IfErr result (Says tells (IsSurelyToldAt (IsShapeFault (body_shape op left)) src place))
+  of_fault tells l is result h = errs_more tells _ _ (sure l is) result h
+
+-- of a multi's results
+module _ (src : List ℕ) (place : ℕ) (op : Op) (left : List PartOp) (is : op ≡ ops.Multi) where
+  pub results_there : {V : Type 0} (result : Result ℕ V) → IfOk result (λ end. (ds : List PartDone) × AnswerAll left ds × HaveBytes (multi_items ds) × StandsAt (multi_items ds) src place end) → BodyEnds src place op left result
+  results_there (Ok end) f = (body.Multi f.0, (sym is, f.1, f.2, f.3))
+  results_there (Err e) f = tt
+
+  pub results_fault : {V : Type 0} (tells : V → Option ItemFault) (result : Result ℕ V) → IfErr result (Says tells (IsSurelyToldAt (IsDoneFault left) src place)) → IfErr result (Says tells (IsSurelyToldAt (IsShapeFault (body_shape op left)) src place))
+  results_fault tells result h = subst (λ (o : Op). IfErr result (Says tells (IsSurelyToldAt (IsShapeFault (body_shape o left)) src place))) (sym is) h
+
+-- an int is as it is written
+pub int_again : (x : ℤ) → mag x < 2147483648 → to_z w32 (of_z w32 x) ≡ x
+int_again (pos n) h = to_z-of_z w32 (pos n) (omega (arith, h))
+int_again (negsuc n) h = to_z-of_z w32 (negsuc n) (omega (arith, h))
+
+-- what became of a request that was done
+pub body_outcome : {V : Type 0} (src : List ℕ) (op : Op) (left : List PartOp) (err : ℤ) → err ≡ pos 0 → (result : Result ℕ V) → BodyEnds src 16 op left result → IfOk result (λ end. (o : Outcome) × IsOutcomeAt op left err o src 16 end)
+body_outcome src op left err is (Ok end) b = (outcome.Done b.0, ((b.1.0, b.1.1), tt, sym is, b.1.2, b.1.3))
+body_outcome src op left err is (Err e) b = tt
 
 module _ (src : List ℕ) (header : ReplyHeader) (rest : List ℕ) (h : IsHead src header rest) where
   -- a header's 16 bytes are there
@@ -61,35 +98,28 @@ module _ (src : List ℕ) (header : ReplyHeader) (rest : List ℕ) (h : IsHead s
       (h.1 ∙ ap (λ (r : List ℕ). bytes_of (reply_header.items header) ++ r) behind, refl)
 
   -- what stands behind it, up to the end, is what became of the request
-  reply_there : (op : Op) (parts : List PartOp) (o : Outcome) (end : ℕ) → header.xid ≢ negsuc 0 → OutcomeFits op parts o → IsOutcome o → err_of o ≡ header.err → HaveBytes (rest_items o) → StandsAt (rest_items o) src 16 end → end ≡ length src → IsReplyUnder header.xid op parts src
-  reply_there op parts o end x fits is err have t all =
-      let found = reply_found src header 16 (head_is header h.0) header_there op parts o end x fits is err have t (omega (arith, all)) in
+  pub reply_there : (op : Op) (left : List PartOp) (o : Outcome) (end : ℕ) → header.xid ≢ negsuc 0 → IsOutcomeAt op left header.err o src 16 end → length src ≤ end → IsReplyUnder header.xid op left src
+  reply_there op left o end x k all =
+      let found = reply_found src header 16 (head_is header h.0) header_there op left o end x k.0 k.1 k.2 k.3 k.4 all in
       (record { xid = header.xid; zxid = header.zxid; outcome = o }, refl, found.0, found.1, found.2)
 
-  pub failed_there : (op : Op) (parts : List PartOp) → header.xid ≢ negsuc 0 → header.err ≢ pos 0 → length src ≡ 16 → IsReplyUnder header.xid op parts src
-  failed_there op parts x err all = reply_there op parts (outcome.Failed op header.err) 16 x refl err refl tt (refl, refl) (sym all)
+-- ---- results of parts
 
-  pub done_there : (op : Op) (parts : List PartOp) (b : Body) (end : ℕ) → header.xid ≢ negsuc 0 → header.err ≡ pos 0 → IsBodyAt op parts b src 16 end → end ≡ length src → IsReplyUnder header.xid op parts src
-  done_there op parts b end x err t all = reply_there op parts (outcome.Done b) end x (t.0, t.1) tt (sym err) t.2 t.3 all
+own_covered : (op : PartOp) (items : List Item) → IsValueOf (result_layout op) items → (d : PartDone) × Own op d × (result_of d ≡ items)
+own_covered parts.Create items v = let x = text_covered items v.0 in (done.Created x.0, refl, x.1)
+own_covered parts.Delete items v = (done.Deleted, refl, sym v.0)
+own_covered parts.SetData items v = let x = stat_covered items v.0 in (done.DataSet x.0, refl, x.1)
+own_covered parts.Check items v = (done.Checked, refl, sym v.0)
 
-module _ (src : List ℕ) (place : ℕ) (part : PartOp) where
-  -- of what a part's own result is made of
-  abbrev AResult : PartOp → ℕ → Type 0
-  AResult o n = (x : Result o) × HaveBytes (result_items o x) × StandsAt (result_items o x) src place n
+pub result_there : (src : List ℕ) (place : ℕ) (op : PartOp) (end : ℕ) → IsValueAt (IsValueOf (result_layout op)) src place end → IsResultAt op src place end
+result_there src place op end v =
+    let d = own_covered op v.0 v.1 in
+    (d.0, d.1, subst (λ (i : List Item). IsValueOf (result_layout op) i) (sym d.2) v.1, subst (λ (i : List Item). StandsAt i src place end) (sym d.2) v.2)
 
-  result_at : (o : PartOp) → part ≡ o → (n : ℕ) → AResult o n → IsResultAt part src place n
-  result_at o e n s =
-      let d = done_of o s.0 in
-      let m = own_made o s.0 in (
-        d,
-        subst (λ (p : PartOp). Own p d) (sym e) m.0,
-        subst (λ (p : PartOp). IsValueOf (result_layout p) (result_of d)) (sym e) (subst (IsValueOf (result_layout o)) (sym m.2) (result_is o s.0, s.1)),
-        subst (λ (i : List Item). StandsAt i src place n) (sym m.2) s.2,
-      )
+pub result_ends : {V : Type 0} (src : List ℕ) (place : ℕ) (op : PartOp) (l : Layout) → l ≡ result_layout op → (result : Result ℕ V) → IfOk result (IsValueAt (IsValueOf l) src place) → IfOk result (IsResultAt op src place)
+result_ends src place op l is (Ok end) v = result_there src place op end (subst (λ (m : Layout). IsValueAt (IsValueOf m) src place end) is v)
+result_ends src place op l is (Err e) v = tt
 
-  pub result_ends : (end : Option ℕ) (o : PartOp) → part ≡ o → IfSome end (λ n. AResult o n) → IfSome end (λ n. IsResultAt part src place n)
-  result_ends end o e h = IfSome_then end h (result_at o e)
-
-  -- of none
-  pub no_result_ends : (o : PartOp) → part ≡ o → (x : Result o) → result_items o x ≡ [] → IsResultAt part src place place
-  no_result_ends o e x none = result_at o e place (x, subst HaveBytes (sym none) tt, subst (λ (i : List Item). StandsAt i src place place) (sym none) (refl, omega arith))
+-- nothing is there, where nothing is to be
+pub no_result : (src : List ℕ) (place : ℕ) (op : PartOp) → End ≡ result_layout op → IsResultAt op src place place
+no_result src place op is = result_there src place op place (subst (λ (l : Layout). IsValueAt (IsValueOf l) src place place) is ([], (refl, tt), (refl, omega arith)))

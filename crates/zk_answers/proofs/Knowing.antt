@@ -1,35 +1,35 @@
 -- A payload that is known to be a reply or an event: what stands behind its header, and that it is no other frame.
-use Rattle.std.proofs.Common.{◌≡◌, ℕ, ◌+◌, ◌≤◌, inl, inr, Bool, List, [], ◌++◌, length, drop, Result, Ok, Err, refl, sym, ap, subst, ◌∙◌, arith}
-use Rattle.std.specs.Prelude.{◌≢◌, ℤ, pos, IsOk, IfErr}
+use Rattle.std.proofs.Common.{◌≡◌, ℕ, ◌+◌, ◌≤◌, List, [], ◌++◌, length, drop, refl, sym, ap, subst, ◌∙◌, arith}
+use Rattle.std.specs.Prelude.{◌≢◌, ℤ, pos}
 use Rattle.std.proofs.lemmas.List.{append-nil, length-append}
-use Rattle.zk_jute.specs.declared.fault.ItemFault.{ItemFault}
 use Rattle.zk_jute.specs.Item.{Item, bytes_of, HaveBytes}
 use Rattle.zk_jute.specs.Layout.{IsValueOf}
-use Rattle.zk_jute.specs.Told.{StandsAt, IsToldAt, IsSurelyToldAt}
+use Rattle.zk_jute.specs.Told.{StandsAt}
 use Rattle.zk_jute.specs.Held.{Text, Vector}
-use Rattle.zk_jute.specs.Wired.{ustring, vector}
-use Rattle.zk_jute.specs.Standing.{Known, OneStands}
+use Rattle.zk_jute.specs.Wired.{Wired, ustring, vector}
+use Rattle.zk_jute.specs.Standing.{OneStands}
 use Rattle.zk_jute.proofs.Layouts.{bytes_only, bytes_both, have_parts}
 use Rattle.zk_jute.proofs.Known.{stands_first, stands_last}
+use Rattle.zk_jute.proofs.Stretches.{stands_split}
+use Rattle.zk_asks.proofs.Knowing.{IsThe}
 use Rattle.zk_records.specs.declared.header.ReplyHeader.{ReplyHeader}
 use Rattle.zk_records.specs.Held.{WatcherEvent}
 use Rattle.zk_records.specs.declared.op.Op.{Op}
 use Rattle.zk_records.specs.declared.op.Op.TheVariants as ops
 use Rattle.zk_records.specs.declared.op.PartOp.{PartOp}
-use Rattle.zk_records.specs.Records.{reply_header, watcher_event}
+use Rattle.zk_records.specs.declared.stat.Stat.{Stat}
+use Rattle.zk_records.specs.Records.{stat, reply_header, watcher_event}
 use Rattle.zk_answers.specs.Held.{Body, Outcome, PartDone, Reply, ServerFrame}
 use Rattle.zk_answers.specs.declared.frame.BodyOf.TheVariants as body
 use Rattle.zk_answers.specs.declared.frame.OutcomeOf.TheVariants as outcome
 use Rattle.zk_answers.specs.declared.frame.ServerFrameOf.TheVariants as frame
-use Rattle.zk_answers.specs.Faults.{IsHead, IsOfShape, IsShapeFault, body_shape}
-use Rattle.zk_answers.specs.Frames.{err_of, header_of, event_header, rest_items, IsEvent, IsOutcome, IsSent, IsReplyTo, OutcomeFits, BodyFits, payload}
+use Rattle.zk_answers.specs.Faults.{IsHead}
+use Rattle.zk_answers.specs.Frames.{err_of, header_of, event_header, rest_items, IsEvent, IsOutcome, IsSent, IsReplyTo, OutcomeFits, payload}
 use Rattle.zk_answers.specs.Rows.{Content, row_of, remake, items_in, op_of_body, body_items}
 use Rattle.zk_answers.specs.Results.{multi_items}
-use Rattle.zk_answers.specs.Scanned.{IsBodyAt}
 use Rattle.zk_answers.specs.Known.{ABodyStands}
-use Rattle.zk_answers.proofs.Bodies.{IsMade, is_made, body_is, body_same}
+use Rattle.zk_answers.proofs.Bodies.{IsMade, is_made}
 use Rattle.zk_answers.proofs.Heads.{head_unique}
-use Rattle.zk_answers.proofs.Rests.{shape_excludes, shape_only}
 use Rattle.zk_answers.proofs.Replies.{reply_heads, reply_same}
 use Rattle.zk_answers.proofs.Refusals.{head_of}
 
@@ -119,41 +119,11 @@ module _ (src : List ℕ) (h : ReplyHeader) (after : ℕ) (f : HeaderStands src 
 
 -- ---- a body that is known to stand there
 
-pub row_known : (k : Bool) (src : List ℕ) (place : ℕ) {a b : Op} → a ≡ b → Known k (OneStands (items_in (row_of a)) src place) → Known k (OneStands (items_in (row_of b)) src place)
-row_known k src place e h = subst (λ (op : Op). Known k (OneStands (items_in (row_of op)) src place)) e h
-
-others_fit : (b : Body) → op_of_body b ≢ ops.Multi → BodyFits [] b
-others_fit (body.Multi dones) n = absurd (n refl)
-others_fit b n = tt
-
-module _ (op : Op) (src : List ℕ) (place : ℕ) (b : Body) (end : ℕ) (of : op_of_body b ≡ op) (have : HaveBytes (body_items b)) (stands : StandsAt (body_items b) src place end) where
-  pub content_stands : OneStands (items_in (row_of op)) src place
-  unfolding IsMade
-  content_stands =
-      let m : IsMade op b = subst (λ (o : Op). IsMade o b) of (is_made b) in
-      (m.0, end, subst HaveBytes (sym m.2) have, subst (λ (i : List Item). StandsAt i src place end) (sym m.2) stands)
-
-  module _ (other : op ≢ ops.Multi) where
-    fits : BodyFits [] b
-    fits = others_fit b (λ e. other (sym of ∙ e))
-
-    shaped : IsOfShape (body_shape op []) (body_items b)
-    shaped = subst (λ (o : Op). IsOfShape (body_shape o []) (body_items b)) of (body_is b [] fits have)
-
-    pub body_read : (answer : Result (Body × ℕ) ItemFault) → IfErr answer (IsSurelyToldAt (IsShapeFault (body_shape op [])) src place) → IsOk answer
-    unfolding IsToldAt
-    body_read (Ok x) f = refl
-    body_read (Err e) f =
-        elim f.0 [
-          | inl m ↦ absurd (f.1 (ap (λ (y : ItemFault). y.reason) m))
-          | inr k ↦ absurd (shape_excludes (body_shape op []) (body_items b) (drop place src) (drop end src) k.0 e.reason shaped stands.0 k.1)
-        ]
-
-    pub body_is_it : (c : Body) (after : ℕ) → IsBodyAt op [] c src place after → c ≡ b
-    body_is_it c after found =
-        let is_shaped = subst (λ (o : Op). IsOfShape (body_shape o []) (body_items c)) found.0 (body_is c [] found.1 found.2) in
-        let same = shape_only (body_shape op []) (body_items c) (body_items b) (drop after src) (drop end src) is_shaped shaped (sym found.3.0 ∙ stands.0) in
-        body_same [] c b (found.0 ∙ sym of) found.1 fits found.2 have (ap bytes_of same.0)
+pub content_there : (o : Op) (src : List ℕ) (place : ℕ) {op : Op} → op ≡ o → ABodyStands op src place → OneStands (items_in (row_of o)) src place
+unfolding IsMade
+content_there o src place is b =
+    let m : IsMade o b.0 = subst (λ (q : Op). IsMade q b.0) (b.2 ∙ is) (is_made b.0) in
+    (m.0, b.1, subst HaveBytes (sym m.2) b.3, subst (λ (i : List Item). StandsAt i src place b.1) (sym m.2) b.4)
 
 -- what an operation's own content makes
 module _ (op : Op) (src : List ℕ) (place : ℕ) (x : Content (row_of op)) where
@@ -171,6 +141,39 @@ multi_is src place ds = content_is ops.Multi src place ds
 pub names_are : (src : List ℕ) (place : ℕ) (names : Vector Text) → ((xs : Vector Text) (end : ℕ) → HaveBytes ((vector ustring).items xs) → StandsAt ((vector ustring).items xs) src place end → names ≡ xs)
     → (b : Body) (end : ℕ) → op_of_body b ≡ ops.GetChildren → HaveBytes (body_items b) → StandsAt (body_items b) src place end → body.GetChildren names ≡ b
 names_are src place names = content_is ops.GetChildren src place names
+
+-- ---- a body's field, and the Stat behind it
+
+module _ {R X : Type 0} (w : Wired X) (field : R → X) (its_stat : R → Stat) (src : List ℕ) (place : ℕ) (within : place ≤ length src) where
+  abbrev record_items : R → List Item
+  record_items r = w.items (field r) ++ stat.items (its_stat r)
+
+  module _ (there : OneStands record_items src place) where
+    pub field_there : OneStands w.items src place
+    field_there =
+        let r = there.0 in
+        let at = stands_split (w.items (field r)) (stat.items (its_stat r)) src place there.1 within there.3 in
+        (field r, place + length (bytes_of (w.items (field r))), (have_parts (w.items (field r)) (stat.items (its_stat r)) there.2).0, at.0)
+
+  module _ (x : X × ℕ) (is : IsThe w.items src place x) where
+    behind : (r : R) (end : ℕ) → HaveBytes (record_items r) → StandsAt (record_items r) src place end
+        → (x.0 ≡ field r) × (x.1 ≤ length src) × HaveBytes (stat.items (its_stat r)) × StandsAt (stat.items (its_stat r)) src x.1 end
+    behind r end have stands =
+        let at = stands_split (w.items (field r)) (stat.items (its_stat r)) src place end within stands in
+        let have_both = have_parts (w.items (field r)) (stat.items (its_stat r)) have in
+        let middle = place + length (bytes_of (w.items (field r))) in
+        let same : x ≡ (field r, middle) = is (field r) middle have_both.0 at.0 in
+        let place_is : middle ≡ x.1 = sym (ap (λ (z : X × ℕ). z.1) same) in
+        (ap (λ (z : X × ℕ). z.0) same, subst (λ (q : ℕ). q ≤ length src) place_is at.2, have_both.1, subst (λ (q : ℕ). StandsAt (stat.items (its_stat r)) src q end) place_is at.1)
+
+    pub stat_there : OneStands record_items src place → (x.1 ≤ length src) × OneStands stat.items src x.1
+    stat_there there = let s = behind there.0 there.1 there.2 there.3 in (s.1, (its_stat there.0, there.1, s.2, s.3))
+
+    pub both_are : (s : Stat × ℕ) → IsThe stat.items src x.1 s → (r : R) (end : ℕ) → HaveBytes (record_items r) → StandsAt (record_items r) src place end
+        → (x.0 ≡ field r) × (s.0 ≡ its_stat r)
+    both_are s then r end have stands =
+        let k = behind r end have stands in
+        (k.0, ap (λ (z : Stat × ℕ). z.0) (then (its_stat r) end k.2 k.3))
 
 -- ---- an event
 

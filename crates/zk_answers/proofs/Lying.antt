@@ -1,6 +1,6 @@
 -- Results that lie in a payload: what stands there is their value, and what reads them.
 use Rattle.std.proofs.Common.{◌≡◌, ℕ, ◌+◌, ◌≤◌, List, [], ◌∷◌, ◌++◌, length, drop, Some, None, Ok, Err, inr, refl, sym, ap, subst, ◌∙◌, arith}
-use Rattle.std.specs.Prelude.{ℤ, Bool, Result, IfOk, IfErr, ◌≢◌}
+use Rattle.std.specs.Prelude.{ℤ, Result, IfOk, ◌≢◌}
 use Rattle.std.specs.List.{flat_map}
 use Rattle.std.proofs.lemmas.List.{append-nil}
 use Rattle.zk_jute.specs.declared.fault.ItemFault.{ItemFault}
@@ -8,10 +8,10 @@ use Rattle.zk_jute.specs.declared.fault.Reason.TheVariants.{NoMemory}
 use Rattle.zk_jute.specs.Item.{Item, AnInt, bytes_of, HaveBytes}
 use Rattle.zk_jute.specs.Layout.{IsValueOf, Unfolds}
 use Rattle.zk_jute.specs.Reading.{Read, ◌>>=◌, read_map, int_at, long_at, items_at}
-use Rattle.zk_jute.specs.Told.{StandsAt, HasToldFault, IsToldAt}
+use Rattle.zk_jute.specs.Told.{StandsAt, HasToldFault, HasSureFault, IsToldAt}
 use Rattle.zk_jute.specs.Values.{text_items, text_unfolds}
 use Rattle.zk_jute.specs.Held.{Text}
-use Rattle.zk_jute.specs.Standing.{Known, OneStands}
+use Rattle.zk_jute.specs.Standing.{OneStands}
 use Rattle.zk_jute.specs.Wired.{Wired, int, long, ustring, ◌and◌}
 use Rattle.zk_jute.specs.Shown.{text_value, both_at, text_is_value, Stretch, Begins}
 use Rattle.zk_jute.proofs.Layouts.{items_again, bytes_only, have_both, have_parts}
@@ -26,8 +26,6 @@ use Rattle.zk_records.specs.declared.op.PartOp.{PartOp}
 use Rattle.zk_records.specs.declared.op.PartOp.TheVariants as parts
 use Rattle.zk_records.proofs.Numbers.{part_number_apart}
 use Rattle.zk_asks.specs.Parts.{marked, end_header}
-use Rattle.zk_asks.proofs.Left.{known_from}
-use Rattle.zk_asks.proofs.Knowing.{of_answer}
 use Rattle.zk_asks.specs.Shown.{part_numbered}
 use Rattle.zk_answers.specs.Fronts.{IsResultAt, IsDoneAt}
 use Rattle.zk_answers.specs.Held.{PartDone}
@@ -185,16 +183,13 @@ module _ (src : List ℕ) (place : ℕ) (op : PartOp) where
       let x = of r.0 (subst (λ (o : PartOp). Own o r.0) is r.1) in
       (x.0, h.0, subst HaveBytes x.1 r.2.1, subst (λ (i : List Item). StandsAt i src place h.0) x.1 r.3)
 
-  pub created_known : (k : Bool) → op ≡ parts.Create → Known k ((e : ℕ) × IsResultAt op src place e) → Known k (OneStands ustring.items src place)
-  created_known k is = known_from k (stands_as ustring parts.Create created_of is)
+  pub created_there : op ≡ parts.Create → (e : ℕ) × IsResultAt op src place e → OneStands ustring.items src place
+  created_there is = stands_as ustring parts.Create created_of is
 
-  pub set_known : (k : Bool) → op ≡ parts.SetData → Known k ((e : ℕ) × IsResultAt op src place e) → Known k (OneStands stat.items src place)
-  set_known k is = known_from k (stands_as stat parts.SetData set_of is)
+  pub set_there : op ≡ parts.SetData → (e : ℕ) × IsResultAt op src place e → OneStands stat.items src place
+  set_there is = stands_as stat parts.SetData set_of is
 
 -- ---- one answer
-
-pub same_answer : {X E : Type 0} (answer : Result X E) (x y : X) → answer ≡ Ok x → answer ≡ Ok y → x ≡ y
-same_answer {X} {E} answer x y e f = of_answer (λ z. z ≡ y) answer x e (subst (λ (r : Result X E). IfOk r (λ z. z ≡ y)) (sym f) refl)
 
 abbrev told : PartDone × ℕ → Read PartDone → PartDone × ℕ
 told other (Ok x) = x
@@ -207,12 +202,8 @@ module _ (src : List ℕ) (place : ℕ) (le : place ≤ length src) (op : PartOp
   own_told : (x : PartDone) (at : ℕ) → Own op x → HaveBytes (result_of x) → StandsAt (result_of x) src place at → result_value (part_numbered (part_number op)) src place ≡ Ok (x, at)
   own_told x at o h s = subst (λ (k : ℤ). result_value (part_numbered k) src place ≡ Ok (x, at)) (own_kind op x o) (behind_told src x place at le h s)
 
-  pub result_only : (r : Result (PartDone × ℕ) ItemFault) → IfOk r (λ x. Own op x.0 × IsValueOf (result_layout op) (result_of x.0) × StandsAt (result_of x.0) src place x.1)
-      → IfErr r (λ e. HasToldFault (IsValueOf (result_layout op)) src place e × (e.reason ≢ NoMemory)) → r ≡ Ok (d, end)
-  result_only (Ok x) found fault =
-      let same = one_value (result_value (part_numbered (part_number op)) src place) x (d, end) (own_told x.0 x.1 found.0 found.1.1 found.2) (own_told d end own have stands) in
-      ap (λ (y : PartDone × ℕ). Ok y) same
-  result_only (Err e) found fault = absurd (excluded (result_layout op) (result_of d) (drop place src) (drop end src) fault.0.0 e.reason (own_is op d own, have) stands.0 fault.0.1)
+  pub own_is_it : (x : PartDone) (at : ℕ) → Own op x → HaveBytes (result_of x) → StandsAt (result_of x) src place at → ◌≡◌ {A = PartDone × ℕ} (x, at) (d, end)
+  own_is_it x at o h s = one_value (result_value (part_numbered (part_number op)) src place) (x, at) (d, end) (own_told x at o h s) (own_told d end own have stands)
 
 module _ (src : List ℕ) (d : PartDone) (place end : ℕ) (le : place ≤ length src) (have : HaveBytes (done_items d)) (stands : StandsAt (done_items d) src place end)
     (header : MultiHeader) (after : ℕ) (v : IsValueOf multi_header.layout (marked header)) (s : StandsAt (marked header) src place after) where
@@ -222,10 +213,9 @@ module _ (src : List ℕ) (d : PartDone) (place end : ℕ) (le : place ≤ lengt
   b : HaveBytes (result_of d) × StandsAt (result_of d) src after end × (after ≤ length src)
   b = let t = behind_there src d place end le have stands in (t.0, subst (λ (n : ℕ). StandsAt (result_of d) src n end) (sym h.1) t.1, omega (arith, h.1, t.2))
 
-  -- a part's own result, which is read behind its header
-  pub own_only : (op : PartOp) → header.kind ≡ part_number op → (r : Result (PartDone × ℕ) ItemFault) → IfOk r (λ x. Own op x.0 × IsValueOf (result_layout op) (result_of x.0) × StandsAt (result_of x.0) src after x.1)
-      → IfErr r (λ e. HasToldFault (IsValueOf (result_layout op)) src after e × (e.reason ≢ NoMemory)) → r ≡ Ok (d, end)
-  own_only op kind = result_only src after b.2 op d end (own_of d op (sym (ap (λ (m : MultiHeader). m.kind) h.0) ∙ kind)) b.0 b.1
+  -- a part's own result
+  pub own_there : (op : PartOp) → header.kind ≡ part_number op → Own op d × HaveBytes (result_of d) × StandsAt (result_of d) src after end × (after ≤ length src)
+  own_there op kind = (own_of d op (sym (ap (λ (m : MultiHeader). m.kind) h.0) ∙ kind), b.0, b.1, b.2)
 
   pub result_there : (op : PartOp) → header.kind ≡ part_number op → (e : ℕ) × IsResultAt op src after e
   result_there op kind =
@@ -240,8 +230,8 @@ module _ (src : List ℕ) (d : PartDone) (place end : ℕ) (le : place ≤ lengt
     number : HaveBytes (AnInt failed.0 ∷ []) × StandsAt (AnInt failed.0 ∷ []) src after end
     number = subst (λ (x : PartDone). HaveBytes (result_of x) × StandsAt (result_of x) src after end) failed.1 (b.0, b.1)
 
-    pub number_known : OneStands int.items src after
-    number_known = (failed.0, end, number.0, number.1)
+    pub error_there : (after ≤ length src) × OneStands int.items src after
+    error_there = (b.2, (failed.0, end, number.0, number.1))
 
     pub number_only : (n : ℤ) (at : ℕ) → HaveBytes (AnInt n ∷ []) → StandsAt (AnInt n ∷ []) src after at → ◌≡◌ {A = PartDone × ℕ} (done.PartFailed n, at) (d, end)
     number_only n at has t =
@@ -263,7 +253,7 @@ own_answers op _ own = own
 
 module _ (op : PartOp) (src : List ℕ) (place after : ℕ) (header : MultiHeader) where
   pub own_found : HaveBytes (marked header) → StandsAt (marked header) src place after → header ≡ result_header op
-      → (r : Result ℕ ItemFault) → IfOk r (IsResultAt op src after) → IfOk r (IsDoneAt op src place)
+      → {V : Type 0} (r : Result ℕ V) → IfOk r (IsResultAt op src after) → IfOk r (IsDoneAt op src place)
   own_found have s is (Ok end) found =
       let d = found.0 in
       let mark : header ≡ mark_before d = is ∙ sym (own_mark op d found.1) in
@@ -278,11 +268,8 @@ module _ (op : PartOp) (src : List ℕ) (place after : ℕ) (header : MultiHeade
       )
   own_found have s is (Err e) found = tt
 
-  pub own_fault : StandsAt (marked header) src place after → header ≡ result_header op
-      → (r : Result ℕ ItemFault) → IfErr r (λ e. HasToldFault (IsValueOf (result_layout op)) src after e × (e.reason ≢ NoMemory))
-      → IfErr r (λ e. ((ops : List PartOp) → IsToldAt (IsDoneFault (op ∷ ops)) src place e) × (e.reason ≢ NoMemory))
-  own_fault s is (Ok x) fault = tt
-  own_fault s is (Err e) fault = (λ ops. result_inside op ops src place after header e s is (inr fault.0), fault.1)
+  pub own_fault : StandsAt (marked header) src place after → header ≡ result_header op → (e : ItemFault) → HasSureFault (IsValueOf (result_layout op)) src after e → ((ops : List PartOp) → IsToldAt (IsDoneFault (op ∷ ops)) src place e) × (e.reason ≢ NoMemory)
+  own_fault s is e fault = (λ ops. result_inside op ops src place after header e s is (inr fault.0), fault.1)
 
 -- an error, with its header
 pub error_found : (op : PartOp) (src : List ℕ) (place after end : ℕ) (header : MultiHeader) (n : ℤ) → HaveBytes (marked header) → StandsAt (marked header) src place after → header ≡ error_header header.err
@@ -297,13 +284,22 @@ error_found op src place after end header n have s is has t same =
     )
 
 -- what is told of the list, once its end is passed
-pub dones_passed : (src : List ℕ) (place at count after : ℕ) (header : MultiHeader) (ops : List PartOp) → place ≤ length src → (s : Stretch done_items src place at count) → AnswerAll ops s.values
+pub dones_passed : (src : List ℕ) (place at count after : ℕ) (header : MultiHeader) (ops : List PartOp) → (s : Stretch done_items src place at count) → AnswerAll ops s.values
     → HaveBytes (marked header) → StandsAt (marked header) src at after → header ≡ end_header
-    → AnswerAll ops (dones_at src count place) × HaveBytes (multi_items (dones_at src count place)) × StandsAt (multi_items (dones_at src count place)) src place after
-dones_passed src place at count after header ops le s answers v t is =
+    → (ds : List PartDone) × AnswerAll ops ds × HaveBytes (multi_items ds) × StandsAt (multi_items ds) src place after
+dones_passed src place at count after header ops s answers v t is =
     let ds = s.values in
     let end = marked end_header in
     let have = have_both (flat_map done_items ds) end s.have (subst (λ (h : MultiHeader). HaveBytes (marked h)) is v) in
     let stands = stands_then (flat_map done_items ds) end src place at after s.stands (subst (λ (h : MultiHeader). StandsAt (marked h) src at after) is t) in
-    let told_as = sym (values_told done_items src (done_value src) (done_read src) place at count le s) in
-    subst (λ (xs : List PartDone). AnswerAll ops xs × HaveBytes (multi_items xs) × StandsAt (multi_items xs) src place after) told_as (answers, have, stands)
+    (ds, answers, have, stands)
+
+-- results that are there, as a list of them that lies there
+module _ (src : List ℕ) (place after count : ℕ) (le : place ≤ length src) (ds : List PartDone) (is : count ≡ length ds) (have : HaveBytes (multi_items ds)) (stands : StandsAt (multi_items ds) src place after) where
+  abbrev pub dones_begin : Begins done_items src count place
+  dones_begin =
+      let s = stands_split (flat_map done_items ds) (marked end_header) src place after le stands in
+      (le, place + length (bytes_of (flat_map done_items ds)), record { values = ds; count_is = is; have = (have_parts (flat_map done_items ds) (marked end_header) have).0; stands = s.0 })
+
+  pub dones_told : dones_at src count place ≡ ds
+  dones_told = values_told done_items src (done_value src) (done_read src) place dones_begin.1 count le dones_begin.2

@@ -5,16 +5,10 @@ use Rattle.zk_jute.specs.Layout.{IsValueOf}
 use Rattle.zk_jute.specs.Told.{StandsAt}
 use Rattle.zk_records.specs.declared.op.Op.{Op}
 use Rattle.zk_records.specs.declared.op.PartOp.{PartOp}
-use Rattle.zk_answers.specs.Held.{Body, Reply, PartDone}
+use Rattle.zk_answers.specs.Held.{Reply, PartDone}
 use Rattle.zk_answers.specs.declared.frame.ServerFrameOf.TheVariants as frame
 use Rattle.zk_answers.specs.Results.{Own, Answers, result_of, result_layout, done_items}
-use Rattle.zk_answers.specs.Rows.{op_of_body, body_items}
-use Rattle.zk_answers.specs.Frames.{BodyFits, Fits, IsSent, payload}
-
--- a body of this operation, which fits the request whatever parts that has, is at the place, and ends there
-abbrev pub IsBodyAlone : Op → List ℕ → ℕ → ℕ → Type 0
-IsBodyAlone op src place end =
-    (b : Body) × (op_of_body b ≡ op) × ((parts : List PartOp) → BodyFits parts b) × HaveBytes (body_items b) × StandsAt (body_items b) src place end
+use Rattle.zk_answers.specs.Frames.{Fits, IsSent, payload}
 
 -- a part's own result is at the place, and ends there
 abbrev pub IsResultAt : PartOp → List ℕ → ℕ → ℕ → Type 0

@@ -1,85 +1,19 @@
 //! `borrow_connected`, `borrow_reply`, `borrow_event`: a server's payload judged and returned borrowed.
-ghost use Rattle.std.specs.Prelude.{◌≡◌, ◌≢◌, ◌≤◌, ℕ, List, Ok, length, negsuc, IfOk, IfErr};
+ghost use Rattle.std.specs.Prelude.{◌≡◌, ◌≢◌, ℕ, List, Ok, negsuc, IfOk, IfErr};
 ghost use Rattle.zk_jute.specs.declared.fault.Reason.TheVariants.{NoMemory};
-ghost use Rattle.zk_jute.specs.Told.{IsToldAt, IsSurelyTold, IsSurelyToldAt};
+ghost use Rattle.zk_jute.specs.Told.{IsSurelyTold};
 ghost use Rattle.zk_records.specs.declared.header.ReplyHeader as records;
-ghost use Rattle.zk_jute.specs.Standing.{Known, OneStands};
-ghost use Rattle.zk_answers.specs.Rows.{row_of, items_in};
 ghost use Rattle.zk_answers.specs.Held as held;
 ghost use Rattle.zk_answers.specs.Frames.{IsConnected, IsEvent, IsReplyTo, IsSent};
 ghost use Rattle.zk_answers.specs.Frames as sent;
-ghost use Rattle.zk_answers.specs.Scanned.{IsBodyAt, IsOutcomeAt};
-ghost use Rattle.zk_answers.specs.Faults.{IsShapeFault, body_shape, rest_shape, IsConnectedFault, IsHead, IsReplyFault, IsEventFault};
+ghost use Rattle.zk_answers.specs.Faults.{IsConnectedFault, IsHead, IsReplyFault, IsEventFault};
 
-use crate::body_rows;
-use crate::done_list::results_ref;
-use crate::frame::{
-    BodyOf, BodyRef, Failure, OutcomeOf, OutcomeRef, ReplyOf, ServerFrameOf, ServerRef,
-};
-use crate::quick::HEADER;
+use crate::frame::{ServerFrameOf, ServerRef};
+use crate::judge::{judge_event, judge_reply};
+use crate::known::{event_ref, known_reply};
 use zk_asks::Asked;
-use zk_jute::{ItemFault, Payload, PayloadOf, Reason, read_ref, scan_flagged};
-use zk_records::{
-    AclBodyRef, ChildrenBodyRef, ConnectResponseRef, CreateBodyRef, DataBodyRef, Op, ReplyHeader,
-    WatcherEventRef, borrowed,
-};
-
-/// The body at `place` of a reply to `form`, and the place after it; judged, or known to be there.
-#[tactic(auto, unfolding(zk_jute::specs::Told::IsToldAt))]
-pub(crate) fn body_ref<'a, F: Asked, const KNOWN: bool>(
-    src: &PayloadOf<'a, KNOWN>,
-    place: usize,
-    form: &F,
-) -> Result<(BodyRef<'a>, usize), ItemFault>
-    requires place { place ≤ length src.now.bytes.now }
-    requires known { Known KNOWN (OneStands (items_in (row_of (F.operation form.now))) src.now.bytes.now place) }
-    ensures found { IfOk result (λ x. IsBodyAt (F.operation form.now) (F.part_ops form.now) x.0 src.now.bytes.now place x.1) }
-    ensures fault { IfErr result (IsSurelyToldAt (IsShapeFault (body_shape (F.operation form.now) (F.part_ops form.now))) src.now.bytes.now place) }
-    ensures within { IfOk result (λ x. x.1 ≤ length src.now.bytes.now) }
-{
-    macro_rules! row {
-        ($form:ident: $($($one:ident)|+: $only:ident $name:ident $kind:ident),+;
-         $($both:ident: $first:ident $first_name:ident $first_kind:ident $borrowed:ident),+; $($bare:ident)|+) => {
-            match $form.op() {
-                $($(Op::$one => match read_ref::<_, borrowed!($kind)>(src, place) {
-                    Ok(($only, end)) => Ok((BodyOf::$one { $only }, end)),
-                    Err(fault) => Err(fault),
-                },)+)+
-                $(Op::$both => match read_ref::<_, $borrowed>(src, place) {
-                    Ok(($borrowed { $first, stat }, end)) => Ok((BodyOf::$both { $first, stat }, end)),
-                    Err(fault) => Err(fault),
-                },)+
-                $(Op::$bare => Ok((BodyOf::$bare, place)),)+
-                Op::Multi => match results_ref(&Payload { bytes: src.bytes }, place, form) {
-                    Ok((dones, end)) => Ok((BodyOf::Multi(dones), end)),
-                    Err(fault) => Err(fault),
-                },
-            }
-        };
-    }
-    body_rows!(row, form)
-}
-
-/// What follows a header with the error `err`: nothing if it isn't 0, else the body.
-fn outcome_ref<'a, F: Asked>(
-    src: &Payload<'a>,
-    place: usize,
-    form: &F,
-    err: i32,
-) -> Result<(OutcomeRef<'a>, usize), ItemFault>
-    requires { place ≤ length src.now.bytes.now }
-    ensures found { IfOk result (λ x. IsOutcomeAt (F.operation form.now) (F.part_ops form.now) err x.0 src.now.bytes.now place x.1) }
-    ensures fault { IfErr result (IsSurelyToldAt (IsShapeFault (rest_shape (F.operation form.now) (F.part_ops form.now) err)) src.now.bytes.now place) }
-    ensures within { IfOk result (λ x. x.1 ≤ length src.now.bytes.now) }
-{
-    match Failure::new(err) {
-        Some(failure) => Ok((OutcomeOf::Failed(form.op(), failure), place)),
-        None => {
-            let (body, end) = body_ref(src, place, form)?;
-            Ok((OutcomeOf::Done(body), end))
-        }
-    }
-}
+use zk_jute::{ItemFault, Payload, read_ref, scan_flagged};
+use zk_records::{ConnectResponseRef, ReplyHeader};
 
 fn connected_in<'a>(payload: &'a [u8]) -> Result<ServerRef<'a>, ItemFault>
     ensures found { IfOk result (λ s. IsConnected s × IsSent s × (payload.now ≡ sent.payload s)) }
@@ -113,15 +47,8 @@ fn reply_in<'a, F: Asked>(
     ensures found { IfOk result (λ s. IsReplyTo (F.operation form.now) (F.part_ops form.now) s × IsSent s × (src.now.bytes.now ≡ sent.payload s)) }
     ensures fault { IfErr result (IsSurelyTold (IsReplyFault (F.operation form.now) (F.part_ops form.now) src.now.bytes.now)) }
 {
-    let (outcome, place) = outcome_ref(src, HEADER, form, head.err)?;
-    if place < src.bytes.len() {
-        return Err(ItemFault::at(place, Reason::Trailing));
-    }
-    Ok(ServerFrameOf::Answered(ReplyOf {
-        xid: head.xid,
-        zxid: head.zxid,
-        outcome,
-    }))
+    judge_reply::<F, ItemFault>(form, head, src.bytes)?;
+    Ok(known_reply::<true>(form.op(), src.bytes))
 }
 
 /// The reply to `form`, borrowed, with the header `head`, which was read from the payload. Decides as `borrow_reply` does,
@@ -173,17 +100,8 @@ fn event_in<'a>(head: &ReplyHeader, src: &Payload<'a>) -> Result<ServerRef<'a>, 
     ensures found { IfOk result (λ s. IsEvent s × IsSent s × (src.now.bytes.now ≡ sent.payload s)) }
     ensures fault { IfErr result (IsSurelyTold (IsEventFault src.now.bytes.now)) }
 {
-    if head.err != 0 {
-        return Err(ItemFault::at(12, Reason::EventErr));
-    }
-    let (event, place) = read_ref::<_, WatcherEventRef>(src, HEADER)?;
-    if place < src.bytes.len() {
-        return Err(ItemFault::at(place, Reason::Trailing));
-    }
-    Ok(ServerFrameOf::Event {
-        zxid: head.zxid,
-        event,
-    })
+    judge_event::<ItemFault>(head, src.bytes)?;
+    Ok(event_ref(src.bytes))
 }
 
 /// An event, borrowed, with the header `head`, which was read from the payload. Decides as `borrow_event` does, and reads

@@ -8,6 +8,7 @@ ghost use Rattle.zk_jute.specs.Standing.{Known, OneStands};
 ghost use Rattle.zk_jute.specs.Shown.{Begins};
 ghost use Rattle.zk_jute.specs.Layout.{IsValueOf};
 ghost use Rattle.zk_jute.specs.Told.{StandsAt, IsToldAt, HasSureFault, IsSurelyToldAt};
+ghost use Rattle.zk_jute.specs.Verdict.{Says};
 ghost use Rattle.zk_records.specs.declared.op.PartOp as codes;
 ghost use Rattle.zk_answers.specs.Held.{PartDone};
 ghost use Rattle.zk_answers.specs.Results.{done_items, multi_items, result_layout, result_of, AnswerAll, IsDoneFault, Own};
@@ -18,7 +19,7 @@ use crate::frame::{PartDoneOf, PartDoneRef};
 use crate::multi::{ResultMark, is_end, result_mark_of};
 use std::marker::Model;
 use zk_asks::Asked;
-use zk_jute::{Ends, ItemFault, KnownPayload, Left, Payload, PayloadOf, Reason, TextRef, read_ref};
+use zk_jute::{Ends, Left, Payload, Reason, TextRef, Verdict, known_at, read_ref};
 use zk_records::{MultiHeader, PartOp, Stat, part_of};
 
 /// The results of a multi's parts, borrowed.
@@ -98,10 +99,7 @@ impl<'a> Iterator for DoneItems<'a> {
             return None;
         }
         // All results that are left are known to be there.
-        let src = KnownPayload {
-            bytes: self.payload,
-        };
-        let (done, place) = done_in(&src, self.place);
+        let (done, place) = done_in(self.payload, self.place);
         self.place = place;
         self.left -= 1;
         Some(done)
@@ -125,94 +123,73 @@ impl<'a> ExactSizeIterator for DoneItems<'a> {
     }
 }
 
-/// The record at `place` of a part of the operation `op` that was done, and the place after it; judged, or known to be
-/// there. `place` is after the result's header.
-fn result_ref<'a, const KNOWN: bool>(
-    src: &PayloadOf<'a, KNOWN>,
-    place: usize,
-    op: PartOp,
-) -> Result<(PartDoneRef<'a>, usize), ItemFault>
-    requires place { place ≤ length src.now.bytes.now }
-    requires known { Known KNOWN ((end : ℕ) × IsResultAt op src.now.bytes.now place end) }
-    ensures found { IfOk result (λ x. Own op x.0 × IsValueOf (result_layout op) (result_of x.0) × StandsAt (result_of x.0) src.now.bytes.now place x.1) }
-    ensures fault { IfErr result (HasSureFault (IsValueOf (result_layout op)) src.now.bytes.now place) }
-    ensures within { IfOk result (λ x. x.1 ≤ length src.now.bytes.now) }
+/// The record that is known to be at `place`, of a part of the operation `op` that was done, and the place after it.
+fn result_in<'a>(payload: &'a [u8], place: usize, op: PartOp) -> (PartDoneRef<'a>, usize)
+    requires place { place ≤ length payload.now }
+    requires known { (end : ℕ) × IsResultAt op payload.now place end }
+    ensures { (d : PartDone) (end : ℕ) → Own op d → HaveBytes (result_of d) → StandsAt (result_of d) payload.now place end → result ≡ (d, end) }
 {
     match op {
-        PartOp::Create => match read_ref::<_, TextRef>(src, place) {
-            Ok((path, end)) => Ok((PartDoneOf::Created(path), end)),
-            Err(fault) => Err(fault),
-        },
-        PartOp::Delete => Ok((PartDoneOf::Deleted, place)),
-        PartOp::SetData => match read_ref::<_, Stat>(src, place) {
-            Ok((stat, end)) => Ok((PartDoneOf::DataSet(stat), end)),
-            Err(fault) => Err(fault),
-        },
-        PartOp::Check => Ok((PartDoneOf::Checked, place)),
+        PartOp::Create => {
+            let (path, end) = known_at(payload, place);
+            (PartDoneOf::Created(path), end)
+        }
+        PartOp::Delete => (PartDoneOf::Deleted, place),
+        PartOp::SetData => {
+            let (stat, end) = known_at(payload, place);
+            (PartDoneOf::DataSet(stat), end)
+        }
+        PartOp::Check => (PartDoneOf::Checked, place),
     }
 }
 
-/// The place after the record at `place` of a part of the operation `op` that was done; `None`: undecided. No result is
-/// made.
-fn result_end(payload: &[u8], place: usize, op: PartOp) -> Option<usize>
+/// The place after the record at `place` of a part of the operation `op` that was done. No result is made.
+fn result_end<V: Verdict>(payload: &[u8], place: usize, op: PartOp) -> Result<usize, V>
     requires { place ≤ length payload.now }
-    ensures some { IfSome result (λ end. IsResultAt op payload.now place end) }
-    ensures within { IfSome result (λ end. end ≤ length payload.now) }
+    ensures found { IfOk result (λ end. IsResultAt op payload.now place end) }
+    ensures fault { IfErr result (Says V.tells (HasSureFault (IsValueOf (result_layout op)) payload.now place)) }
+    ensures within { IfOk result (λ end. end ≤ length payload.now) }
 {
     match op {
-        PartOp::Create => TextRef::end_at(payload, place),
-        PartOp::SetData => Stat::end_at(payload, place),
-        PartOp::Delete | PartOp::Check => Some(place),
+        PartOp::Create => TextRef::end(payload, place),
+        PartOp::SetData => Stat::end(payload, place),
+        PartOp::Delete | PartOp::Check => Ok(place),
     }
-}
-
-/// The place after the record at `place` of a part of the operation `op` that was done.
-fn own_end(src: &Payload<'_>, place: usize, op: PartOp) -> Result<usize, ItemFault>
-    requires { place ≤ length src.now.bytes.now }
-    ensures found { IfOk result (λ end. IsResultAt op src.now.bytes.now place end) }
-    ensures fault { IfErr result (HasSureFault (IsValueOf (result_layout op)) src.now.bytes.now place) }
-    ensures within { IfOk result (λ end. end ≤ length src.now.bytes.now) }
-{
-    if let Some(end) = result_end(src.bytes, place, op) {
-        return Ok(end);
-    }
-    let (_, end) = result_ref(src, place, op)?;
-    Ok(end)
 }
 
 /// The place after the result at `place`, its header included, of a part of the operation `op`.
-fn done_end(src: &Payload<'_>, place: usize, op: PartOp) -> Result<usize, ItemFault>
-    requires { place ≤ length src.now.bytes.now }
-    ensures found { IfOk result (λ end. IsDoneAt op src.now.bytes.now place end) }
-    ensures fault { IfErr result (λ e. ((ops : List codes.PartOp) → IsToldAt (IsDoneFault (op ∷ ops)) src.now.bytes.now place e) × (e.reason ≢ NoMemory)) }
-    ensures within { IfOk result (λ end. end ≤ length src.now.bytes.now) }
+fn done_end<V: Verdict>(payload: &[u8], place: usize, op: PartOp) -> Result<usize, V>
+    requires { place ≤ length payload.now }
+    ensures found { IfOk result (λ end. IsDoneAt op payload.now place end) }
+    ensures fault { IfErr result (Says V.tells (λ e. ((ops : List codes.PartOp) → IsToldAt (IsDoneFault (op ∷ ops)) payload.now place e) × (e.reason ≢ NoMemory))) }
+    ensures within { IfOk result (λ end. end ≤ length payload.now) }
 {
-    let (header, after) = read_ref::<_, MultiHeader>(src, place)?;
+    let src = Payload { bytes: payload };
+    let (header, after) = V::on(read_ref::<_, MultiHeader>(&src, place))?;
     match result_mark_of(&header, op) {
-        ResultMark::Bad => Err(ItemFault::at(place, Reason::BadPart)),
+        ResultMark::Bad => Err(V::at(place, Reason::BadPart)),
         ResultMark::Error => {
-            let (number, end) = read_ref::<_, i32>(src, after)?;
+            let (number, end) = V::on(read_ref::<_, i32>(&src, after))?;
             if number != header.err {
-                return Err(ItemFault::at(place, Reason::BadPart));
+                return Err(V::at(place, Reason::BadPart));
             }
             Ok(end)
         }
-        ResultMark::Result => own_end(src, after, op),
+        ResultMark::Result => result_end(payload, after, op),
     }
 }
 
 /// The result that is known to be at `place`, of the operation in its own header, and the place after it.
-pub(crate) fn done_in<'a>(src: &KnownPayload<'a>, place: usize) -> (PartDoneRef<'a>, usize)
-    requires place { place ≤ length src.now.bytes.now }
-    requires known { OneStands done_items src.now.bytes.now place }
-    ensures only { (d : PartDone) (end : ℕ) → HaveBytes (done_items d) → StandsAt (done_items d) src.now.bytes.now place end → result ≡ (d, end) }
-    ensures within { result.1 ≤ length src.now.bytes.now }
+pub(crate) fn done_in<'a>(payload: &'a [u8], place: usize) -> (PartDoneRef<'a>, usize)
+    requires place { place ≤ length payload.now }
+    requires known { OneStands done_items payload.now place }
+    ensures { (d : PartDone) (end : ℕ) → HaveBytes (done_items d) → StandsAt (done_items d) payload.now place end → result ≡ (d, end) }
 {
-    let (header, after) = read_ref::<_, MultiHeader>(src, place).unwrap();
+    let (header, after) = known_at::<MultiHeader>(payload, place);
     match part_of(header.kind) {
-        Some(op) => result_ref(src, after, op).unwrap(),
+        Some(op) => result_in(payload, after, op),
         None => {
-            let (number, end) = read_ref::<_, i32>(src, after).unwrap();
+            let (number, end) = known_at(payload, after);
             (PartDoneOf::PartFailed(number), end)
         }
     }
@@ -230,28 +207,28 @@ pub(crate) fn lying<'a>(payload: &'a [u8], count: usize, place: usize) -> DoneLi
     }
 }
 
-/// The results at `place` of the parts of `form`, and the place after the end marker.
-pub(crate) fn results_ref<'a, F: Asked>(
-    src: &Payload<'a>,
-    place: usize,
+/// The place after the results at `place` of the parts of `form`, and the end marker.
+pub(crate) fn results_end<F: Asked, V: Verdict>(
     form: &F,
-) -> Result<(DoneList<'a>, usize), ItemFault>
-    requires { place ≤ length src.now.bytes.now }
-    ensures found { IfOk result (λ x. AnswerAll (F.part_ops form.now) x.0 × HaveBytes (multi_items x.0) × StandsAt (multi_items x.0) src.now.bytes.now place x.1) }
-    ensures fault { IfErr result (IsSurelyToldAt (IsDoneFault (F.part_ops form.now)) src.now.bytes.now place) }
-    ensures within { IfOk result (λ x. x.1 ≤ length src.now.bytes.now) }
+    payload: &[u8],
+    place: usize,
+) -> Result<usize, V>
+    requires { place ≤ length payload.now }
+    ensures found { IfOk result (λ end. (ds : List PartDone) × AnswerAll (F.part_ops form.now) ds × HaveBytes (multi_items ds) × StandsAt (multi_items ds) payload.now place end) }
+    ensures fault { IfErr result (Says V.tells (IsSurelyToldAt (IsDoneFault (F.part_ops form.now)) payload.now place)) }
+    ensures within { IfOk result (λ end. end ≤ length payload.now) }
 {
     let mut at = place;
     for j in 0..form.parts() {
         let op = form.part(j).unwrap();
-        let next = done_end(src, at, op)?;
+        let next = done_end::<V>(payload, at, op)?;
         at = next;
     }
-    let (header, end) = read_ref::<_, MultiHeader>(src, at)?;
+    let (header, end) = V::on(read_ref::<_, MultiHeader>(&Payload { bytes: payload }, at))?;
     if !is_end(&header) {
-        return Err(ItemFault::at(at, Reason::BadPart));
+        return Err(V::at(at, Reason::BadPart));
     }
-    Ok((lying(src.bytes, form.parts() as usize, place), end))
+    Ok(end)
 }
 
 impl<'a> Left for DoneItems<'a> {

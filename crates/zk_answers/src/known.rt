@@ -11,13 +11,12 @@ ghost use Rattle.zk_answers.specs.Frames as sent;
 ghost use Rattle.zk_jute.specs.Standing.{OneStands};
 ghost use Rattle.zk_answers.specs.Known.{ABodyStands, IsBehindFirst};
 
-use crate::borrow::body_ref;
+use crate::body_rows;
 use crate::done_list::{DoneList, done_in, lying};
 use crate::frame::{BodyOf, BodyRef, Failure, OutcomeOf, ReplyOf, ServerFrameOf, ServerRef};
 use crate::multi::is_end;
-use zk_asks::Alone;
-use zk_jute::{KnownPayload, known_flagged, known_list, read_ref};
-use zk_records::{MultiHeader, Op, ReplyHeader};
+use zk_jute::{known_at, known_flagged, known_list};
+use zk_records::{MultiHeader, Op, ReplyHeader, Stat, borrowed};
 
 /// The reply to the connect request that `payload` is known to be, borrowed. Nothing is allocated, and nothing is judged
 /// again.
@@ -34,9 +33,8 @@ pub fn event_ref(payload: &[u8]) -> ServerRef<'_>
     requires { (s : ServerFrame) × IsEvent s × IsSent s × (payload.now ≡ sent.payload s) }
     ensures { (s : ServerFrame) → IsEvent s → IsSent s → payload.now ≡ sent.payload s → result ≡ s }
 {
-    let src = KnownPayload { bytes: payload };
-    let (header, place) = read_ref::<_, ReplyHeader>(&src, 0).unwrap();
-    let (event, _) = read_ref(&src, place).unwrap();
+    let (header, place) = known_at::<ReplyHeader>(payload, 0);
+    let (event, _) = known_at(payload, place);
     ServerFrameOf::Event {
         zxid: header.zxid,
         event,
@@ -44,64 +42,87 @@ pub fn event_ref(payload: &[u8]) -> ServerRef<'_>
 }
 
 /// The place after the result at `place`, where results and the end marker are known to be; `None` at the end marker.
-fn behind_result(src: &KnownPayload<'_>, place: usize) -> Option<usize>
-    requires within { place ≤ length src.now.bytes.now }
-    requires stands { OneStands multi_items src.now.bytes.now place }
-    ensures { IsBehindFirst src.now.bytes.now place result }
+fn behind_result(payload: &[u8], place: usize) -> Option<usize>
+    requires within { place ≤ length payload.now }
+    requires stands { OneStands multi_items payload.now place }
+    ensures { IsBehindFirst payload.now place result }
 {
-    let (header, _) = read_ref::<_, MultiHeader>(src, place).unwrap();
+    let (header, _) = known_at::<MultiHeader>(payload, place);
     if is_end(&header) {
         return None;
     }
-    let (_, next) = done_in(src, place);
+    let (_, next) = done_in(payload, place);
     Some(next)
 }
 
 /// The results of a multi that are known to be at `place`.
-fn results_there<'a>(src: &KnownPayload<'a>, place: usize) -> DoneList<'a>
-    requires within { place ≤ length src.now.bytes.now }
-    requires stands { OneStands multi_items src.now.bytes.now place }
-    ensures { (ds : List PartDone) (end : ℕ) → HaveBytes (multi_items ds) → StandsAt (multi_items ds) src.now.bytes.now place end → result ≡ ds }
+fn results_there<'a>(payload: &'a [u8], place: usize) -> DoneList<'a>
+    requires within { place ≤ length payload.now }
+    requires stands { OneStands multi_items payload.now place }
+    ensures { (ds : List PartDone) (end : ℕ) → HaveBytes (multi_items ds) → StandsAt (multi_items ds) payload.now place end → result ≡ ds }
 {
     let mut count = 0;
     let mut at = place;
-    while let Some(next) = behind_result(src, at) {
+    while let Some(next) = behind_result(payload, at) {
         at = next;
         count += 1;
     }
-    lying(src.bytes, count, place)
+    lying(payload, count, place)
 }
 
 /// The body that is known to be at `place`, of a reply to `op`.
-fn known_body<'a>(src: &KnownPayload<'a>, place: usize, op: Op) -> BodyRef<'a>
-    requires within { place ≤ length src.now.bytes.now }
-    requires stands { ABodyStands op src.now.bytes.now place }
-    ensures { (b : Body) (end : ℕ) → op_of_body b ≡ op → HaveBytes (body_items b) → StandsAt (body_items b) src.now.bytes.now place end → result ≡ b }
+fn known_body<'a, const JUDGED: bool>(payload: &'a [u8], place: usize, op: Op) -> BodyRef<'a>
+    requires within { place ≤ length payload.now }
+    requires stands { ABodyStands op payload.now place }
+    ensures { (b : Body) (end : ℕ) → op_of_body b ≡ op → HaveBytes (body_items b) → StandsAt (body_items b) payload.now place end → result ≡ b }
 {
-    match op {
-        Op::Multi => BodyOf::Multi(results_there(src, place)),
-        // Nothing comes after the names, so they aren't walked to their end.
-        Op::GetChildren => BodyOf::GetChildren {
-            names: known_list(src.bytes, place),
-        },
-        _ => body_ref(src, place, &Alone { op }).unwrap().0,
+    macro_rules! row {
+        ($op:ident: $($($one:ident)|+: $only:ident $name:ident $kind:ident),+;
+         $($both:ident: $first:ident $first_name:ident $first_kind:ident $borrowed:ident),+; $($bare:ident)|+) => {
+            match $op {
+                $($(Op::$one => BodyOf::$one { $only: known_at::<borrowed!($kind)>(payload, place).0 },)+)+
+                $(Op::$both => {
+                    let ($first, next) = known_at::<borrowed!($first_kind)>(payload, place);
+                    let (stat, _) = known_at::<Stat>(payload, next);
+                    BodyOf::$both { $first, stat }
+                })+
+                $(Op::$bare => BodyOf::$bare,)+
+                Op::Multi => BodyOf::Multi(results_there(payload, place)),
+            }
+        };
     }
+    // Nothing comes after the names, so they aren't walked to their end.
+    if let Op::GetChildren = op {
+        return BodyOf::GetChildren {
+            names: known_list(payload, place),
+        };
+    }
+    body_rows!(row, op)
 }
 
-/// The reply to `op` that `payload` is known to be, borrowed. Nothing is allocated, and nothing is judged again.
-pub fn reply_ref(op: Op, payload: &[u8]) -> ServerRef<'_>
+/// As `reply_ref`.
+// `JUDGED`: whether it was judged just now. With one caller each, both instances are inlined.
+pub(crate) fn known_reply<const JUDGED: bool>(op: Op, payload: &[u8]) -> ServerRef<'_>
     requires { (parts : List codes.PartOp) × (s : ServerFrame) × IsReplyTo op parts s × IsSent s × (payload.now ≡ sent.payload s) }
     ensures { (parts : List codes.PartOp) (s : ServerFrame) → IsReplyTo op parts s → IsSent s → payload.now ≡ sent.payload s → result ≡ s }
 {
-    let src = KnownPayload { bytes: payload };
-    let (header, place) = read_ref::<_, ReplyHeader>(&src, 0).unwrap();
+    let (header, place) = known_at::<ReplyHeader>(payload, 0);
     let outcome = match Failure::new(header.err) {
         Some(failure) => OutcomeOf::Failed(op, failure),
-        None => OutcomeOf::Done(known_body(&src, place, op)),
+        None => OutcomeOf::Done(known_body::<JUDGED>(payload, place, op)),
     };
     ServerFrameOf::Answered(ReplyOf {
         xid: header.xid,
         zxid: header.zxid,
         outcome,
     })
+}
+
+/// The reply to `op` that `payload` is known to be, borrowed. Nothing is allocated, and nothing is judged again.
+#[inline(always)]
+pub fn reply_ref(op: Op, payload: &[u8]) -> ServerRef<'_>
+    requires { (parts : List codes.PartOp) × (s : ServerFrame) × IsReplyTo op parts s × IsSent s × (payload.now ≡ sent.payload s) }
+    ensures { (parts : List codes.PartOp) (s : ServerFrame) → IsReplyTo op parts s → IsSent s → payload.now ≡ sent.payload s → result ≡ s }
+{
+    known_reply::<false>(op, payload)
 }

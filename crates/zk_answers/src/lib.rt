@@ -7,8 +7,8 @@
 //! - `read_connected`, `read_reply` and `read_event` read a payload as an owned `ServerFrame`; `borrow_connected`,
 //!   `borrow_reply` and `borrow_event` decide the same and borrow, without memory; `connected_ref`, `reply_ref` and
 //!   `event_ref` borrow what is already judged.
-//! - `scan_connected`, `scan_reply` and `scan_event` only decide. `quick_reply` and `quick_event` decide by where the body
-//!   ends, and may return false: undecided.
+//! - `scan_connected`, `scan_reply` and `scan_event` only decide. `judge_reply` and `judge_event` judge by where the body
+//!   ends; of a fault they return the verdict that is asked for, the `ItemFault` or `Undecided`, which costs nothing.
 //! - `write_server` writes a frame's payload; `fits` says whether a reply fits a request.
 //!
 //! The records are those of zookeeper.jute, and the results of a multi those of `MultiResponse`. A payload that is
@@ -35,12 +35,12 @@ mod done_list;
 mod fit;
 mod form;
 mod frame;
+mod judge;
 mod known;
 mod laws;
 mod layout;
 mod multi;
 mod own;
-mod quick;
 mod read;
 mod scan;
 mod write;
@@ -55,10 +55,10 @@ pub use frame::{
     Body, BodyOf, BodyRef, Failure, Outcome, OutcomeOf, OutcomeRef, PartDone, PartDoneOf,
     PartDoneRef, Reply, ReplyOf, ReplyRef, ServerFrame, ServerFrameOf, ServerRef,
 };
+pub use judge::{judge_event, judge_reply};
 pub use known::{connected_ref, event_ref, reply_ref};
 pub use laws::{connected_laws, event_laws, form_laws, head_laws, opening_laws, reply_laws};
 pub use layout::Layout;
-pub use quick::{quick_event, quick_reply};
 pub use read::{read_connected, read_event, read_reply, reply_head};
 pub use scan::{scan_connected, scan_event, scan_reply};
 pub use write::write_server;

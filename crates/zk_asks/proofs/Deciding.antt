@@ -102,7 +102,7 @@ part_covers : (op : PartOp) → Covers (part_row op).wired
 part_covers parts.Create = create_ask_covered
 part_covers _ = search records
 
-part_covered : (op : PartOp) (items : List Item) → IsValueOf (part_layout op) items → IsOnePart op items
+pub part_covered : (op : PartOp) (items : List Item) → IsValueOf (part_layout op) items → IsOnePart op items
 part_covered op items v =
     let x = part_covers op items v.0 in
     let m = made_part op x.0 in
@@ -196,7 +196,7 @@ row_decided (multi make) covers bytes fits = elim (parts_decided (suc (length by
   | inr f ↦ inr f
 ]
 
-body_decided : (op : Op) (bytes : List ℕ) → IsBytes bytes → Asks op bytes ⊎ HasFault (IsBodyFault op) bytes
+pub body_decided : (op : Op) (bytes : List ℕ) → IsBytes bytes → Asks op bytes ⊎ HasFault (IsBodyFault op) bytes
 body_decided op bytes fits = elim (row_decided (row_of op) (covered op) bytes fits) [
   | inl s ↦
       let m = made_is op s.content in

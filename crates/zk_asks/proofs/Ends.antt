@@ -1,67 +1,122 @@
 -- Where a record ends that a request is made of, the request's body ends.
-use Rattle.std.proofs.Common.{◌≡◌, ℕ, ◌≤◌, List, [], length, refl, sym, ap, subst, ◌∙◌, arith}
-use Rattle.std.specs.Prelude.{ℤ, Option, IfSome}
-use Rattle.std.proofs.lemmas.Option.{IfSome_then}
+use Rattle.std.proofs.Common.{◌≡◌, ℕ, ◌≤◌, ◌<◌, inl, inr, List, [], length, drop, refl, sym, ap, subst, ◌∙◌, arith}
+use Rattle.std.specs.Prelude.{ℤ, Option, Result, Ok, Err, IfOk, IfErr}
+use Rattle.std.proofs.lemmas.List.{length-map}
+use Rattle.zk_jute.specs.declared.fault.ItemFault.{ItemFault}
+use Rattle.zk_jute.specs.declared.fault.Reason.TheVariants.{Trailing}
 use Rattle.zk_jute.specs.Item.{Item, HaveBytes}
-use Rattle.zk_jute.specs.Layout.{Unfolds}
-use Rattle.zk_jute.specs.Told.{StandsAt}
+use Rattle.zk_jute.specs.Layout.{Layout, End, IsValueOf}
+use Rattle.zk_jute.specs.Reading.{told_place}
+use Rattle.zk_jute.specs.Told.{StandsAt, HasSureFault, IsToldAt, IsSurelyTold, IsSurelyToldAt}
+use Rattle.zk_jute.specs.Verdict.{Says, IsValueAt}
+use Rattle.zk_jute.proofs.Steps.{IsBytes, IsBytes-drop}
+use Rattle.zk_jute.proofs.Layouts.{bytes_only}
+use Rattle.zk_jute.proofs.Sequels.{excluded}
+use Rattle.zk_jute.proofs.Judged.{says_more}
+use Rattle.zk_records.specs.Records.{request_header}
 use Rattle.zk_records.specs.declared.op.Op.{Op}
+use Rattle.zk_records.specs.declared.op.Op.TheVariants as ops
 use Rattle.zk_records.specs.declared.op.PartOp.{PartOp}
 use Rattle.zk_records.specs.declared.profile.Profile.{Profile}
-use Rattle.zk_records.specs.Codes.{op_number}
-use Rattle.zk_asks.specs.Held.{Ask}
-use Rattle.zk_asks.specs.Rows.{row_of, Content, remake, items_in, op_of_ask, body_items}
-use Rattle.zk_asks.specs.Frames.{ops_of_ask}
-use Rattle.zk_asks.specs.Parts.{part_row, part_layout, record_of}
+use Rattle.zk_records.specs.Codes.{op_number, HasOp}
+use Rattle.zk_asks.specs.Forms.{header_items, IsOf, IsBody}
+use Rattle.zk_asks.specs.Faults.{IsFaultOf, IsMultiFault, IsBodyFault, IsAskFault}
+use Rattle.zk_asks.specs.Rows.{Body, Fields, Parts, body_of, op_of_ask, body_items}
+use Rattle.zk_asks.specs.Frames.{ops_of_ask, others_have_none}
+use Rattle.zk_asks.specs.Parts.{op_of_part, part_layout, multi_items}
 use Rattle.zk_asks.specs.Codes.{IsAllowed}
-use Rattle.zk_asks.specs.Fronts.{IsBodyAlone, IsRecordAt, IsHeadAt, IsAsked}
-use Rattle.zk_asks.proofs.Made.{made_is}
-use Rattle.zk_asks.proofs.Parts.{made_part, record_is}
+use Rattle.zk_asks.specs.declared.judge.Outline.{Outline}
+use Rattle.zk_asks.specs.Held.{Part}
+use Rattle.zk_asks.specs.declared.frame.AskOf.TheVariants as ask
+use Rattle.zk_asks.specs.Fronts.{IsRecordAt, IsHeadAt, IsBodyWith, IsOutlined, outline_of}
+use Rattle.zk_asks.proofs.Asks.{body_is, refused_body, refused_rest}
+use Rattle.zk_asks.proofs.Deciding.{body_decided, part_covered}
 use Rattle.zk_asks.proofs.Lying.{ask_sent}
 
-module _ (src : List ℕ) (place : ℕ) (op : Op) where
-  -- of what an operation's request is made of
-  pub row_ends : (end : Option ℕ) (o : Op) → op ≡ o → ((x : Content (row_of o)) → ops_of_ask (remake (row_of o) x) ≡ [])
-      → IfSome end (λ n. (x : Content (row_of o)) × HaveBytes (items_in (row_of o) x) × StandsAt (items_in (row_of o) x) src place n) → IfSome end (λ n. IsBodyAlone op src place n)
-  row_ends end o e none h =
-      IfSome_then end h (λ n s.
-      let m = made_is o s.0 in (
-        remake (row_of o) s.0,
-        m.0 ∙ sym e,
-        none s.0,
-        subst HaveBytes (sym m.1) s.1,
-        subst (λ (i : List Item). StandsAt i src place n) (sym m.1) s.2,
-      ))
+-- a body that is a record, or nothing, is no multi
+no_multi : (op : Op) (l : Layout) → body_of op ≡ Fields l → op ≡ ops.Multi → ⊥
+no_multi op l is e = let both : Fields l ≡ Parts = sym is ∙ ap body_of e in absurd cc
 
-  -- of nothing
-  pub nothing_ends : (o : Op) → op ≡ o → (x : Content (row_of o)) → ops_of_ask (remake (row_of o) x) ≡ [] → items_in (row_of o) x ≡ [] → IsBodyAlone op src place place
-  nothing_ends o e x none is =
-      let m = made_is o x in
-      let nothing = sym (m.1 ∙ is) in (
-        remake (row_of o) x,
-        m.0 ∙ sym e,
-        none,
-        subst HaveBytes nothing tt,
-        subst (λ (i : List Item). StandsAt i src place place) nothing (refl, omega arith),
-      )
+module _ (src : List ℕ) (place : ℕ) (op : Op) (l : Layout) (is : body_of op ≡ Fields l) where
+  -- what its layout has there is a body
+  pub body_there : IsBytes src → (end : ℕ) → IsValueAt (IsValueOf l) src place end → IsBodyWith op 0 src place end
+  body_there fits end v =
+      elim (body_decided op (drop place src) (IsBytes-drop place src fits)) [
+        | inl a ↦
+            let mine : IsBody op (body_items a.ask) = subst (λ (o : Op). IsBody o (body_items a.ask)) a.is (body_is a.ask a.have) in
+            let value : IsValueOf l (body_items a.ask) = subst (λ (b : Body). IsOf b (body_items a.ask)) is mine in
+            let same = bytes_only l (body_items a.ask) v.0 a.rest (drop end src) value v.1 (sym a.splits ∙ v.2.0) in (
+              a.ask,
+              a.is,
+              ap length (others_have_none a.ask (λ e. no_multi op l is (sym a.is ∙ e))),
+              a.have,
+              subst (λ (i : List Item). StandsAt i src place end) (sym same.0) v.2,
+            )
+        | inr f ↦ absurd (excluded l v.0 (drop place src) (drop end src) f.0 f.1 v.1 v.2.0 (subst (λ (b : Body). IsFaultOf b (drop place src) f.0 f.1) is f.2))
+      ]
 
--- and that of a part
-pub part_ends : (src : List ℕ) (place : ℕ) (end : Option ℕ) {a b : PartOp} → a ≡ b → IfSome end (λ n. (x : (part_row b).Content) × HaveBytes ((part_row b).wired.items x) × StandsAt ((part_row b).wired.items x) src place n) → IfSome end (λ n. IsRecordAt a src place n)
-part_ends src place end {a} {b} e h =
-    IfSome_then end h (λ n s.
-    let p = (part_row b).make s.0 in
-    let m = made_part b s.0 in
-    let is = m.0 ∙ sym e in (
-      p,
-      is,
-      (subst (λ (o : PartOp). Unfolds (part_layout o) (record_of p)) is (record_is p), subst HaveBytes (sym m.1) s.1),
-      subst (λ (i : List Item). StandsAt i src place n) (sym m.1) s.2,
-    ))
+  -- and its layout's fault is the body's
+  sure : (e : ItemFault) → HasSureFault (IsValueOf l) src place e → IsSurelyToldAt (IsBodyFault op) src place e
+  unfolding IsToldAt
+  sure e f = (inr (f.0.0, subst (λ (b : Body). IsFaultOf b (drop place src) f.0.0 e.reason) (sym is) f.0.1, f.0.2), f.1)
 
--- a header, a body of its operation, and nothing else
-pub asked_there : (profile : Profile) (xid : ℤ) (op : Op) (src : List ℕ) (place end : ℕ) → IsHeadAt profile xid op src place → (a : Ask) → op_of_ask a ≡ op → HaveBytes (body_items a) → StandsAt (body_items a) src place end → length src ≤ end
-    → IsAsked profile xid op (ops_of_ask a) src
-asked_there profile xid op src place end h a is have t all =
-    let may = subst (λ (o : Op). IsAllowed xid o) (sym is) h.1 in
-    let sent = ask_sent src xid (op_number op) place end a h.2 h.3 (ap op_number (sym is)) may have t all in
-    (h.0, (a, is, refl, sent.0, sent.1))
+  pub body_refused : {V : Type 0} (tells : V → Option ItemFault) (v : V) → Says tells (HasSureFault (IsValueOf l) src place) v → Says tells (IsSurelyToldAt (IsBodyFault op) src place) v
+  body_refused tells v h = says_more tells _ _ sure v h
+
+-- a multi's parts are the body
+pub multi_there : {V : Type 0} (src : List ℕ) (place : ℕ) (op : Op) → op ≡ ops.Multi → (result : Result (ℕ × ℕ) V)
+    → IfOk result (λ x. (ds : List Part) × (length ds ≡ x.0) × HaveBytes (multi_items ds) × StandsAt (multi_items ds) src place x.1) → IfOk result (λ x. IsBodyWith op x.0 src place x.1)
+multi_there src place op is (Ok x) f = (ask.Multi f.0, sym is, length-map f.0 op_of_part ∙ f.1, f.2, f.3)
+multi_there src place op is (Err v) f = tt
+
+-- and their fault is the body's
+pub multi_refused : {V X : Type 0} (tells : V → Option ItemFault) (src : List ℕ) (place : ℕ) (op : Op) → op ≡ ops.Multi → (result : Result X V) → IfErr result (Says tells (IsSurelyToldAt IsMultiFault src place))
+    → IfErr result (Says tells (IsSurelyToldAt (IsBodyFault op) src place))
+multi_refused tells src place op is result h = subst (λ (o : Op). IfErr result (Says tells (IsSurelyToldAt (IsBodyFault o) src place))) (sym is) h
+
+-- nothing ends where it begins
+pub nothing_there : (src : List ℕ) (place : ℕ) → IsValueAt (IsValueOf End) src place place
+nothing_there src place = ([], (refl, tt), (refl, omega arith))
+
+-- what a part's layout has is a record of the part
+pub part_there : (src : List ℕ) (place : ℕ) (op : PartOp) (end : ℕ) → IsValueAt (IsValueOf (part_layout op)) src place end → IsRecordAt op src place end
+part_there src place op end v =
+    let p = part_covered op v.0 v.1 in
+    (p.part, p.is, subst (IsValueOf (part_layout op)) (sym p.same) v.1, subst (λ (i : List Item). StandsAt i src place end) (sym p.same) v.2)
+
+pub part_ends : {V : Type 0} (src : List ℕ) (place : ℕ) (a op : PartOp) → op ≡ a → (result : Result ℕ V) → IfOk result (IsValueAt (IsValueOf (part_layout a)) src place) → IfOk result (IsRecordAt op src place)
+part_ends src place a op is (Ok end) v = subst (λ (o : PartOp). IsRecordAt o src place end) (sym is) (part_there src place a end v)
+part_ends src place a op is (Err e) v = tt
+
+-- ---- a header, and a body of its operation
+
+module _ (profile : Profile) (xid : ℤ) (op : Op) (src : List ℕ) (place : ℕ) (h : IsHeadAt profile xid op src place) where
+  front : IsValueOf request_header.layout (header_items xid (op_number op))
+  front = (request_header.unfolds (record { xid = xid; kind = op_number op }), h.2)
+
+  -- the body is at fault
+  pub fault_behind : (e : ItemFault) → IsSurelyToldAt (IsBodyFault op) src place e → IsSurelyTold (IsAskFault profile src) e
+  fault_behind e f = (refused_body profile src xid (op_number op) place front h.3 op e h.0 refl h.1 f.0, f.1)
+
+  module _ (parts end : ℕ) (b : IsBodyWith op parts src place end) where
+    has : HasOp profile (op_of_ask b.0)
+    has = subst (HasOp profile) (sym b.1) h.0
+
+    may : IsAllowed xid (op_of_ask b.0)
+    may = subst (IsAllowed xid) (sym b.1) h.1
+
+    -- something follows
+    pub rest_behind : end < length src → IsSurelyTold (IsAskFault profile src) (record { place = told_place end; reason = Trailing })
+    rest_behind left = (refused_rest profile src xid (op_number op) place front h.3 b.0 end has (ap op_number (sym b.1)) may b.3 b.4 left, λ e. cc)
+
+    abbrev told : Outline
+    told = record { xid = xid; op = op; parts = parts }
+
+    outlined : outline_of xid b.0 ≡ told
+    outlined =
+        ap (λ (o : Op). record { xid = xid; op = o; parts = length (ops_of_ask b.0) }) b.1
+        ∙ ap (λ (n : ℕ). record { xid = xid; op = op; parts = n }) b.2
+
+    -- nothing follows
+    pub all_there : length src ≤ end → IsOutlined profile told src
+    all_there all = let sent = ask_sent src xid (op_number op) place end b.0 h.2 h.3 (ap op_number (sym b.1)) may b.3 b.4 all in (b.0, has, outlined, sent.0, sent.1)

@@ -1,15 +1,13 @@
 -- A payload that is known to be a request: its header stands in front, and its body behind that.
-use Rattle.std.proofs.Common.{◌≡◌, ℕ, ◌+◌, ◌≤◌, inl, inr, List, [], ◌++◌, length, drop, Option, Some, Result, Ok, Err, refl, sym, ap, subst, ◌∙◌}
-use Rattle.std.specs.Prelude.{ℤ, IsOk, IfOk, IfErr, MatchOption}
-use Rattle.std.proofs.lemmas.List.{append-nil}
-use Rattle.zk_jute.specs.declared.fault.ItemFault.{ItemFault}
+use Rattle.std.proofs.Common.{◌≡◌, ℕ, ◌+◌, ◌≤◌, List, ◌++◌, length, drop, Option, Some, Result, Ok, sym, ap, subst, ◌∙◌, arith}
+use Rattle.std.proofs.lemmas.List.{length-append, length-drop}
+use Rattle.std.specs.Prelude.{ℤ, IfOk, MatchOption}
 use Rattle.zk_jute.specs.Item.{bytes_of, Item, HaveBytes}
 use Rattle.zk_jute.specs.Layout.{IsValueOf}
-use Rattle.zk_jute.specs.Told.{StandsAt, HasSureFault, IsToldAt, IsSurelyToldAt}
+use Rattle.zk_jute.specs.Told.{StandsAt}
 use Rattle.zk_jute.specs.Wired.{Wired}
 use Rattle.zk_jute.specs.Standing.{OneStands}
 use Rattle.zk_jute.proofs.Layouts.{bytes_only, bytes_both, have_parts}
-use Rattle.zk_jute.proofs.Sequels.{excluded}
 use Rattle.zk_jute.proofs.Known.{stands_first, stands_last}
 use Rattle.zk_records.specs.Records.{request_header}
 use Rattle.zk_records.specs.declared.op.Op.{Op}
@@ -18,20 +16,25 @@ use Rattle.zk_records.specs.Codes.{op_number}
 use Rattle.zk_records.proofs.Numbers.{op_number_apart}
 use Rattle.zk_asks.specs.Held.{Ask, ClientFrame}
 use Rattle.zk_asks.specs.declared.frame.ClientFrameOf.TheVariants as frame
-use Rattle.zk_asks.specs.Faults.{IsBodyFault}
-use Rattle.zk_asks.specs.Forms.{header_items, IsBody}
+use Rattle.zk_asks.specs.Forms.{header_items}
 use Rattle.zk_asks.specs.Rows.{row_of, items_in, op_of_ask, body_items}
 use Rattle.zk_asks.specs.Frames.{IsSent, IsLater, payload}
 use Rattle.zk_asks.proofs.Made.{IsMade, is_made}
-use Rattle.zk_asks.proofs.Asks.{body_is}
-use Rattle.zk_asks.proofs.Later.{header_is, header_same, body_only, body_excludes, body_apart}
+use Rattle.zk_asks.proofs.Later.{header_is, header_same}
 
--- what stands somewhere is read there
-pub surely_read : {X : Type 0} (w : Wired X) (src : List ℕ) (place : ℕ) (answer : Result (X × ℕ) ItemFault) → IfErr answer (HasSureFault (IsValueOf w.layout) src place) → OneStands w.items src place → IsOk answer
-surely_read w src place (Ok x) f o = refl
-surely_read w src place (Err e) f o = absurd (excluded w.layout (w.items o.0) (drop place src) (drop o.1 src) f.0.0 e.reason (w.unfolds o.0, o.2) o.3.0 f.0.1)
+-- the value at the place, whichever it is, and the place after it
+abbrev pub IsThe : {X : Type 0} → (X → List Item) → List ℕ → ℕ → X × ℕ → Type 0
+IsThe {X} items src place x = (v : X) (end : ℕ) → HaveBytes (items v) → StandsAt (items v) src place end → x ≡ (v, end)
 
-made_stands : (op : Op) (a : Ask) (src : List ℕ) (place end : ℕ) → IsMade op a → HaveBytes (body_items a) → StandsAt (body_items a) src place end → OneStands (items_in (row_of op)) src place
+-- it is one that stands there
+pub found_there : {X : Type 0} (w : Wired X) (src : List ℕ) (place : ℕ) (x : X × ℕ) → IsThe w.items src place x → OneStands w.items src place → IsValueOf w.layout (w.items x.0) × StandsAt (w.items x.0) src place x.1
+found_there {X} w src place x is o =
+    subst (λ (z : X × ℕ). IsValueOf w.layout (w.items z.0) × StandsAt (w.items z.0) src place z.1) (sym (is o.0 o.1 o.2 o.3)) ((w.unfolds o.0, o.2), o.3)
+
+pub ends_within : (items : List Item) (src : List ℕ) (place end : ℕ) → place ≤ length src → StandsAt items src place end → end ≤ length src
+ends_within items src place end le s = omega (arith, s.1, le, ap length s.0, length-append (bytes_of items) (drop end src), length-drop place src)
+
+pub made_stands : (op : Op) (a : Ask) (src : List ℕ) (place end : ℕ) → IsMade op a → HaveBytes (body_items a) → StandsAt (body_items a) src place end → OneStands (items_in (row_of op)) src place
 unfolding IsMade
 made_stands op a src place end m have stands = (m.0, end, subst HaveBytes (sym m.2) have, subst (λ (i : List Item). StandsAt i src place end) (sym m.2) stands)
 
@@ -59,20 +62,8 @@ module _ (xid : ℤ) (a : Ask) (src : List ℕ) (sent : IsSent (frame.Ask xid a)
     pub body_stands : place ≤ length src → OneStands (items_in (row_of (op_of_ask a))) src place
     body_stands le = made_stands (op_of_ask a) a src place (place + length (bytes_of (body_items a))) (is_made a) have.1 (stands_last (body_items a) src place le rest)
 
-    pub body_read : (answer : Result (Ask × ℕ) ItemFault) → IfErr answer (IsSurelyToldAt (IsBodyFault (op_of_ask a)) src place) → IsOk answer
-    unfolding IsToldAt
-    body_read (Ok x) f = refl
-    body_read (Err e) f =
-        elim f.0 [
-          | inl m ↦ absurd (f.1 (ap (λ (y : ItemFault). y.reason) m))
-          | inr k ↦ absurd (body_excludes (op_of_ask a) (body_items a) (drop place src) [] k.0 e.reason (body_is a have.1) (rest ∙ sym (append-nil (bytes_of (body_items a)))) k.1)
-        ]
-
-    pub body_is_it : (b : Ask) (end : ℕ) → op_of_ask b ≡ op_of_ask a → HaveBytes (body_items b) → StandsAt (body_items b) src place end → b ≡ a
-    body_is_it b end op has stands =
-        let v : IsBody (op_of_ask a) (body_items b) = subst (λ (o : Op). IsBody o (body_items b)) op (body_is b has) in
-        let same = body_only (op_of_ask a) (body_items a) (body_items b) [] (drop end src) (body_is a have.1) v (append-nil (bytes_of (body_items a)) ∙ sym rest ∙ stands.0) in
-        sym (body_apart a b op same.0)
+    pub body_is_it : place ≤ length src → (b : Ask) → ((end : ℕ) → HaveBytes (body_items a) → StandsAt (body_items a) src place end → b ≡ a) → b ≡ a
+    body_is_it le b only = only (place + length (bytes_of (body_items a))) have.1 (stands_last (body_items a) src place le rest)
 
 -- ---- the same, of whatever frame the payload is known to be
 
@@ -96,19 +87,12 @@ module _ (src : List ℕ) (h : RequestHeader) (place : ℕ) (v : IsValueOf reque
         subst (λ (o : Op). OneStands (items_in (row_of o)) src place) same (body_stands xid a src k.1 k.2 place b.2 le)
     ask_body (frame.Connect hello flag) k le = absurd k.0
 
-    pub ask_read : (f : ClientFrame) → AnAsk src f → (answer : Result (Ask × ℕ) ItemFault) → IfErr answer (IsSurelyToldAt (IsBodyFault op) src place) → IsOk answer
-    ask_read (frame.Ask xid a) k answer fault =
-        let b = behind_header xid a src k.1 k.2 h place v s in
-        let same : op ≡ op_of_ask a = op_number_apart op (op_of_ask a) (sym is ∙ b.1) in
-        body_read xid a src k.1 k.2 place b.2 answer (subst (λ (o : Op). IfErr answer (IsSurelyToldAt (IsBodyFault o) src place)) same fault)
-    ask_read (frame.Connect hello flag) k answer fault = absurd k.0
-
-    pub ask_is : (f : ClientFrame) → AnAsk src f → (b : Ask) (end : ℕ) → op_of_ask b ≡ op → HaveBytes (body_items b) → StandsAt (body_items b) src place end → frame.Ask h.xid b ≡ f
-    ask_is (frame.Ask xid a) k b end of has stands =
+    pub ask_is : place ≤ length src → (f : ClientFrame) → AnAsk src f → (b : Ask) → ((a : Ask) (end : ℕ) → op_of_ask a ≡ op → HaveBytes (body_items a) → StandsAt (body_items a) src place end → b ≡ a) → frame.Ask h.xid b ≡ f
+    ask_is le (frame.Ask xid a) k b only =
         let d = behind_header xid a src k.1 k.2 h place v s in
-        let same : op ≡ op_of_ask a = op_number_apart op (op_of_ask a) (sym is ∙ d.1) in
-        ap (λ (z : ℤ). frame.Ask z b) d.0 ∙ ap (frame.Ask xid) (body_is_it xid a src k.1 k.2 place d.2 b end (of ∙ same) has stands)
-    ask_is (frame.Connect hello flag) k b end of has stands = absurd k.0
+        let same : op_of_ask a ≡ op = op_number_apart (op_of_ask a) op (sym d.1 ∙ is) in
+        ap (λ (z : ℤ). frame.Ask z b) d.0 ∙ ap (frame.Ask xid) (body_is_it xid a src k.1 k.2 place d.2 le b (λ end. only a end same))
+    ask_is le (frame.Connect hello flag) k b only = absurd k.0
 
 -- what holds of any value that is answered holds of this one
 pub of_answer : {X E : Type 0} (P : X → Type 0) (answer : Result X E) (x : X) → answer ≡ Ok x → IfOk answer P → P x

@@ -9,6 +9,7 @@ pub mod Asks
 pub mod Later
 pub mod Left
 pub mod Knowing
+pub mod Judged
 pub mod Openings
 pub mod Opened
 pub mod Flags

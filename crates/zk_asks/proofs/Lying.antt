@@ -1,22 +1,24 @@
 -- Parts that lie in a payload: what stands there is their value, and where they are passed.
-use Rattle.std.proofs.Common.{◌≡◌, ℕ, ◌+◌, ◌≤◌, ◌<◌, inr, List, [], ◌∷◌, ◌++◌, length, drop, Some, Ok, Err, refl, sym, ap, subst, ◌∙◌, arith}
-use Rattle.std.specs.Prelude.{ℤ, negsuc, Bool, false, Result, IfOk, IfErr, Option, None, map, slice_get, get_or, ◌≢◌}
+use Rattle.std.proofs.Common.{◌≡◌, ℕ, ◌+◌, ◌≤◌, ◌<◌, inr, List, [], ◌∷◌, ◌++◌, length, drop, Some, Ok, refl, sym, ap, subst, ◌∙◌, arith}
+use Rattle.std.specs.Prelude.{ℤ, negsuc, false, Option, None, MatchOption, map, slice_get, get_or, ◌≢◌}
+use Rattle.std.specs.Int.{w32}
+use Rattle.std.proofs.Common.{to_z, of_z}
+use Rattle.std.proofs.lemmas.Int.{to_z-of_z}
 use Rattle.std.specs.List.{flat_map}
 use Rattle.std.proofs.lemmas.List.{append-nil, length-drop, length-map, drop-drop, get_or-drop}
 use Rattle.std.proofs.lemmas.Option.{slice_get_past, slice_get-map, slice_get-get_or}
 use Rattle.std.specs.Option.{option_map}
 use Rattle.zk_jute.specs.declared.fault.ItemFault.{ItemFault}
-use Rattle.zk_jute.specs.declared.fault.Reason.TheVariants.{NoMemory}
 use Rattle.zk_jute.specs.Item.{Item, AnInt, ABoolean, bytes_of, HaveBytes}
-use Rattle.zk_jute.specs.Layout.{Layout, IsValueOf, Unfolds}
+use Rattle.zk_jute.specs.Layout.{Layout, IsValueOf}
 use Rattle.zk_jute.specs.Reading.{Read, ◌>>=◌, read_map, int_at, items_at}
 use Rattle.zk_jute.specs.Faults.{IsFault}
 use Rattle.zk_jute.specs.Told.{StandsAt, HasToldFault, IsToldAt}
 use Rattle.zk_jute.specs.Wired.{int, ustring, buffer, vector, ◌and◌}
-use Rattle.zk_jute.specs.Standing.{Known, OneStands}
+use Rattle.zk_jute.specs.Standing.{OneStands}
 use Rattle.zk_jute.specs.Shown.{text_value, blob_value, list_value, both_at, text_is_value, Stretch, Begins}
-use Rattle.zk_jute.proofs.Layouts.{items_again, bytes_only, have_both, have_parts}
-use Rattle.zk_jute.proofs.Sequels.{excluded, stands_then, none_left}
+use Rattle.zk_jute.proofs.Layouts.{items_again, have_both, have_parts}
+use Rattle.zk_jute.proofs.Sequels.{stands_then, none_left}
 use Rattle.zk_jute.proofs.Stretches.{stands_split, values_told, values_counted, one_passed}
 use Rattle.zk_jute.proofs.Valued.{IsValued, int_valued, blob_valued, both_valued, list_valued, value_read, recast}
 use Rattle.zk_records.specs.Records.{multi_header, acl, create_ask, delete_ask, set_data_ask, check_ask}
@@ -36,8 +38,8 @@ use Rattle.zk_asks.specs.declared.frame.PartOf.TheVariants as part
 use Rattle.zk_asks.specs.Parts.{part_row, part_layout, part_header, end_header, marked, op_of_part, record_of, part_items, multi_items}
 use Rattle.zk_records.specs.Made as made
 use Rattle.zk_asks.specs.Shown.{create_value, delete_value, set_data_value, check_value, part_numbered, record_value, part_value, parts_at}
-use Rattle.zk_asks.proofs.Parts.{part_made, record_is}
-use Rattle.zk_asks.proofs.Parted.{record_same, op_same, mark_same}
+use Rattle.zk_asks.proofs.Knowing.{IsThe}
+use Rattle.zk_asks.proofs.Parts.{IsMade, part_made, record_is}
 
 -- ---- the records
 
@@ -70,25 +72,24 @@ module _ (src : List ℕ) where
   record_there (part.SetData a) place end e = ap (read_map part.SetData) (value_read set_data_ask (set_data_value src place) (items_at set_data_ask.layout src place) a end (set_data_valued place) e)
   record_there (part.Check a) place end e = ap (read_map part.Check) (value_read check_ask (check_value src place) (items_at check_ask.layout src place) a end (check_valued place) e)
 
--- ---- a record that stands is read
+-- ---- a record that is known to be there
 
-module _ (src : List ℕ) (place : ℕ) (op : PartOp) (p : Part) (end : ℕ) (is : op_of_part p ≡ op) (have : HaveBytes (record_of p)) (stands : StandsAt (record_of p) src place end) where
-  value : IsValueOf (part_layout op) (record_of p)
-  value = (subst (λ (o : PartOp). Unfolds (part_layout o) (record_of p)) is (record_is p), have)
+-- which operation's part this kind is the number of, if it is one's
+abbrev pub IsOpOf : ℤ → Option PartOp → Type 0
+IsOpOf kind o = MatchOption o ((op : PartOp) → to_z w32 (of_z w32 kind) ≢ part_number op) (λ op. to_z w32 (of_z w32 kind) ≡ part_number op)
 
-  pub record_only : (answer : Result (Part × ℕ) ItemFault) → IfOk answer (λ x. (op_of_part x.0 ≡ op) × IsValueOf (part_layout op) (record_of x.0) × StandsAt (record_of x.0) src place x.1)
-      → IfErr answer (λ e. HasToldFault (IsValueOf (part_layout op)) src place e × (e.reason ≢ NoMemory)) → answer ≡ Ok (p, end)
-  record_only (Ok x) found fault =
-      let same = bytes_only (part_layout op) (record_of x.0) (record_of p) (drop x.1 src) (drop end src) found.1 value (sym found.2.0 ∙ stands.0) in
-      let parts : x.0 ≡ p = record_same x.0 p (found.0 ∙ sym is) same.0 in
-      let ends : x.1 ≡ end = omega (arith, found.2.1, stands.1, ap (λ (i : List Item). length (bytes_of i)) same.0) in
-      ap (λ (q : Part). Ok (q, x.1)) parts ∙ ap (λ (n : ℕ). Ok (p, n)) ends
-  record_only (Err e) found fault = absurd (excluded (part_layout op) (record_of p) (drop place src) (drop end src) fault.0.0 e.reason value stands.0 fault.0.1)
+module _ (src : List ℕ) (place : ℕ) where
+  pub record_known : {a b : PartOp} → a ≡ b → OneStands (part_row a).wired.items src place → OneStands (part_row b).wired.items src place
+  record_known e h = subst (λ (op : PartOp). OneStands (part_row op).wired.items src place) e h
+
+  pub record_made : (op : PartOp) (x : (part_row op).Content × ℕ) → IsThe (part_row op).wired.items src place x
+      → (p : Part) (end : ℕ) → op_of_part p ≡ op → HaveBytes (record_of p) → StandsAt (record_of p) src place end → ◌≡◌ {A = Part × ℕ} ((part_row op).make x.0, x.1) (p, end)
+  record_made op x is p end of have stands =
+      let m : IsMade op p = subst (λ (o : PartOp). IsMade o p) of (part_made p) in
+      let same = is m.0 end (subst HaveBytes (sym m.2) have) (subst (λ (i : List Item). StandsAt i src place end) (sym m.2) stands) in
+      ap (λ (z : (part_row op).Content × ℕ). ((part_row op).make z.0, z.1)) same ∙ ap (λ (q : Part). (q, end)) m.1
 
 -- ---- a part
-
-pub part_known : (k : Bool) (src : List ℕ) (place : ℕ) {a b : PartOp} → a ≡ b → Known k (OneStands (part_row a).wired.items src place) → Known k (OneStands (part_row b).wired.items src place)
-part_known k src place e h = subst (λ (op : PartOp). Known k (OneStands (part_row op).wired.items src place)) e h
 
 pub nine : (op : PartOp) → length (bytes_of (marked (part_header op))) ≡ 9
 nine parts.Create = refl
@@ -121,44 +122,37 @@ module _ (p : Part) (src : List ℕ) (place end : ℕ) (le : place ≤ length sr
       let s = stands_split (marked (part_header op)) (record_of p) src place end le stands in
       subst (λ (n : ℕ). StandsAt (record_of p) src (place + n) end) (nine op) s.1
 
-  head_value : IsValueOf multi_header.layout (marked (part_header op))
-  head_value = (multi_header.unfolds (part_header op), (have_parts (marked (part_header op)) (record_of p) have).0)
-
-  -- a header that was read here is that of the part
-  pub header_read : (header : MultiHeader) (after : ℕ) → IsValueOf multi_header.layout (marked header) → StandsAt (marked header) src place after → (header ≡ part_header op) × (after ≡ place + 9)
-  header_read header after v s =
-      let t = header_there in
-      let same = bytes_only multi_header.layout (marked header) (marked (part_header op)) (drop after src) (drop (place + 9) src) v head_value (sym s.0 ∙ t.0) in
-      (mark_same header (part_header op) same.0, omega (arith, s.1, t.1, ap (λ (i : List Item). length (bytes_of i)) same.0))
-
-  -- whose number fixes the part's operation
-  pub numbered_as : (header : MultiHeader) (after : ℕ) → IsValueOf multi_header.layout (marked header) → StandsAt (marked header) src place after → (other : PartOp) → header.kind ≡ part_number other → header ≡ part_header other
-  numbered_as header after v s other is =
-      let h = header_read header after v s in
-      h.0 ∙ ap part_header (part_number_apart op other (sym (ap (λ (x : MultiHeader). x.kind) h.0) ∙ is))
+  record_has : HaveBytes (record_of p)
+  record_has = (have_parts (marked (part_header op)) (record_of p) have).1
 
   pub mark_stands : OneStands multi_header.items src place
   mark_stands = (part_header op, place + 9, (have_parts (marked (part_header op)) (record_of p) have).0, header_there)
 
-  pub record_stands : (header : MultiHeader) (after : ℕ) (other : PartOp) → IsValueOf multi_header.layout (marked header) → StandsAt (marked header) src place after → header ≡ part_header other
-      → OneStands (part_row other).wired.items src after
-  record_stands header after other v s is =
-      let h = header_read header after v s in
-      let same : op ≡ other = op_same op other (sym h.0 ∙ is) in
-      let there : StandsAt (record_of p) src after end = subst (λ (n : ℕ). StandsAt (record_of p) src n end) (sym h.1) behind_header in
-      let m = part_made p in
-      let have_record = subst HaveBytes (sym m.2) (have_parts (marked (part_header op)) (record_of p) have).1 in
-      subst (λ (o : PartOp). OneStands (part_row o).wired.items src after) same (m.0, end, have_record, subst (λ (i : List Item). StandsAt i src after end) (sym m.2) there)
+  -- behind the header that is known to be there
+  module _ (x : MultiHeader × ℕ) (is : IsThe marked src place x) where
+    header_is : x ≡ (part_header op, place + 9)
+    header_is = is (part_header op) (place + 9) (have_parts (marked (part_header op)) (record_of p) have).0 header_there
 
-  -- the record behind it is the part's
-  pub part_only : (header : MultiHeader) (after : ℕ) (other : PartOp) → IsValueOf multi_header.layout (marked header) → StandsAt (marked header) src place after → header ≡ part_header other
-      → (answer : Result (Part × ℕ) ItemFault) → IfOk answer (λ x. (op_of_part x.0 ≡ other) × IsValueOf (part_layout other) (record_of x.0) × StandsAt (record_of x.0) src after x.1)
-      → IfErr answer (λ e. HasToldFault (IsValueOf (part_layout other)) src after e × (e.reason ≢ NoMemory)) → answer ≡ Ok (p, end)
-  part_only header after other v s is answer found fault =
-      let h = header_read header after v s in
-      let same : other ≡ op = op_same other op (sym is ∙ h.0) in
-      let there : StandsAt (record_of p) src after end = subst (λ (n : ℕ). StandsAt (record_of p) src n end) (sym h.1) behind_header in
-      record_only src after other p end (sym same) (have_parts (marked (part_header op)) (record_of p) have).1 there answer found fault
+    number_is : to_z w32 (of_z w32 x.0.kind) ≡ part_number op
+    number_is = ap (λ (z : MultiHeader × ℕ). to_z w32 (of_z w32 z.0.kind)) header_is ∙ to_z-of_z w32 (part_number op) have.0
+
+    pub op_there : (o : Option PartOp) → IsOpOf x.0.kind o → o ≡ Some op
+    op_there None told = absurd (told op number_is)
+    op_there (Some q) told = ap Some (part_number_apart q op (sym told ∙ number_is))
+
+    pub record_behind : (x.1 ≤ length src) × OneStands (part_row op).wired.items src x.1
+    record_behind =
+        let s = stands_split (marked (part_header op)) (record_of p) src place end le stands in
+        let after : x.1 ≡ place + 9 = ap (λ (z : MultiHeader × ℕ). z.1) header_is in
+        let m = part_made p in
+        let there : StandsAt (record_of p) src x.1 end = subst (λ (n : ℕ). StandsAt (record_of p) src n end) (sym after) behind_header in
+        (omega (arith, s.2, nine op, after), (m.0, end, subst HaveBytes (sym m.2) record_has, subst (λ (i : List Item). StandsAt i src x.1 end) (sym m.2) there))
+
+    pub part_is : (o : PartOp) → op ≡ o → (y : Part × ℕ)
+        → ((q : Part) (after : ℕ) → op_of_part q ≡ o → HaveBytes (record_of q) → StandsAt (record_of q) src x.1 after → y ≡ (q, after)) → y ≡ (p, end)
+    part_is o same y only =
+        let after : x.1 ≡ place + 9 = ap (λ (z : MultiHeader × ℕ). z.1) header_is in
+        only p end same record_has (subst (λ (n : ℕ). StandsAt (record_of p) src n end) (sym after) behind_header)
 
   part_there : part_value src place ≡ Ok (p, end)
   part_there =
@@ -178,14 +172,6 @@ part_read src p place end le have stands = part_there p src place end le have st
 pub parts_counted : (src : List ℕ) (count place : ℕ) → Begins part_items src count place → length (parts_at src count place) ≡ count
 parts_counted src = values_counted part_items src (part_value src) (part_read src)
 
--- what reads a part's operation alone
-abbrev answered : {X : Type 0} → X → Result X ItemFault → X
-answered x (Ok y) = y
-answered x (Err e) = x
-
-pub pair_told : (x y : Part × ℕ) → ◌≡◌ {A = Result (Part × ℕ) ItemFault} (Ok x) (Ok y) → x ≡ y
-pair_told x y = ap (answered y)
-
 -- ---- parts that were passed
 
 module _ (src : List ℕ) (place at count : ℕ) (so_far : Stretch part_items src place at count) (header : MultiHeader) (after : ℕ) (v : IsValueOf multi_header.layout (marked header)) (s : StandsAt (marked header) src at after) where
@@ -197,14 +183,21 @@ module _ (src : List ℕ) (place at count : ℕ) (so_far : Stretch part_items sr
       let stands : StandsAt (part_items p) src at end = stands_then (marked mark) (record_of p) src at after end (subst (λ (h : MultiHeader). StandsAt (marked h) src at after) head s) t in
       one_passed part_items src place at end count so_far p have stands
 
-  -- what is told of the list, once its end is passed
-  pub all_passed : place ≤ length src → header ≡ end_header → HaveBytes (multi_items (parts_at src count place)) × StandsAt (multi_items (parts_at src count place)) src place after
-  all_passed le is =
+  -- what is found, once the end is passed
+  pub all_found : header ≡ end_header → (ds : List Part) × (length ds ≡ count) × HaveBytes (multi_items ds) × StandsAt (multi_items ds) src place after
+  all_found is =
       let ps = so_far.values in
       let have = have_both (flat_map part_items ps) (marked end_header) so_far.have (subst (λ (h : MultiHeader). HaveBytes (marked h)) is v.1) in
       let stands = stands_then (flat_map part_items ps) (marked end_header) src place at after so_far.stands (subst (λ (h : MultiHeader). StandsAt (marked h) src at after) is s) in
+      (ps, sym so_far.count_is, have, stands)
+
+  -- what is told of the list then
+  pub all_passed : place ≤ length src → header ≡ end_header → HaveBytes (multi_items (parts_at src count place)) × StandsAt (multi_items (parts_at src count place)) src place after
+  unfolding all_found
+  all_passed le is =
+      let f = all_found is in
       let told = values_told part_items src (part_value src) (part_read src) place at count le so_far in
-      (subst (λ (qs : List Part). HaveBytes (multi_items qs)) (sym told) have, subst (λ (qs : List Part). StandsAt (multi_items qs) src place after) (sym told) stands)
+      (subst (λ (qs : List Part). HaveBytes (multi_items qs)) (sym told) f.2, subst (λ (qs : List Part). StandsAt (multi_items qs) src place after) (sym told) f.3)
 
 -- ---- what is refused
 

@@ -1,5 +1,5 @@
 -- Requests and parts, by where they begin and end.
-use Rattle.std.specs.Prelude.{◌≡◌, ℕ, ℤ, List, []}
+use Rattle.std.specs.Prelude.{◌≡◌, ℕ, ℤ, List, [], length, Option, Some, None}
 use Rattle.zk_jute.specs.Item.{HaveBytes}
 use Rattle.zk_jute.specs.Layout.{IsValueOf}
 use Rattle.zk_jute.specs.Told.{StandsAt}
@@ -9,8 +9,10 @@ use Rattle.zk_records.specs.declared.profile.Profile.{Profile}
 use Rattle.zk_records.specs.Codes.{HasOp}
 use Rattle.zk_asks.specs.Codes.{IsAllowed}
 use Rattle.zk_asks.specs.Forms.{op_header}
-use Rattle.zk_asks.specs.Held.{Ask, Part}
+use Rattle.zk_asks.specs.Held.{Ask, Part, ClientFrame}
+use Rattle.zk_asks.specs.declared.frame.AskOf.TheVariants as ask
 use Rattle.zk_asks.specs.declared.frame.ClientFrameOf.TheVariants as frame
+use Rattle.zk_asks.specs.declared.judge.Outline.{Outline}
 use Rattle.zk_asks.specs.Parts.{part_layout, op_of_part, record_of}
 use Rattle.zk_asks.specs.Rows.{op_of_ask, body_items}
 use Rattle.zk_asks.specs.Frames.{ops_of_ask, IsSent, payload}
@@ -32,6 +34,23 @@ abbrev pub IsAsked : Profile → ℤ → Op → List PartOp → List ℕ → Typ
 IsAsked profile xid op parts bytes =
     HasOp profile op × ((a : Ask) × (op_of_ask a ≡ op) × (ops_of_ask a ≡ parts) × IsSent (frame.Ask xid a) × (bytes ≡ payload (frame.Ask xid a)))
 
--- the payload is that of a request of the profile under this xid, of this operation, and it has no parts
-abbrev pub IsAlone : Profile → ℤ → Op → List ℕ → Type 0
-IsAlone profile xid op bytes = IsAsked profile xid op [] bytes
+-- what is left of the request where it is reduced to its outline
+abbrev pub outline_of : ℤ → Ask → Outline
+outline_of xid a = record { xid = xid; op = op_of_ask a; parts = length (ops_of_ask a) }
+
+-- the body of a request of this operation, with so many parts, is at the place, and ends there
+abbrev pub IsBodyWith : Op → ℕ → List ℕ → ℕ → ℕ → Type 0
+IsBodyWith op parts src place end = (a : Ask) × (op_of_ask a ≡ op) × (length (ops_of_ask a) ≡ parts) × HaveBytes (body_items a) × StandsAt (body_items a) src place end
+
+-- the payload is that of a request of the profile, of this outline
+abbrev pub IsOutlined : Profile → Outline → List ℕ → Type 0
+IsOutlined profile of bytes = (a : Ask) × HasOp profile (op_of_ask a) × (outline_of of.xid a ≡ of) × IsSent (frame.Ask of.xid a) × (bytes ≡ payload (frame.Ask of.xid a))
+
+-- what the client's frame asks: none where it is a connect request
+abbrev pub asking_of : ClientFrame → Option Outline
+asking_of (frame.Connect hello read_only) = None
+asking_of (frame.Ask xid a) = Some (outline_of xid a)
+
+-- the payload is that of the multi of these parts under this xid
+abbrev pub IsMultiOf : ℤ → List Part → List ℕ → Type 0
+IsMultiOf xid ds bytes = IsSent (frame.Ask xid (ask.Multi ds)) × (bytes ≡ payload (frame.Ask xid (ask.Multi ds)))

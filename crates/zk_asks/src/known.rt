@@ -1,22 +1,51 @@
 //! `client_ref`: a payload that is known to be a client's frame, borrowed without a judgement.
-ghost use Rattle.std.specs.Prelude.{◌≡◌};
-ghost use Rattle.zk_asks.specs.Held.{ClientFrame};
+ghost use Rattle.std.specs.Prelude.{◌≡◌, ◌≤◌, ℕ, length, Some};
+ghost use Rattle.zk_jute.specs.Item.{HaveBytes};
+ghost use Rattle.zk_jute.specs.Told.{StandsAt};
+ghost use Rattle.zk_jute.specs.Standing.{OneStands};
+ghost use Rattle.zk_asks.specs.Held.{Ask, ClientFrame};
+ghost use Rattle.zk_asks.specs.Rows.{row_of, items_in, op_of_ask, body_items};
 ghost use Rattle.zk_asks.specs.Frames.{IsLater, IsSent, IsTurn};
 ghost use Rattle.zk_asks.specs.Frames as frames;
+ghost use Rattle.zk_asks.specs.Fronts.{asking_of};
 
-use crate::borrow::body_ref;
-use crate::frame::{ClientFrameOf, ClientRef};
-use zk_jute::{KnownPayload, known_flagged, read_ref};
-use zk_records::{Profile, RequestHeader, op_of};
+use crate::ask_rows;
+use crate::frame::{AskOf, AskRef, ClientFrameOf, ClientRef};
+use crate::judge::{BODY, Outline};
+use crate::part_list::{lying, parts_in};
+use zk_jute::{known_at, known_flagged};
+use zk_records::{
+    AuthAskRef, CreateAskRef, DeleteAskRef, Op, PathAskRef, Profile, RequestHeader, SetAclAskRef,
+    SetDataAskRef, SetWatchesAskRef, WatchAskRef, op_of,
+};
+
+/// The record of the operation `op` that is known to be at `place`.
+// `JUDGED`: whether it was judged just now. With one caller each, both instances are inlined.
+fn body_there<'a, const JUDGED: bool>(payload: &'a [u8], place: usize, op: Op) -> AskRef<'a>
+    requires within { place ≤ length payload.now }
+    requires stands { OneStands (items_in (row_of op)) payload.now place }
+    ensures { (a : Ask) (end : ℕ) → op_of_ask a ≡ op → HaveBytes (body_items a) → StandsAt (body_items a) payload.now place end → result ≡ a }
+{
+    macro_rules! row {
+        ($op:ident: $($($held:ident)|+: $record:ident $borrowed:ident),+; $($bare:ident)|+) => {
+            match $op {
+                $($(Op::$held => AskOf::$held(known_at::<$borrowed>(payload, place).0),)+)+
+                $(Op::$bare => AskOf::$bare,)+
+                Op::Multi => AskOf::Multi(parts_in(payload, place)),
+            }
+        };
+    }
+    ask_rows!(row, op)
+}
 
 /// The request that the payload is known to be.
-fn known_ask<'a>(src: &KnownPayload<'a>) -> ClientRef<'a>
-    requires { (f : ClientFrame) × IsLater f × IsSent f × (src.now.bytes.now ≡ frames.payload f) }
-    ensures { (f : ClientFrame) → IsLater f → IsSent f → src.now.bytes.now ≡ frames.payload f → result ≡ f }
+fn known_ask<'a>(payload: &'a [u8]) -> ClientRef<'a>
+    requires { (f : ClientFrame) × IsLater f × IsSent f × (payload.now ≡ frames.payload f) }
+    ensures { (f : ClientFrame) → IsLater f → IsSent f → payload.now ≡ frames.payload f → result ≡ f }
 {
-    let (header, place) = read_ref::<_, RequestHeader>(src, 0).unwrap();
+    let (header, place) = known_at::<RequestHeader>(payload, 0);
     let op = op_of(Profile::V35, header.kind).unwrap();
-    let (ask, _) = body_ref(src, place, op).unwrap();
+    let ask = body_there::<false>(payload, place, op);
     ClientFrameOf::Ask {
         xid: header.xid,
         ask,
@@ -25,6 +54,7 @@ fn known_ask<'a>(src: &KnownPayload<'a>) -> ClientRef<'a>
 
 /// The frame that `payload` is known to be, the client's `first` one or a later one, borrowed. Nothing is allocated, and
 /// nothing is judged again.
+#[inline(always)]
 pub fn client_ref(first: bool, payload: &[u8]) -> ClientRef<'_>
     requires { (f : ClientFrame) × IsTurn first f × IsSent f × (payload.now ≡ frames.payload f) }
     ensures { (f : ClientFrame) → IsTurn first f → IsSent f → payload.now ≡ frames.payload f → result ≡ f }
@@ -33,6 +63,37 @@ pub fn client_ref(first: bool, payload: &[u8]) -> ClientRef<'_>
         let (hello, read_only) = known_flagged(payload);
         ClientFrameOf::Connect { hello, read_only }
     } else {
-        known_ask(&KnownPayload { bytes: payload })
+        known_ask(payload)
+    }
+}
+
+/// The request that the payload was judged to be. Its header isn't read again, and a multi's parts aren't walked.
+pub(crate) fn judged_request<'a>(payload: &'a [u8], outline: Outline) -> ClientRef<'a>
+    requires { (f : ClientFrame) × (asking_of f ≡ Some outline) × IsSent f × (payload.now ≡ frames.payload f) }
+    ensures { (f : ClientFrame) → asking_of f ≡ Some outline → IsSent f → payload.now ≡ frames.payload f → result ≡ f }
+{
+    match outline.op {
+        Op::Multi => ClientFrameOf::Ask {
+            xid: outline.xid,
+            ask: AskOf::Multi(lying(payload, outline.parts, BODY)),
+        },
+        op => ClientFrameOf::Ask {
+            xid: outline.xid,
+            ask: body_there::<true>(payload, BODY, op),
+        },
+    }
+}
+
+/// The frame that `payload` was judged to be, and which asks `asked`, borrowed. As `client_ref`.
+pub fn judged_ref(asked: Option<Outline>, payload: &[u8]) -> ClientRef<'_>
+    requires { (f : ClientFrame) × (asking_of f ≡ asked) × IsSent f × (payload.now ≡ frames.payload f) }
+    ensures { (f : ClientFrame) → asking_of f ≡ asked → IsSent f → payload.now ≡ frames.payload f → result ≡ f }
+{
+    match asked {
+        Some(outline) => judged_request(payload, outline),
+        None => {
+            let (hello, read_only) = known_flagged(payload);
+            ClientFrameOf::Connect { hello, read_only }
+        }
     }
 }

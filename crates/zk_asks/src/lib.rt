@@ -3,7 +3,8 @@
 //! - `read_first` and `read_ask` read a payload as an owned `ClientFrame`; `borrow_first` and `borrow_ask` decide the
 //!   same and borrow, without memory; `client_ref` borrows what is already judged.
 //! - `scan_ask` keeps of a request what its reply is read by, an `Asked`: the operation, and those of a multi's parts.
-//!   `quick_ask` and `quick_multi` do so by where the records end, and may return `None`: undecided.
+//! - `judge_ask` judges a payload by where its records end, and keeps an `Outline` of it in numbers: its xid, its operation, and how many parts it has.
+//!   Of a fault it returns the verdict that is asked for: the `ItemFault`, or `Undecided`, which costs nothing.
 //! - `write_client` writes a frame's payload, and `size_within` counts it.
 //!
 //! A payload is read exactly if it is one of a client's forms; else the `ItemFault` of the first item that can't come
@@ -47,12 +48,12 @@ mod asked;
 mod borrow;
 mod codes;
 mod frame;
+mod judge;
 mod known;
 mod laws;
 mod multi;
 mod own;
 mod part_list;
-mod quick;
 mod read;
 mod request;
 mod scan;
@@ -63,10 +64,10 @@ pub use asked::{Asked, Room, asked_laws};
 pub use borrow::{borrow_ask, borrow_first};
 pub use codes::allowed;
 pub use frame::{Ask, AskOf, AskRef, ClientFrame, ClientFrameOf, ClientRef, Part, PartOf, PartRef};
-pub use known::client_ref;
+pub use judge::{Outline, judge_ask, judged_multi};
+pub use known::{client_ref, judged_ref};
 pub use laws::{ask_laws, first_laws, form_laws, opening_laws};
 pub use part_list::{PartItems, PartList};
-pub use quick::{quick_ask, quick_multi};
 pub use read::{read_ask, read_first};
 pub use request::{MultiRef, RequestRef};
 pub use scan::{Scan, scan_ask, scan_first};

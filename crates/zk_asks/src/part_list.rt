@@ -1,10 +1,11 @@
 //! `PartList`: the parts of a multi, borrowed from its payload, and the iterator over them.
-ghost use Rattle.std.specs.Prelude.{◌≡◌, ◌≤◌, ◌∷◌, ℕ, [], Ok, Some, length, IfOk, IfErr, IfSome, MatchOption};
+ghost use Rattle.std.specs.Prelude.{List, ◌≡◌, ◌≤◌, ◌∷◌, ℕ, [], Ok, Some, length, IfOk, IfErr, IfSome, MatchOption};
 ghost use Rattle.std.specs.Iterator.{YieldsFirst, UpTo, item_count};
 ghost use Rattle.std.specs.Iterator.SizeHint.{IsWithinCount};
 ghost use Rattle.zk_jute.specs.Item.{HaveBytes};
 ghost use Rattle.zk_jute.specs.Layout.{IsValueOf};
 ghost use Rattle.zk_jute.specs.Told.{StandsAt, HasSureFault, IsSurelyToldAt};
+ghost use Rattle.zk_jute.specs.Verdict.{Says};
 ghost use Rattle.zk_asks.specs.Held.{Part};
 ghost use Rattle.zk_jute.specs.Standing.{Known, OneStands};
 ghost use Rattle.zk_asks.specs.Parts.{part_row, part_layout, op_of_part, record_of, part_items, multi_items};
@@ -17,7 +18,7 @@ use crate::frame::{PartOf, PartRef};
 use crate::multi::{PartMark, part_mark_of};
 use crate::part_rows;
 use std::marker::Model;
-use zk_jute::{Ends, ItemFault, KnownPayload, Left, PayloadOf, Reason, read_ref};
+use zk_jute::{Ends, Left, Payload, Reason, Verdict, known_at, read_ref};
 use zk_records::{
     CheckAskRef, CreateAskRef, DeleteAskRef, MultiHeader, PartOp, SetDataAskRef, part_of,
 };
@@ -100,10 +101,7 @@ impl<'a> Iterator for PartItems<'a> {
             return None;
         }
         // All parts that are left are known to be there.
-        let src = KnownPayload {
-            bytes: self.payload,
-        };
-        let (part, place) = part_in(&src, self.place);
+        let (part, place) = part_in(self.payload, self.place);
         self.place = place;
         self.left -= 1;
         Some(part)
@@ -127,81 +125,53 @@ impl<'a> ExactSizeIterator for PartItems<'a> {
     }
 }
 
-/// The record of a part of the operation `op` at `place`, and the place after it; judged, or known to be there.
+/// The record that is known to be at `place`, of a part of the operation `op`, and the place after it.
 #[inline(always)]
-fn record_ref<'a, const KNOWN: bool>(
-    src: &PayloadOf<'a, KNOWN>,
-    place: usize,
-    op: PartOp,
-) -> Result<(PartRef<'a>, usize), ItemFault>
-    requires place { place ≤ length src.now.bytes.now }
-    requires known { Known KNOWN (OneStands (part_row op).wired.items src.now.bytes.now place) }
-    ensures found { IfOk result (λ x. (op_of_part x.0 ≡ op) × IsValueOf (part_layout op) (record_of x.0) × StandsAt (record_of x.0) src.now.bytes.now place x.1) }
-    ensures fault { IfErr result (HasSureFault (IsValueOf (part_layout op)) src.now.bytes.now place) }
-    ensures within { IfOk result (λ x. x.1 ≤ length src.now.bytes.now) }
+fn record_in<'a>(payload: &'a [u8], place: usize, op: PartOp) -> (PartRef<'a>, usize)
+    requires place { place ≤ length payload.now }
+    requires known { OneStands (part_row op).wired.items payload.now place }
+    ensures { (p : Part) (end : ℕ) → op_of_part p ≡ op → HaveBytes (record_of p) → StandsAt (record_of p) payload.now place end → result ≡ (p, end) }
 {
     macro_rules! row {
         ($op:ident: $($part:ident: $record:ident $borrowed:ident),+) => {
             match $op {
-                $(PartOp::$part => match read_ref::<_, $borrowed>(src, place) {
-                    Ok((body, end)) => Ok((PartOf::$part(body), end)),
-                    Err(fault) => Err(fault),
-                },)+
+                $(PartOp::$part => {
+                    let (body, end) = known_at::<$borrowed>(payload, place);
+                    (PartOf::$part(body), end)
+                })+
             }
         };
     }
     part_rows!(row, op)
 }
 
-/// The place after the record of a part of the operation `op` at `place`; `None`: undecided. No record is made.
-fn part_end(payload: &[u8], place: usize, op: PartOp) -> Option<usize>
+/// The place after the record of a part of the operation `op` at `place`. No record is made.
+fn part_end<V: Verdict>(payload: &[u8], place: usize, op: PartOp) -> Result<usize, V>
     requires { place ≤ length payload.now }
-    ensures some { IfSome result (λ end. IsRecordAt op payload.now place end) }
-    ensures within { IfSome result (λ end. end ≤ length payload.now) }
+    ensures found { IfOk result (λ end. IsRecordAt op payload.now place end) }
+    ensures fault { IfErr result (Says V.tells (HasSureFault (IsValueOf (part_layout op)) payload.now place)) }
+    ensures within { IfOk result (λ end. end ≤ length payload.now) }
 {
     macro_rules! row {
         ($op:ident: $($part:ident: $record:ident $borrowed:ident),+) => {
             match $op {
-                $(PartOp::$part => $borrowed::end_at(payload, place),)+
+                $(PartOp::$part => $borrowed::end(payload, place),)+
             }
         };
     }
     part_rows!(row, op)
-}
-
-/// The place after the record of a part of the operation `op` at `place`; judged, or known to be there.
-#[inline(always)]
-fn record_end<const KNOWN: bool>(
-    src: &PayloadOf<'_, KNOWN>,
-    place: usize,
-    op: PartOp,
-) -> Result<usize, ItemFault>
-    requires place { place ≤ length src.now.bytes.now }
-    requires known { Known KNOWN (OneStands (part_row op).wired.items src.now.bytes.now place) }
-    ensures found { IfOk result (λ end. IsRecordAt op src.now.bytes.now place end) }
-    ensures fault { IfErr result (HasSureFault (IsValueOf (part_layout op)) src.now.bytes.now place) }
-    ensures within { IfOk result (λ end. end ≤ length src.now.bytes.now) }
-{
-    if !KNOWN {
-        if let Some(end) = part_end(src.bytes, place, op) {
-            return Ok(end);
-        }
-    }
-    let (_, end) = record_ref(src, place, op)?;
-    Ok(end)
 }
 
 /// The part that is known to be at `place`, and the place after it.
 #[inline(always)]
-fn part_in<'a>(src: &KnownPayload<'a>, place: usize) -> (PartRef<'a>, usize)
-    requires place { place ≤ length src.now.bytes.now }
-    requires known { OneStands part_items src.now.bytes.now place }
-    ensures only { (p : Part) (end : ℕ) → HaveBytes (part_items p) → StandsAt (part_items p) src.now.bytes.now place end → result ≡ (p, end) }
-    ensures within { result.1 ≤ length src.now.bytes.now }
+fn part_in<'a>(payload: &'a [u8], place: usize) -> (PartRef<'a>, usize)
+    requires place { place ≤ length payload.now }
+    requires known { OneStands part_items payload.now place }
+    ensures { (p : Part) (end : ℕ) → HaveBytes (part_items p) → StandsAt (part_items p) payload.now place end → result ≡ (p, end) }
 {
-    let (header, after) = read_ref::<_, MultiHeader>(src, place).unwrap();
+    let (header, after) = known_at::<MultiHeader>(payload, place);
     let op = part_of(header.kind).unwrap();
-    record_ref(src, after, op).unwrap()
+    record_in(payload, after, op)
 }
 
 impl<'a> PartItems<'a> {
@@ -213,10 +183,7 @@ impl<'a> PartItems<'a> {
             return None;
         }
         // All parts that are left are known to be there.
-        let src = KnownPayload {
-            bytes: self.payload,
-        };
-        let (part, place) = part_in(&src, self.place);
+        let (part, place) = part_in(self.payload, self.place);
         self.place = place;
         self.left -= 1;
         Some(part.op())
@@ -224,7 +191,7 @@ impl<'a> PartItems<'a> {
 }
 
 /// The list of `count` parts that are known to be in `payload` from `place` on.
-fn lying<'a>(payload: &'a [u8], count: usize, place: usize) -> PartList<'a>
+pub(crate) fn lying<'a>(payload: &'a [u8], count: usize, place: usize) -> PartList<'a>
     requires { Begins part_items payload.now count place }
     ensures { result ≡ parts_at payload.now count place }
 {
@@ -235,30 +202,45 @@ fn lying<'a>(payload: &'a [u8], count: usize, place: usize) -> PartList<'a>
     }
 }
 
-/// The parts from `place` on, and the place after the end marker; judged, or known to be there.
-pub(crate) fn multi_ref<'a, const KNOWN: bool>(
-    src: &PayloadOf<'a, KNOWN>,
-    place: usize,
-) -> Result<(PartList<'a>, usize), ItemFault>
-    requires place { place ≤ length src.now.bytes.now }
-    requires known { Known KNOWN (OneStands multi_items src.now.bytes.now place) }
-    ensures found { IfOk result (λ x. HaveBytes (multi_items x.0) × StandsAt (multi_items x.0) src.now.bytes.now place x.1) }
-    ensures fault { IfErr result (IsSurelyToldAt IsMultiFault src.now.bytes.now place) }
-    ensures within { IfOk result (λ x. x.1 ≤ length src.now.bytes.now) }
+/// How many parts there are from `place` on, and the place after the end marker.
+pub(crate) fn multi_end<V: Verdict>(payload: &[u8], place: usize) -> Result<(usize, usize), V>
+    requires { place ≤ length payload.now }
+    ensures found { IfOk result (λ x. (ds : List Part) × (length ds ≡ x.0) × HaveBytes (multi_items ds) × StandsAt (multi_items ds) payload.now place x.1) }
+    ensures fault { IfErr result (Says V.tells (IsSurelyToldAt IsMultiFault payload.now place)) }
+    ensures within { IfOk result (λ x. x.1 ≤ length payload.now) }
 {
     let mut count = 0;
     let mut at = place;
     loop {
-        let (header, after) = read_ref::<_, MultiHeader>(src, at)?;
+        let (header, after) = V::on(read_ref::<_, MultiHeader>(&Payload { bytes: payload }, at))?;
         match part_mark_of(&header) {
             PartMark::Part(op) => {
-                let next = record_end(src, after, op)?;
+                let next = part_end::<V>(payload, after, op)?;
                 at = next;
                 count += 1;
             }
-            PartMark::End => return Ok((lying(src.bytes, count, place), after)),
-            PartMark::Bad => return Err(ItemFault::at(at, Reason::BadPart)),
+            PartMark::End => return Ok((count, after)),
+            PartMark::Bad => return Err(V::at(at, Reason::BadPart)),
         }
+    }
+}
+
+/// The parts that are known to be at `place`.
+pub(crate) fn parts_in<'a>(payload: &'a [u8], place: usize) -> PartList<'a>
+    requires within { place ≤ length payload.now }
+    requires stands { OneStands multi_items payload.now place }
+    ensures { (end : ℕ) × HaveBytes (multi_items result) × StandsAt (multi_items result) payload.now place end }
+{
+    let mut count = 0;
+    let mut at = place;
+    loop {
+        let (header, after) = known_at::<MultiHeader>(payload, at);
+        let Some(op) = part_of(header.kind) else {
+            return lying(payload, count, place);
+        };
+        let (_, next) = record_in(payload, after, op);
+        at = next;
+        count += 1;
     }
 }
 

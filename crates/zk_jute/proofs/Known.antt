@@ -1,20 +1,21 @@
 -- What is known to stand somewhere, for the parts of it.
 use Rattle.std.proofs.Common.{◌≡◌, ℕ, ◌+◌, ◌-◌, ◌<◌, ◌≤◌, suc, Bool, true, false, cond, eqb, List, [], ◌∷◌, ◌++◌, length, drop, Option, Some, None, Result, Ok, Err, refl, sym, ap, subst, ◌∙◌, arith}
-use Rattle.std.specs.Prelude.{ℤ, IsOk, IfErr, IsUtf8}
+use Rattle.std.specs.Prelude.{IsOk, IfErr, IsUtf8}
 use Rattle.std.specs.Str.Lossy.{utf8_valid_len}
-use Rattle.std.proofs.lemmas.Bool.{eqb-true}
+use Rattle.std.proofs.lemmas.Bool.{eqb-true, ltb-false, lt-ltb}
+use Rattle.std.proofs.Common.{nat_lt}
 use Rattle.std.proofs.lemmas.List.{append-nil, length-drop, drop_at}
-use Rattle.zk_jute.specs.declared.fault.Reason.TheVariants.{BadText}
+use Rattle.zk_jute.specs.declared.fault.Reason.TheVariants.{BadText, Short}
 use Rattle.zk_jute.specs.declared.fault.ItemFault.{ItemFault}
-use Rattle.zk_jute.specs.Item.{Int, Long, Boolean, Ustring, Buffer, Item, AnInt, ALong, ABoolean, AUstring, ABuffer, ACount, bytes_of, HaveBytes}
+use Rattle.zk_jute.specs.Item.{Int, Long, Ustring, Buffer, Item, AnInt, ALong, AUstring, ABuffer, ACount, bytes_of, HaveBytes}
 use Rattle.zk_jute.specs.Layout.{Layout, End, One, Each, ◌then◌, IsValueOf}
-use Rattle.zk_jute.specs.Reading.{Fault, Read, Tells, Fails, ◌>>=◌, read_map, end_of, int_at, long_at, bool_at, text_at, run_at, size_at, content_of, checked_text, times_at, elements_at, items_at}
+use Rattle.zk_jute.specs.Reading.{Fault, Read, fault, Tells, Fails, ◌>>=◌, read_map, end_of, int_at, long_at, text_at, run_at, size_at, content_of, checked_text, times_at, elements_at, items_at}
 use Rattle.zk_jute.specs.Told.{StandsAt}
 use Rattle.zk_jute.specs.Flagged.{flag_items, OneIsFlagged}
 use Rattle.zk_jute.specs.Wired.{Wired, boolean}
 use Rattle.zk_jute.specs.Standing.{Known, OneStands}
 use Rattle.zk_jute.proofs.Primitives.{utf8_if_valid}
-use Rattle.zk_jute.proofs.Fields.{read_then, int_is, long_is, bool_is, text_is, run_is, each_is, list_some}
+use Rattle.zk_jute.proofs.Fields.{read_then, int_is, long_is, text_is, run_is, each_is, list_some}
 use Rattle.zk_jute.specs.Shown.{next_value, values_at}
 use Rattle.zk_jute.proofs.Layouts.{items_again, bytes_only, bytes_both, have_parts}
 use Rattle.zk_jute.proofs.Sequels.{none_left}
@@ -45,15 +46,6 @@ known_told true view (Err e) (Err f) t h = absurd cc
 -- ---- one item
 
 module _ (k : Bool) (src : List ℕ) (place : ℕ) where
-  pub int_known : (answer : Result (ℤ × ℕ) ItemFault) → Tells (λ x. x) answer (int_at src place) → Known k (IsOk (items_at (One Int End) src place)) → Known k (IsOk answer)
-  int_known answer t h = known_told k (λ x. x) answer (int_at src place) t (known_map k (λ n. AnInt n ∷ []) (int_at src place) (subst (λ (r : Read (List Item)). Known k (IsOk r)) (int_is src place) h))
-
-  pub long_known : (answer : Result (ℤ × ℕ) ItemFault) → Tells (λ x. x) answer (long_at src place) → Known k (IsOk (items_at (One Long End) src place)) → Known k (IsOk answer)
-  long_known answer t h = known_told k (λ x. x) answer (long_at src place) t (known_map k (λ n. ALong n ∷ []) (long_at src place) (subst (λ (r : Read (List Item)). Known k (IsOk r)) (long_is src place) h))
-
-  pub bool_known : (answer : Result (Bool × ℕ) ItemFault) → Tells (λ x. x) answer (bool_at src place) → Known k (IsOk (items_at (One Boolean End) src place)) → Known k (IsOk answer)
-  bool_known answer t h = known_told k (λ x. x) answer (bool_at src place) t (known_map k (λ b. ABoolean b ∷ []) (bool_at src place) (subst (λ (r : Read (List Item)). Known k (IsOk r)) (bool_is src place) h))
-
   pub text_known : Known k (IsOk (items_at (One Ustring End) src place)) → Known k (IsOk (text_at src place))
   text_known h = known_map k (λ t. AUstring t ∷ []) (text_at src place) (subst (λ (r : Read (List Item)). Known k (IsOk r)) (text_is src place) h)
 
@@ -66,6 +58,38 @@ module _ (k : Bool) (src : List ℕ) (place : ℕ) where
 
   pub size_known : (answer : Result (Option ℕ × ℕ) ItemFault) → Tells (λ x. x) answer (size_at src place) → Known k (IsOk (run_at src place)) → Known k (IsOk answer)
   size_known answer t h = known_told k (λ x. x) answer (size_at src place) t (known_bind k (size_at src place) (content_of src place) h)
+
+-- ---- so many bytes are left
+
+open_ok : {A : Type 0} (b : Bool) (f : Fault) (rest : Read A) → IsOk (cond b (Err f) rest) → b ≡ false
+open_ok false f rest h = refl
+open_ok true f rest h = absurd cc
+
+-- what reads a number asks for its bytes
+module _ {A : Type 0} (size : ℕ) (src : List ℕ) (place : ℕ) (rest : Read A) where
+  abbrev sized : Read A
+  sized = cond (nat_lt (length src - place) size) (fault place Short) rest
+
+  room : place ≤ length src → IsOk sized → place + size ≤ length src
+  room le h = omega (arith, le, ltb-false (length src - place) size (open_ok (nat_lt (length src - place) size) (record { place = place; reason = Short }) rest h))
+
+  short : (place + size ≤ length src → ⊥) → place ≤ length src → sized ≡ fault place Short
+  short none le = rw (lt-ltb (length src - place) size (omega (arith, none, le))) refl
+
+module _ (src : List ℕ) (place : ℕ) where
+  pub int_room : (k : Bool) → place ≤ length src → Known k (IsOk (items_at (One Int End) src place)) → Known k (place + 4 ≤ length src)
+  int_room false le h = tt
+  int_room true le h = room 4 src place _ le (known_map true (λ n. AnInt n ∷ []) (int_at src place) (subst (λ (r : Read (List Item)). IsOk r) (int_is src place) h))
+
+  pub long_room : (k : Bool) → place ≤ length src → Known k (IsOk (items_at (One Long End) src place)) → Known k (place + 8 ≤ length src)
+  long_room false le h = tt
+  long_room true le h = room 8 src place _ le (known_map true (λ n. ALong n ∷ []) (long_at src place) (subst (λ (r : Read (List Item)). IsOk r) (long_is src place) h))
+
+  pub int_short : (place + 4 ≤ length src → ⊥) → place ≤ length src → int_at src place ≡ fault place Short
+  int_short none le = short 4 src place _ none le
+
+  pub long_short : (place + 8 ≤ length src → ⊥) → place ≤ length src → long_at src place ≡ fault place Short
+  long_short none le = short 8 src place _ none le
 
 -- the bytes of a text that stands there are one
 chosen_ok : {A : Type 0} (b : Bool) (x : A × ℕ) (f : Fault) → IsOk (cond b (Ok x) (Err f)) → b ≡ true
@@ -97,10 +121,8 @@ module _ (k : Bool) (a b : Layout) (src : List ℕ) (place : ℕ) (h : Known k (
 -- ---- lists
 
 module _ (k : Bool) (l : Layout) (src : List ℕ) (place : ℕ) (h : Known k (IsOk (items_at (Each l End) src place))) where
-  pub count_known : (answer : Result (Option ℕ × ℕ) ItemFault) → Tells (λ x. x) answer (size_at src place) → Known k (IsOk answer)
-  count_known answer t =
-      known_told k (λ x. x) answer (size_at src place) t
-      (known_bind k (size_at src place) (λ n. read_map (λ items. ACount n.0 ∷ items) (elements_at (items_at l src) n.0 n.1)) (subst (λ (r : Read (List Item)). Known k (IsOk r)) (each_is l src place) h))
+  pub count_known : Known k (IsOk (size_at src place))
+  count_known = known_bind k (size_at src place) (λ n. read_map (λ items. ACount n.0 ∷ items) (elements_at (items_at l src) n.0 n.1)) (subst (λ (r : Read (List Item)). Known k (IsOk r)) (each_is l src place) h)
 
   pub elements_known : (n after : ℕ) → size_at src place ≡ Ok (Some n, after) → Known k (IsOk (times_at (items_at l src) n after))
   elements_known n after e = known_map k (λ items. ACount (Some n) ∷ items) (times_at (items_at l src) n after) (subst (λ (r : Read (List Item)). Known k (IsOk r)) (list_some l src place n after e) h)

@@ -1,7 +1,7 @@
 -- Values whose ends are reached: one after the other, those of a list, and short texts.
 use Rattle.std.proofs.Common.{◌≡◌, ℕ, zero, suc, take-add, ◌+◌, ◌-◌, ◌/◌, ◌%◌, ◌<◌, ◌≤◌, false, ltb, List, [], ◌∷◌, ◌++◌, length, take, drop, Option, Some, None, Ok, refl, sym, ap, subst, ◌∙◌, append_assoc, arith}
-use Rattle.std.specs.Prelude.{ℤ, pos, negsuc, IfSome}
-use Rattle.std.specs.Int.{w32, w64, from_be_bytes, cast_signed, cast_unsigned}
+use Rattle.std.specs.Prelude.{ℤ, pos, negsuc}
+use Rattle.std.specs.Int.{w32, cast_unsigned}
 use Rattle.std.specs.Int.RustNames.{FitsSigned}
 use Rattle.std.proofs.lemmas.Int.{ints}
 use Rattle.std.specs.List.{flat_map}
@@ -15,27 +15,20 @@ use Rattle.simdutf8.proofs.Chars.{StepsThen-IsUtf8, closed-IsUtf8}
 use Rattle.simdutf8.proofs.StepsLemmas.{StepsThen-append, StepsThen_parts, Steps_ascii, IsUtf8-after_ascii}
 use Rattle.std.proofs.lemmas.List.{take_at, drop-drop, length-append, length-take, length-drop}
 use Rattle.std.proofs.lemmas.Grind.{flat_map-append}
-use Rattle.std.proofs.lemmas.Option.{IfSome_then}
 use Rattle.zk_jute.specs.declared.value.Nullable.TheVariants as nullable
-use Rattle.zk_jute.specs.Item.{Item, AnInt, ALong, AUstring, ACount, HaveBytes, int_bytes}
-use Rattle.zk_jute.specs.Faults.{first_int}
-use Rattle.zk_jute.specs.Reading.{int_at, long_at, size_at, run_at}
+use Rattle.zk_jute.specs.Item.{Item, AUstring, HaveBytes, int_bytes}
+use Rattle.zk_jute.specs.Reading.{int_at, size_at, run_at}
 use Rattle.zk_jute.specs.Told.{StandsAt}
-use Rattle.zk_jute.specs.Values.{text_items, list_items}
-use Rattle.zk_jute.specs.Wired.{Wired, int, long}
+use Rattle.zk_jute.specs.Values.{text_items}
 use Rattle.zk_jute.specs.Shown.{Stretch}
 use Rattle.zk_jute.specs.Ends.{EndsAt, IsUtf8Between, TextsIfUtf8, IsRunOfLowSize}
 use Rattle.zk_jute.proofs.Steps.{IsBytes}
 use Rattle.zk_jute.proofs.Primitives.{ascii_text}
 use Rattle.zk_jute.proofs.Numbers.{len32}
-use Rattle.zk_jute.proofs.Runs.{int_found, long_found, run_found, size_found}
+use Rattle.zk_jute.proofs.Runs.{run_found, size_found}
 use Rattle.zk_jute.proofs.Layouts.{have_both, one_found}
 use Rattle.zk_jute.proofs.Sequels.{stands_then}
 use Rattle.zk_jute.proofs.Stretches.{one_passed}
-
--- one value, and another behind it
-pub both_end : {X Y : Type 0} (f : X → List Item) (g : Y → List Item) (src : List ℕ) (p q r : ℕ) → EndsAt f src p q → EndsAt g src q r → EndsAt (λ (x : X × Y). f x.0 ++ g x.1) src p r
-both_end f g src p q r a b = ((a.0, b.0), have_both (f a.0) (g b.0) a.1 b.1, stands_then (f a.0) (g b.0) src p q r a.2 b.2)
 
 -- one more of a stretch
 pub one_more : {X : Type 0} (items : X → List Item) (src : List ℕ) (place at end count : ℕ) → Stretch items src place at count → EndsAt items src at end → Stretch items src place end (count + 1)
@@ -53,27 +46,6 @@ stretch_then {X} items src p q r m n a b =
       have = subst HaveBytes (sym both) (have_both (flat_map items xs) (flat_map items ys) a.have b.have);
       stands = subst (λ (i : List Item). StandsAt i src p r) (sym both) (stands_then (flat_map items xs) (flat_map items ys) src p q r a.stands b.stands);
     }
-
--- null, or a count and the elements
-module _ {X : Type 0} (items : X → List Item) (src : List ℕ) (place start : ℕ) (fits : IsBytes src) (le : place ≤ length src) where
-  pub null_ends : size_at src place ≡ Ok (None, start) → EndsAt (list_items items) src place start
-  null_ends size =
-      let r = size_found src place (None, start) fits le size in
-      let f = one_found (ACount None) src place start r.has_bytes r.stands in
-      (nullable.Null, f.have, (f.stands.parts, f.stands.at))
-
-  pub list_ends : (n end : ℕ) → size_at src place ≡ Ok (Some n, start) → Stretch items src start end n → EndsAt (list_items items) src place end
-  list_ends n end size s =
-      let r = size_found src place (Some n, start) fits le size in
-      let f = one_found (ACount (Some n)) src place start r.has_bytes r.stands in
-      let xs = s.values in
-      let counted : List Item → List Item = λ (i : List Item). i ++ flat_map items xs in
-      let have : HaveBytes (ACount (Some n) ∷ flat_map items xs) = (r.has_bytes, s.have) in
-      let stands : StandsAt (ACount (Some n) ∷ flat_map items xs) src place end = stands_then (ACount (Some n) ∷ []) (flat_map items xs) src place start end (f.stands.parts, f.stands.at) s.stands in (
-        nullable.Full xs,
-        subst (λ (m : ℕ). HaveBytes (ACount (Some m) ∷ flat_map items xs)) s.count_is have,
-        subst (λ (m : ℕ). StandsAt (ACount (Some m) ∷ flat_map items xs) src place end) s.count_is stands,
-      )
 
 -- ---- short texts in one look
 
@@ -169,33 +141,3 @@ module _ (src : List ℕ) (from at : ℕ) (fits : IsBytes src) (le : at ≤ leng
 -- nothing is looked at twice: bytes from a place to itself
 pub no_bytes : (src : List ℕ) (at : ℕ) → IsUtf8Between src at at
 no_bytes src at = let none : at - at ≡ 0 = omega arith in subst (λ (n : ℕ). IsUtf8 (take n (drop at src))) (sym none) (ascii_text [] (λ i. omega arith))
-
--- ---- numbers, and records
-
-pub int_ends : (src : List ℕ) (place end : ℕ) → IsBytes src → end ≡ place + 4 → end ≤ length src → EndsAt int.items src place end
-int_ends src place end fits at within =
-    let test : ltb (length src - place) 4 ≡ false = le-ltb _ _ (omega arith) in
-    let n = first_int (drop place src) in
-    let read : int_at src place ≡ Ok (n, place + 4) = rw test refl in
-    let r = (int_found src place (n, place + 4) fits (omega arith) read).0 in
-    let f = one_found (AnInt n) src place (place + 4) r.has_bytes r.stands in
-    subst (EndsAt int.items src place) (sym at) (n, f.have, (f.stands.parts, f.stands.at))
-
-pub long_ends : (src : List ℕ) (place end : ℕ) → IsBytes src → end ≡ place + 8 → end ≤ length src → EndsAt long.items src place end
-long_ends src place end fits at within =
-    let test : ltb (length src - place) 8 ≡ false = le-ltb _ _ (omega arith) in
-    let n = cast_signed w64 (from_be_bytes w64 (take 8 (drop place src))) in
-    let read : long_at src place ≡ Ok (n, place + 8) = rw test refl in
-    let r = long_found src place (n, place + 8) fits (omega arith) read in
-    let f = one_found (ALong n) src place (place + 8) r.has_bytes r.stands in
-    subst (EndsAt long.items src place) (sym at) (n, f.have, (f.stands.parts, f.stands.at))
-
--- what is made of a value ends where the value does
-pub made_ends : {X Y : Type 0} (w : Wired X) (v : Wired Y) (make : X → Y) → ((x : X) → v.items (make x) ≡ w.items x) → (src : List ℕ) (place : ℕ) (end : Option ℕ)
-    → IfSome end (EndsAt w.items src place) → IfSome end (EndsAt v.items src place)
-made_ends w v make same src place end h =
-    IfSome_then end h (λ n e. (
-      make e.0,
-      subst (λ (i : List Item). HaveBytes i) (sym (same e.0)) e.1,
-      subst (λ (i : List Item). StandsAt i src place n) (sym (same e.0)) e.2,
-    ))

@@ -16,3 +16,4 @@ pub mod Shown
 pub mod Follow
 pub mod Once
 pub mod Ends
+pub mod Verdict

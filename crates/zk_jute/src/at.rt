@@ -26,6 +26,7 @@ pub fn scan<'a, T: Decode<Payload<'a>>>(src: &'a [u8], place: usize) -> Result<u
 }
 
 /// The value that is known to be at `place` of `src`, and the place after it. It isn't judged again.
+#[inline(always)]
 pub fn known_at<'a, T: Decode<KnownPayload<'a>>>(src: &'a [u8], place: usize) -> (T, usize)
     requires place { place ≤ length src.now }
     requires stands { OneStands T.wired.items src.now place }

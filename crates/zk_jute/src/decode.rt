@@ -1,5 +1,5 @@
 //! `Decode`: how a value is read from a payload, copied out of it or borrowed from it.
-ghost use Rattle.std.specs.Prelude.{◌≡◌, false, ℕ, ◌≤◌, ◌<◌, List, length, get_or, IsOk, IfOk, IfErr, IfSome};
+ghost use Rattle.std.specs.Prelude.{◌≡◌, false, ℕ, ◌≤◌, ◌<◌, List, length, get_or, IsOk, IfOk, IfErr};
 ghost use Rattle.std.specs.List.{flat_map};
 ghost use Rattle.zk_jute.specs.Item.{HaveBytes};
 ghost use Rattle.zk_jute.specs.Layout.{IsValueOf};
@@ -8,9 +8,9 @@ ghost use Rattle.zk_jute.specs.Reading.{Fails, Gives, items_at, times_at};
 ghost use Rattle.zk_jute.specs.Wired.{Wired, int, long, boolean, ustring, buffer, vector, ◌and◌};
 ghost use Rattle.zk_jute.specs.Standing.{IsPlain, Known, OneStands};
 
-use crate::fault::ItemFault;
-use crate::number::{bool_at, int_at, long_at};
-use crate::origin::{Kept, Origin, Payload};
+use crate::fault::{ItemFault, Reason};
+use crate::number::{bool_at, int_of, long_of};
+use crate::origin::{Kept, Origin};
 use crate::run::{run_at, size_at, text_at};
 use crate::value::{Blob, Bytes, Chars, Items, List, Text};
 
@@ -69,18 +69,6 @@ pub fn read_ref<P: Origin, T: Decode<P>>(src: &P, place: usize) -> Result<(T, us
     T::read_in(src, place)
 }
 
-/// The place after the value at `place` of `payload`; `None`: undecided. No value is made.
-pub fn end_of<'a, T: Decode<Payload<'a>>>(payload: &'a [u8], place: usize) -> Option<usize>
-    requires { place ≤ length payload.now }
-    ensures some { IfSome result (λ end. (x : T) × HaveBytes (T.wired.items x) × StandsAt (T.wired.items x) payload.now place end) }
-    ensures within { IfSome result (λ end. end ≤ length payload.now) }
-{
-    match T::read_in(&Payload { bytes: payload }, place) {
-        Ok((_, end)) => Some(end),
-        Err(_) => None,
-    }
-}
-
 /// Bytes are numbers below 256; the function does nothing.
 #[inline(always)]
 fn are_bytes(bytes: &[u8])
@@ -96,7 +84,10 @@ impl Form for i32 {
 impl<P: Origin> Decode<P> for i32 {
     #[inline(always)]
     fn decode(src: &P, place: usize) -> Result<(Self, usize), ItemFault> {
-        P::given(int_at(src.payload(), place))
+        if !src.has(place, 4) {
+            return Err(ItemFault::at(place, Reason::Short));
+        }
+        Ok((int_of(src.payload(), place), place + 4))
     }
 }
 
@@ -107,7 +98,10 @@ impl Form for i64 {
 impl<P: Origin> Decode<P> for i64 {
     #[inline(always)]
     fn decode(src: &P, place: usize) -> Result<(Self, usize), ItemFault> {
-        P::given(long_at(src.payload(), place))
+        if !src.has(place, 8) {
+            return Err(ItemFault::at(place, Reason::Short));
+        }
+        Ok((long_of(src.payload(), place), place + 8))
     }
 }
 
@@ -118,7 +112,7 @@ impl Form for bool {
 impl<P: Origin> Decode<P> for bool {
     #[inline(always)]
     fn decode(src: &P, place: usize) -> Result<(Self, usize), ItemFault> {
-        P::given(bool_at(src.payload(), place))
+        bool_at(src.payload(), place)
     }
 }
 

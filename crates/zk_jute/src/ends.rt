@@ -1,76 +1,101 @@
 //! `Ends`: where a value ends in a payload, found without making the value.
-ghost use Rattle.std.specs.Prelude.{◌≡◌, ℕ, ◌≤◌, ◌<◌, ◌%◌, ◌+◌, length, option_copied, IsTrue, IfOk, IfSome};
-ghost use Rattle.zk_jute.specs.Reading as reading;
+ghost use Rattle.std.specs.Prelude.{◌≡◌, ℕ, ◌≤◌, ◌<◌, ◌%◌, ◌+◌, length, option_copied, IsTrue, IfOk, IfErr, IfSome};
+ghost use Rattle.zk_jute.specs.Layout.{IsValueOf};
+ghost use Rattle.zk_jute.specs.Reading.{items_at, times_at};
+ghost use Rattle.zk_jute.specs.Told.{HasSureFault};
+ghost use Rattle.zk_jute.specs.Verdict.{Says, Judges, IsValueAt};
 ghost use Rattle.zk_jute.specs.Shown.{Stretch};
-ghost use Rattle.zk_jute.specs.Values.{text_items, blob_items, list_items};
-ghost use Rattle.zk_jute.specs.Ends.{EndsAt, IsUtf8Between, TextsIfUtf8, IsRunOfLowSize};
+ghost use Rattle.zk_jute.specs.Values.{text_items};
+ghost use Rattle.zk_jute.specs.Wired.{ustring, buffer, vector};
+ghost use Rattle.zk_jute.specs.Ends.{IsUtf8Between, TextsIfUtf8, IsRunOfLowSize};
 
-use crate::decode::{Form, end_of};
-use crate::number::int_at;
-use crate::run::{run_at, size_at};
-use crate::series::{Element, Series};
+use crate::decode::Form;
+use crate::number::{bool_at, int_at, long_at};
+use crate::origin::Payload;
+use crate::run::{run_at, size_at, text_at};
+use crate::series::{Element, Series, elements_end};
 use crate::utf8::is_long_text;
 use crate::value::{BlobRef, TextRef};
+use crate::verdict::Verdict;
 
 /// How many bytes of a list's texts get one look: about as many, in whole texts.
 const LOOK: usize = 1024;
 
 /// A form of values whose ends are found without making the values.
 pub trait Ends: Form {
-    /// The place after the value at `place` of `payload`; `None`: undecided. Stands for `end_of`.
-    fn end_at(payload: &[u8], place: usize) -> Option<usize>
+    /// The step of `end` that each impl writes: the fields, one after the other.
+    fn find<V: Verdict>(payload: &[u8], place: usize) -> Result<usize, V>
         requires { place ≤ length payload.now }
-        ensures some { IfSome result (λ end. EndsAt Self.wired.items payload.now place end) }
-        ensures within { IfSome result (λ end. end ≤ length payload.now) };
+        ensures exact { Judges V.tells result (items_at Self.wired.layout payload.now place) }
+        ensures within { IfOk result (λ end. end ≤ length payload.now) };
 
-    /// The place after `count` values of `payload`, the first of them at `place`; `None`: undecided.
-    fn ends_at(payload: &[u8], count: usize, place: usize) -> Option<usize>
+    /// The same of `count` values, the first of them at `place`.
+    fn find_all<V: Verdict>(payload: &[u8], count: usize, place: usize) -> Result<usize, V>
         requires { place ≤ length payload.now }
-        ensures some { IfSome result (λ end. Stretch Self.wired.items payload.now place end count) }
-        ensures within { IfSome result (λ end. end ≤ length payload.now) }
+        ensures exact { Judges V.tells result (times_at (items_at Self.wired.layout payload.now) count place) }
+        ensures within { IfOk result (λ end. end ≤ length payload.now) }
     {
         let mut at = place;
         for _ in 0..count {
-            let end = Self::end_at(payload, at)?;
+            let end = Self::find::<V>(payload, at)?;
             at = end;
         }
-        Some(at)
+        Ok(at)
+    }
+
+    /// The place after the value at `place` of `payload`.
+    ///
+    /// # Errors
+    ///
+    /// The first fault from the left, its place counted from the beginning of the payload. `Undecided` says nothing.
+    #[inline]
+    final fn end<V: Verdict>(payload: &[u8], place: usize) -> Result<usize, V>
+        requires { place ≤ length payload.now }
+        // A value is there.
+        ensures found { IfOk result (λ end. IsValueAt (IsValueOf Self.wired.layout) payload.now place end) }
+        // No value is there where a fault is reported, and the bytes fix which one it is.
+        ensures fault { IfErr result (Says V.tells (HasSureFault (IsValueOf Self.wired.layout) payload.now place)) }
+        ensures within { IfOk result (λ end. end ≤ length payload.now) }
+    {
+        Self::find(payload, place)
     }
 }
 
 impl Ends for i32 {
-    fn end_at(payload: &[u8], place: usize) -> Option<usize> {
-        end_of::<i32>(payload, place)
+    #[inline(always)]
+    fn find<V: Verdict>(payload: &[u8], place: usize) -> Result<usize, V> {
+        V::behind(int_at(payload, place))
     }
 }
 
 impl Ends for i64 {
-    fn end_at(payload: &[u8], place: usize) -> Option<usize> {
-        end_of::<i64>(payload, place)
+    #[inline(always)]
+    fn find<V: Verdict>(payload: &[u8], place: usize) -> Result<usize, V> {
+        V::behind(long_at(payload, place))
     }
 }
 
 impl Ends for bool {
-    fn end_at(payload: &[u8], place: usize) -> Option<usize> {
-        end_of::<bool>(payload, place)
+    #[inline(always)]
+    fn find<V: Verdict>(payload: &[u8], place: usize) -> Result<usize, V> {
+        V::behind(bool_at(payload, place))
     }
 }
 
 impl<'a> Ends for BlobRef<'a> {
-    fn end_at(payload: &[u8], place: usize) -> Option<usize>
+    fn find<V: Verdict>(payload: &[u8], place: usize) -> Result<usize, V>
         requires { place ≤ length payload.now }
-        ensures some { IfSome result (λ end. EndsAt blob_items payload.now place end) }
-        ensures within { IfSome result (λ end. end ≤ length payload.now) }
+        ensures exact { Judges V.tells result (items_at buffer.layout payload.now place) }
+        ensures within { IfOk result (λ end. end ≤ length payload.now) }
     {
-        end_of::<BlobRef<'_>>(payload, place)
+        V::behind(run_at::<false>(payload, place))
     }
 }
 
 impl<A: Ends, B: Ends> Ends for (A, B) {
-    fn end_at(payload: &[u8], place: usize) -> Option<usize> {
-        let middle = A::end_at(payload, place)?;
-        let end = B::end_at(payload, middle)?;
-        Some(end)
+    fn find<V: Verdict>(payload: &[u8], place: usize) -> Result<usize, V> {
+        let middle = A::find::<V>(payload, place)?;
+        B::find::<V>(payload, middle)
     }
 }
 
@@ -198,44 +223,64 @@ fn some_texts_end(payload: &[u8], count: usize, place: usize) -> Option<(usize, 
     Some((some, end))
 }
 
+/// The place after `count` texts, the first of them at `place`; `None`: undecided.
+fn all_texts_end(payload: &[u8], count: usize, place: usize) -> Option<usize>
+    requires { place ≤ length payload.now }
+    ensures some { IfSome result (λ end. Stretch text_items payload.now place end count) }
+    ensures within { IfSome result (λ end. end ≤ length payload.now) }
+{
+    let mut at = place;
+    let mut left = count;
+    while left > 0 {
+        let (some, end) = some_texts_end(payload, left, at)?;
+        at = end;
+        left -= some;
+    }
+    Some(at)
+}
+
 impl<'a> Ends for TextRef<'a> {
-    fn end_at(payload: &[u8], place: usize) -> Option<usize>
+    fn find<V: Verdict>(payload: &[u8], place: usize) -> Result<usize, V>
         requires { place ≤ length payload.now }
-        ensures some { IfSome result (λ end. EndsAt text_items payload.now place end) }
-        ensures within { IfSome result (λ end. end ≤ length payload.now) }
+        ensures exact { Judges V.tells result (items_at ustring.layout payload.now place) }
+        ensures within { IfOk result (λ end. end ≤ length payload.now) }
     {
-        end_of::<TextRef<'_>>(payload, place)
+        V::behind(text_at::<false>(payload, place))
     }
 
-    fn ends_at(payload: &[u8], count: usize, place: usize) -> Option<usize>
+    fn find_all<V: Verdict>(payload: &[u8], count: usize, place: usize) -> Result<usize, V>
         requires { place ≤ length payload.now }
-        ensures some { IfSome result (λ end. Stretch text_items payload.now place end count) }
-        ensures within { IfSome result (λ end. end ≤ length payload.now) }
+        ensures exact { Judges V.tells result (times_at (items_at ustring.layout payload.now) count place) }
+        ensures within { IfOk result (λ end. end ≤ length payload.now) }
     {
         if count == 1 {
-            return Self::end_at(payload, place);
+            return Self::find(payload, place);
         }
-        let mut at = place;
-        let mut left = count;
-        while left > 0 {
-            let (some, end) = some_texts_end(payload, left, at)?;
-            at = end;
-            left -= some;
+        // One look may stand for many texts; each is looked at alone where a fault is sought.
+        if let Some(end) = all_texts_end(payload, count, place) {
+            return Ok(end);
         }
-        Some(at)
+        match V::silent() {
+            Some(verdict) => Err(verdict),
+            None => V::on(elements_end::<Payload<'_>, TextRef<'_>>(
+                &Payload { bytes: payload },
+                count,
+                place,
+            )),
+        }
     }
 }
 
 impl<'a, R: Element + Ends> Ends for Series<'a, R> {
-    fn end_at(payload: &[u8], place: usize) -> Option<usize>
+    fn find<V: Verdict>(payload: &[u8], place: usize) -> Result<usize, V>
         requires { place ≤ length payload.now }
-        ensures some { IfSome result (λ end. EndsAt (list_items R.wired.items) payload.now place end) }
-        ensures within { IfSome result (λ end. end ≤ length payload.now) }
+        ensures exact { Judges V.tells result (items_at (vector R.wired).layout payload.now place) }
+        ensures within { IfOk result (λ end. end ≤ length payload.now) }
     {
-        match size_at(payload, place) {
-            Ok((None, start)) => Some(start),
-            Ok((Some(count), start)) => R::ends_at(payload, count, start),
-            Err(_) => None,
+        let (count, start) = V::on(size_at(payload, place))?;
+        match count {
+            None => Ok(start),
+            Some(count) => R::find_all::<V>(payload, count, start),
         }
     }
 }

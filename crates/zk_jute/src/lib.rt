@@ -7,7 +7,8 @@
 //! - `Wire::read` reads an owned value, and `read_ref` one that borrows its texts, blobs and lists from the payload.
 //!   Both run the same code, `Decode::decode`, over an `Origin`: `Kept` (copies), `Payload` (borrows) or `KnownPayload`
 //!   (borrows from what is already judged, without judging it again).
-//! - `Ends::end_at` finds where a value ends in a payload, and makes no value.
+//! - `Ends::end` judges whether a value is at a place of a payload, finds where it ends, and makes no value. Its `Verdict`
+//!   is what it returns of a fault: an `ItemFault`, or `Undecided`, which costs nothing.
 //! - `Spell::write` writes a value; `Spell::size_within` counts its bytes.
 //! - A payload that is refused has an `ItemFault`: the first byte that no value has there, and the reason.
 //!
@@ -37,8 +38,9 @@
 //!
 //! **What is known to be in a payload is not judged again.** `PayloadOf<'a, KNOWN>` is judged as `Payload<'a>`; of
 //! `KnownPayload<'a>` it is known what is there. A parser's condition is empty for the first, and for the second that a
-//! value is at the place. So the characters of a text are not looked at, and `unwrap` tests nothing. What a frame
-//! shows, iterators over lists, parts and results, and the walk over a multi's parts read this way.
+//! value is at the place. So the bytes that are left for a number or a length are not counted, nor the characters of a
+//! text looked at. What a frame shows, iterators over lists, parts and results, and the walk over a multi's parts read
+//! this way, by `known_at`, whose contract has no fault.
 //!
 //! **A borrowed list is a place and a count.** Its value is computed from the bytes (`Element`). That all elements are
 //! there is its invariant, so `count` is exact.
@@ -70,10 +72,11 @@ mod shown;
 mod text;
 mod utf8;
 mod value;
+mod verdict;
 mod wire;
 
 pub use at::{known_at, scan};
-pub use decode::{Decode, Form, end_of, read_ref};
+pub use decode::{Decode, Form, read_ref};
 pub use ends::Ends;
 pub use fault::{ItemFault, Reason, reason_name};
 pub use left::{Left, Lent};
@@ -85,4 +88,5 @@ pub use series::{Element, Elements, Series, TextList, known_list};
 pub use value::{
     Blob, BlobRef, Bytes, BytesRef, Chars, CharsRef, Items, List, Nullable, Text, TextRef,
 };
+pub use verdict::{Undecided, Verdict};
 pub use wire::{Spell, Wire, laws};

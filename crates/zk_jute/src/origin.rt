@@ -1,8 +1,7 @@
 //! `Origin`: a payload that values are read from, borrowed or copied.
-ghost use Rattle.std.specs.Prelude.{◌≡◌, ℕ, Bool, true, false, List, IsOk};
+ghost use Rattle.std.specs.Prelude.{◌≡◌, ◌↔◌, ◌+◌, ◌≤◌, ℕ, Bool, true, false, List, length, IsTrue};
 ghost use Rattle.zk_jute.specs.Standing.{Known};
 
-use crate::fault::ItemFault;
 use std::alloc::Global;
 
 /// A payload that values are read from.
@@ -20,10 +19,11 @@ pub trait Origin: Sized {
     fn payload(&self) -> &[u8]
         ensures { result.now ≡ payload self.now };
 
-    /// The result of reading; an `Ok` that is known beforehand is unwrapped without a test.
-    fn given<T>(answer: Result<T, ItemFault>) -> Result<T, ItemFault>
-        requires { Known knows (IsOk answer) }
-        ensures { result ≡ answer };
+    /// Whether `size` bytes are left at `place`. Where that is known beforehand nothing is tested.
+    fn has(&self, place: usize, size: usize) -> bool
+        requires place { place ≤ length (payload self.now) }
+        requires known { Known knows (place + size ≤ length (payload self.now)) }
+        ensures { IsTrue result ↔ (place + size ≤ length (payload self.now)) };
 }
 
 /// A payload that values are borrowed from; reading allocates nothing. Its bytes are judged, or they are `KNOWN` to be
@@ -53,11 +53,12 @@ impl<'a, const KNOWN: bool> Origin for PayloadOf<'a, KNOWN> {
     }
 
     #[inline(always)]
-    fn given<T>(answer: Result<T, ItemFault>) -> Result<T, ItemFault>
-        requires { Known KNOWN (IsOk answer) }
-        ensures { result ≡ answer }
+    fn has(&self, place: usize, size: usize) -> bool
+        requires place { place ≤ length self.now.bytes.now }
+        requires known { Known KNOWN (place + size ≤ length self.now.bytes.now) }
+        ensures { IsTrue result ↔ (place + size ≤ length self.now.bytes.now) }
     {
-        if KNOWN { Ok(answer.unwrap()) } else { answer }
+        KNOWN || self.bytes.len() - place >= size
     }
 }
 
@@ -84,10 +85,11 @@ impl<'a> Origin for Kept<'a> {
     }
 
     #[inline(always)]
-    fn given<T>(answer: Result<T, ItemFault>) -> Result<T, ItemFault>
-        requires { Known false (IsOk answer) }
-        ensures { result ≡ answer }
+    fn has(&self, place: usize, size: usize) -> bool
+        requires place { place ≤ length self.now.bytes.now }
+        requires known { Known false (place + size ≤ length self.now.bytes.now) }
+        ensures { IsTrue result ↔ (place + size ≤ length self.now.bytes.now) }
     {
-        answer
+        self.bytes.len() - place >= size
     }
 }

@@ -14,7 +14,7 @@ ghost use Rattle.zk_jute.specs.Shown.{AllStand, IsNull, count_of, elements_of, l
 use crate::decode::{Decode, Form};
 use crate::fault::ItemFault;
 use crate::origin::{KnownPayload, Origin, PayloadOf};
-use crate::run::size_at;
+use crate::run::length_at;
 use crate::value::TextRef;
 use std::marker::{Model, PhantomData};
 
@@ -163,13 +163,13 @@ pub fn known_list<'a, R: Element>(payload: &'a [u8], place: usize) -> Series<'a,
     requires stands { OneStands (list_items R.wired.items) payload.now place }
     ensures { (v : Vector R) (end : ℕ) → HaveBytes (list_items R.wired.items v) → StandsAt (list_items R.wired.items v) payload.now place end → result ≡ v }
 {
-    let (count, start) = size_at(payload, place).unwrap();
+    let (count, start) = length_at::<true>(payload, place).unwrap();
     lying(payload, count, start)
 }
 
 #[tactic(auto, using(crate::proofs::Loops::scanning_goes_on, crate::proofs::Loops::scanning_ends))]
 /// The place after `count` elements of `src`, the first of them at `place`.
-fn elements_end<P: Origin, R: Decode<P>>(
+pub(crate) fn elements_end<P: Origin, R: Decode<P>>(
     src: &P,
     count: usize,
     place: usize,
@@ -197,7 +197,7 @@ impl<'a, const KNOWN: bool, R: Element + Decode<PayloadOf<'a, KNOWN>>> Decode<Pa
     #[tactic(auto, using(crate::proofs::Fields::list_none, crate::proofs::Fields::list_fails, crate::proofs::Fields::list_refused, crate::proofs::Fields::elements_fail, crate::proofs::Lists::elements_refuse))]
     #[inline(always)]
     fn decode(src: &PayloadOf<'a, KNOWN>, place: usize) -> Result<(Self, usize), ItemFault> {
-        let (count, start) = PayloadOf::<KNOWN>::given(size_at(src.bytes, place))?;
+        let (count, start) = length_at::<KNOWN>(src.bytes, place)?;
         match count {
             None => Ok((lying(src.bytes, None, start), start)),
             Some(count) => {

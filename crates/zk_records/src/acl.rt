@@ -6,7 +6,8 @@ ghost use Rattle.zk_records.specs.Shown.{acl_value, acl_is_value};
 use crate::fields::{decode, ends, held, pairs};
 use crate::fields_of;
 use zk_jute::{
-    Decode, Element, Ends, Form, ItemFault, Origin, Output, Series, Spell, Text, TextRef, Wire,
+    Decode, Element, Ends, Form, ItemFault, Origin, Output, Series, Spell, Text, TextRef, Verdict,
+    Wire,
 };
 
 /// Someone under a scheme of authentication: `Id`.
@@ -44,7 +45,7 @@ impl<P: Origin, T: Decode<P>> Decode<P> for IdOf<T> {
 
 impl<T: Ends> Ends for IdOf<T> {
     #[inline(always)]
-    fn end_at(payload: &[u8], place: usize) -> Option<usize> {
+    fn find<V: Verdict>(payload: &[u8], place: usize) -> Result<usize, V> {
         fields_of!(Id, ends, payload, place)
     }
 }
@@ -88,7 +89,7 @@ impl<P: Origin, W: Decode<P>> Decode<P> for AclOf<W> {
 
 impl<W: Ends> Ends for AclOf<W> {
     #[inline(always)]
-    fn end_at(payload: &[u8], place: usize) -> Option<usize> {
+    fn find<V: Verdict>(payload: &[u8], place: usize) -> Result<usize, V> {
         fields_of!(Acl, ends, payload, place)
     }
 }

@@ -9,7 +9,8 @@ use crate::acl::{Acl, AclList};
 use crate::fields::{decode, ends, held, pairs};
 use crate::fields_of;
 use zk_jute::{
-    Blob, BlobRef, Decode, Ends, Form, ItemFault, List, Origin, Output, Spell, Text, TextRef, Wire,
+    Blob, BlobRef, Decode, Ends, Form, ItemFault, List, Origin, Output, Spell, Text, TextRef,
+    Verdict, Wire,
 };
 
 /// Creates a node: `CreateRequest`.
@@ -52,7 +53,7 @@ impl<P: Origin, T: Decode<P>, B: Decode<P>, A: Decode<P>> Decode<P> for CreateAs
 
 impl<T: Ends, B: Ends, A: Ends> Ends for CreateAskOf<T, B, A> {
     #[inline(always)]
-    fn end_at(payload: &[u8], place: usize) -> Option<usize> {
+    fn find<V: Verdict>(payload: &[u8], place: usize) -> Result<usize, V> {
         fields_of!(CreateAsk, ends, payload, place)
     }
 }
@@ -97,7 +98,7 @@ impl<P: Origin, T: Decode<P>> Decode<P> for DeleteAskOf<T> {
 
 impl<T: Ends> Ends for DeleteAskOf<T> {
     #[inline(always)]
-    fn end_at(payload: &[u8], place: usize) -> Option<usize> {
+    fn find<V: Verdict>(payload: &[u8], place: usize) -> Result<usize, V> {
         fields_of!(DeleteAsk, ends, payload, place)
     }
 }
@@ -144,7 +145,7 @@ impl<P: Origin, T: Decode<P>, B: Decode<P>> Decode<P> for SetDataAskOf<T, B> {
 
 impl<T: Ends, B: Ends> Ends for SetDataAskOf<T, B> {
     #[inline(always)]
-    fn end_at(payload: &[u8], place: usize) -> Option<usize> {
+    fn find<V: Verdict>(payload: &[u8], place: usize) -> Result<usize, V> {
         fields_of!(SetDataAsk, ends, payload, place)
     }
 }
@@ -191,7 +192,7 @@ impl<P: Origin, T: Decode<P>, A: Decode<P>> Decode<P> for SetAclAskOf<T, A> {
 
 impl<T: Ends, A: Ends> Ends for SetAclAskOf<T, A> {
     #[inline(always)]
-    fn end_at(payload: &[u8], place: usize) -> Option<usize> {
+    fn find<V: Verdict>(payload: &[u8], place: usize) -> Result<usize, V> {
         fields_of!(SetAclAsk, ends, payload, place)
     }
 }
@@ -236,7 +237,7 @@ impl<P: Origin, T: Decode<P>> Decode<P> for CheckAskOf<T> {
 
 impl<T: Ends> Ends for CheckAskOf<T> {
     #[inline(always)]
-    fn end_at(payload: &[u8], place: usize) -> Option<usize> {
+    fn find<V: Verdict>(payload: &[u8], place: usize) -> Result<usize, V> {
         fields_of!(CheckAsk, ends, payload, place)
     }
 }

@@ -10,7 +10,7 @@ use crate::fields_of;
 use crate::stat::Stat;
 use zk_jute::{
     Blob, BlobRef, Decode, Ends, Form, ItemFault, List, Origin, Output, Spell, Text, TextList,
-    TextRef, Wire,
+    TextRef, Verdict, Wire,
 };
 
 /// A node's data, and its `Stat`: `GetDataResponse`.
@@ -49,7 +49,7 @@ impl<P: Origin, B: Decode<P>> Decode<P> for DataBodyOf<B> {
 
 impl<B: Ends> Ends for DataBodyOf<B> {
     #[inline(always)]
-    fn end_at(payload: &[u8], place: usize) -> Option<usize> {
+    fn find<V: Verdict>(payload: &[u8], place: usize) -> Result<usize, V> {
         fields_of!(DataBody, ends, payload, place)
     }
 }
@@ -94,7 +94,7 @@ impl<P: Origin, A: Decode<P>> Decode<P> for AclBodyOf<A> {
 
 impl<A: Ends> Ends for AclBodyOf<A> {
     #[inline(always)]
-    fn end_at(payload: &[u8], place: usize) -> Option<usize> {
+    fn find<V: Verdict>(payload: &[u8], place: usize) -> Result<usize, V> {
         fields_of!(AclBody, ends, payload, place)
     }
 }
@@ -139,7 +139,7 @@ impl<P: Origin, L: Decode<P>> Decode<P> for ChildrenBodyOf<L> {
 
 impl<L: Ends> Ends for ChildrenBodyOf<L> {
     #[inline(always)]
-    fn end_at(payload: &[u8], place: usize) -> Option<usize> {
+    fn find<V: Verdict>(payload: &[u8], place: usize) -> Result<usize, V> {
         fields_of!(ChildrenBody, ends, payload, place)
     }
 }
@@ -184,7 +184,7 @@ impl<P: Origin, T: Decode<P>> Decode<P> for CreateBodyOf<T> {
 
 impl<T: Ends> Ends for CreateBodyOf<T> {
     #[inline(always)]
-    fn end_at(payload: &[u8], place: usize) -> Option<usize> {
+    fn find<V: Verdict>(payload: &[u8], place: usize) -> Result<usize, V> {
         fields_of!(CreateBody, ends, payload, place)
     }
 }

@@ -4,7 +4,7 @@ ghost use Rattle.zk_records.specs.Records.{watcher_event, watcher_event_of};
 
 use crate::fields::{decode, ends, held, pairs};
 use crate::fields_of;
-use zk_jute::{Decode, Ends, Form, ItemFault, Origin, Output, Spell, Text, TextRef, Wire};
+use zk_jute::{Decode, Ends, Form, ItemFault, Origin, Output, Spell, Text, TextRef, Verdict, Wire};
 
 /// A change that a watch saw: `WatcherEvent`.
 #[derive(Debug, Drop)]
@@ -43,7 +43,7 @@ impl<P: Origin, T: Decode<P>> Decode<P> for WatcherEventOf<T> {
 
 impl<T: Ends> Ends for WatcherEventOf<T> {
     #[inline(always)]
-    fn end_at(payload: &[u8], place: usize) -> Option<usize> {
+    fn find<V: Verdict>(payload: &[u8], place: usize) -> Result<usize, V> {
         fields_of!(WatcherEvent, ends, payload, place)
     }
 }

@@ -117,10 +117,10 @@ macro_rules! decode {
     };
 }
 
-/// The body of `end_at`: `fields_of!(R, ends, payload, place)`.
+/// The body of `find`: `fields_of!(R, ends, payload, place)`.
 macro_rules! ends {
     ($payload:ident, $place:ident: $($fields:tt)+) => {
-        <pairs!(type: $($fields)+) as Ends>::end_at($payload, $place)
+        <pairs!(type: $($fields)+) as Ends>::find::<V>($payload, $place)
     };
 }
 

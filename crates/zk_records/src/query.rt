@@ -7,7 +7,7 @@ ghost use Rattle.zk_records.specs.Records.{watch_ask, path_ask, watch_ask_of, pa
 
 use crate::fields::{decode, ends, held, pairs};
 use crate::fields_of;
-use zk_jute::{Decode, Ends, Form, ItemFault, Origin, Output, Spell, Text, TextRef, Wire};
+use zk_jute::{Decode, Ends, Form, ItemFault, Origin, Output, Spell, Text, TextRef, Verdict, Wire};
 
 /// Looks at a node, and may set a watch: `ExistsRequest`, `GetDataRequest`, `GetChildrenRequest` and
 /// `GetChildren2Request`.
@@ -46,7 +46,7 @@ impl<P: Origin, T: Decode<P>> Decode<P> for WatchAskOf<T> {
 
 impl<T: Ends> Ends for WatchAskOf<T> {
     #[inline(always)]
-    fn end_at(payload: &[u8], place: usize) -> Option<usize> {
+    fn find<V: Verdict>(payload: &[u8], place: usize) -> Result<usize, V> {
         fields_of!(WatchAsk, ends, payload, place)
     }
 }
@@ -89,7 +89,7 @@ impl<P: Origin, T: Decode<P>> Decode<P> for PathAskOf<T> {
 
 impl<T: Ends> Ends for PathAskOf<T> {
     #[inline(always)]
-    fn end_at(payload: &[u8], place: usize) -> Option<usize> {
+    fn find<V: Verdict>(payload: &[u8], place: usize) -> Result<usize, V> {
         fields_of!(PathAsk, ends, payload, place)
     }
 }

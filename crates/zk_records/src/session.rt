@@ -6,7 +6,7 @@ use crate::fields::{decode, ends, held, pairs};
 use crate::fields_of;
 use zk_jute::{
     Blob, BlobRef, Decode, Ends, Form, ItemFault, List, Origin, Output, Spell, Text, TextList,
-    TextRef, Wire,
+    TextRef, Verdict, Wire,
 };
 
 /// Authenticates the client: `AuthPacket`.
@@ -46,7 +46,7 @@ impl<P: Origin, T: Decode<P>, B: Decode<P>> Decode<P> for AuthAskOf<T, B> {
 
 impl<T: Ends, B: Ends> Ends for AuthAskOf<T, B> {
     #[inline(always)]
-    fn end_at(payload: &[u8], place: usize) -> Option<usize> {
+    fn find<V: Verdict>(payload: &[u8], place: usize) -> Result<usize, V> {
         fields_of!(AuthAsk, ends, payload, place)
     }
 }
@@ -94,7 +94,7 @@ impl<P: Origin, L: Decode<P>> Decode<P> for SetWatchesAskOf<L> {
 
 impl<L: Ends> Ends for SetWatchesAskOf<L> {
     #[inline(always)]
-    fn end_at(payload: &[u8], place: usize) -> Option<usize> {
+    fn find<V: Verdict>(payload: &[u8], place: usize) -> Result<usize, V> {
         fields_of!(SetWatchesAsk, ends, payload, place)
     }
 }

@@ -2,9 +2,9 @@
 ghost use Rattle.std.specs.Prelude.{◌≡◌, refl};
 ghost use Rattle.zk_records.specs.Records.{stat};
 
-use crate::fields::{decode, pairs};
+use crate::fields::{decode, ends, held, pairs};
 use crate::fields_of;
-use zk_jute::{Decode, Ends, Form, ItemFault, Origin, Output, Spell, Wire};
+use zk_jute::{Decode, Ends, Form, ItemFault, Origin, Output, Spell, Verdict, Wire};
 
 /// What is known of a node: `Stat`, 68 bytes.
 #[derive(Clone, Copy, Debug)]
@@ -56,13 +56,17 @@ impl<P: Origin> Decode<P> for Stat {
 const SIZE: usize = 68;
 
 impl Ends for Stat {
-    /// Any 68 bytes are a `Stat`: one look at how many are left replaces reading the fields.
+    /// Any 68 bytes are a `Stat`: one look at how many are left replaces reading the fields, unless the place of a fault is
+    /// asked for.
     #[inline(always)]
-    fn end_at(payload: &[u8], place: usize) -> Option<usize> {
-        if payload.len() - place < SIZE {
-            return None;
+    fn find<V: Verdict>(payload: &[u8], place: usize) -> Result<usize, V> {
+        if payload.len() - place >= SIZE {
+            return Ok(place + SIZE);
         }
-        Some(place + SIZE)
+        match V::silent() {
+            Some(verdict) => Err(verdict),
+            None => fields_of!(Stat, ends, payload, place),
+        }
     }
 }
 

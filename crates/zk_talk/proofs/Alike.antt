@@ -37,7 +37,7 @@ use Rattle.zk_talk.specs.declared.message.MessageOf.TheVariants.{Client as FromC
 use Rattle.zk_talk.specs.declared.message.Kind.{Kind}
 use Rattle.zk_talk.specs.declared.message.Kind.TheVariants as kinds
 use Rattle.zk_talk.specs.Written.{IsWritten, kind_of}
-use Rattle.zk_talk.proofs.Payloads.{first_inj, ask_inj, event_inj, reply_inj}
+use Rattle.zk_talk.proofs.Payloads.{first_inj, ask_inj, connected_inj, event_inj, reply_inj}
 
 -- ---- the client's
 
@@ -146,3 +146,8 @@ pub event_known : (p : List ℕ) (s t : ServerFrame) → answers.IsEvent s → a
 event_known p s (Connected u y) event sent is w = let e : kinds.Connected ≡ kinds.Event = w.kind_is in absurd (cc)
 event_known p s (Answered q) event sent is w = let e : kinds.Answered (op_of_reply q) ≡ kinds.Event = w.kind_is in absurd (cc)
 event_known p s (Event z k) event sent is w = event_inj s (Event z k) event tt sent (tt, tt, w.have) (is ∙ sym w.is)
+
+pub connected_known : (p : List ℕ) (s t : ServerFrame) → answers.IsConnected s → answers.IsSent s → server_payload s ≡ p → IsWritten kinds.Connected p (FromServer t) → s ≡ t
+connected_known p s (Connected u y) first sent is w = connected_inj s (Connected u y) first tt sent (tt, tt, w.have) (is ∙ sym w.is)
+connected_known p s (Answered q) first sent is w = let e : kinds.Answered (op_of_reply q) ≡ kinds.Connected = w.kind_is in absurd (cc)
+connected_known p s (Event z k) first sent is w = let e : kinds.Event ≡ kinds.Connected = w.kind_is in absurd (cc)

@@ -1,79 +1,62 @@
 -- What a speaker knows of a message that it says by its kind and the bytes of its payload.
-use Rattle.std.proofs.Common.{◌≡◌, ℕ, ℤ, ◌≤◌, List, length, refl, sym, ap, ◌∙◌, subst, arith, Some, Bool, true}
-use Rattle.zk_records.specs.declared.op.Op.{Op}
+use Rattle.std.proofs.Common.{◌≡◌, ℕ, ◌≤◌, List, length, refl, sym, subst, arith, Bool, true, false, MatchBool}
+use Rattle.std.specs.Prelude.{Option}
+use Rattle.zk_records.specs.declared.profile.Profile.{Profile}
 use Rattle.zk_asks.specs.Held.{ClientFrame}
 use Rattle.zk_asks.specs.declared.frame.ClientFrameOf.TheVariants.{Connect, Ask}
-use Rattle.zk_asks.specs.Frames.{IsLater}
-use Rattle.zk_answers.specs.Held.{Reply, ServerFrame}
+use Rattle.zk_answers.specs.Held.{ServerFrame}
 use Rattle.zk_answers.specs.declared.frame.ServerFrameOf.TheVariants.{Connected, Answered, Event}
 use Rattle.zk_answers.specs.Frames as answers
-use Rattle.zk_waiting.specs.Lane.{lane_of}
-use Rattle.zk_waiting.specs.Waiting.{Lanes, IsDropped}
+use Rattle.zk_waiting.specs.declared.lane.Lane.{Lane}
+use Rattle.zk_waiting.specs.Waiting.{Lanes}
 use Rattle.zk_talk.specs.declared.limits.Limits.{Limits}
-use Rattle.zk_talk.specs.declared.replied.Replied.{Replied}
 use Rattle.zk_talk.specs.declared.message.Side.TheVariants.{Client, Server}
 use Rattle.zk_talk.specs.declared.message.MessageOf.TheVariants.{Client as FromClient, Server as FromServer}
 use Rattle.zk_talk.specs.declared.message.Kind.{Kind}
 use Rattle.zk_talk.specs.declared.message.Kind.TheVariants as kinds
 use Rattle.zk_talk.specs.Held.{Message}
-use Rattle.zk_talk.specs.Judged.{HasAsk, IsForgotten}
-use Rattle.zk_talk.specs.Settled.{IsAwaited, IsDueReply, IsDueOf}
+use Rattle.zk_talk.specs.Payloads.{server_payload}
+use Rattle.zk_talk.specs.Judged.{IsInTurn, IsDue, IsForgotten}
+use Rattle.zk_talk.specs.declared.replied.Replied.{Replied}
+use Rattle.zk_talk.specs.Settled.{IsAwaited, IsHeard}
 use Rattle.zk_talk.specs.Said.{SpeakerState, SaysClient, SaysServer, side_of}
 use Rattle.zk_talk.specs.Written.{IsWritten, SaysWritten, SaysClientWritten, SaysServerWritten, kind_of}
-use Rattle.zk_talk.proofs.Payloads.{server_is}
-use Rattle.zk_talk.proofs.Hearing.{described, some_spoken}
-use Rattle.zk_talk.proofs.Judging.{due_waits, event_may}
+use Rattle.zk_talk.proofs.Judging.{due_waits}
 use Rattle.zk_talk.proofs.Speaking.{ok_client, ok_server}
 use Rattle.zk_talk.proofs.SayingPayloads.{client_frame_said, server_frame_said}
-use Rattle.zk_talk.proofs.Alike.{client_known, reply_known, event_known}
+use Rattle.zk_talk.proofs.Alike.{client_known, reply_known, event_known, connected_known}
 
 -- ---- the client's
 
-module _ (limits : Limits) (w x : Lanes) (p : List ℕ) (room : w.max ≡ limits.waiting) (small : length p ≤ limits.client) where
-  pub ask_written : (f : ClientFrame) → IsAwaited limits.profile 1 0 p w x f → SaysClientWritten limits true kinds.Ask w p x
-  ask_written f a = λ g written.
-      let some : 1 ≡ 0 → ⊥ = (λ z. omega (arith, z)) in
-      subst (λ z. SaysClient limits true w z x) (client_known kinds.Ask p f g a.sent a.is (kind f (a.turn.1 some).0) written)
-      (client_frame_said limits true 1 refl w p f a.turn a.sent a.is x room small a.waits)
-    where
-      kind : (f : ClientFrame) → IsLater f → kind_of (FromClient f) ≡ kinds.Ask
-      kind (Connect t g) later = absurd later
-      kind (Ask xid ask) later = refl
+kind_now : (asked : Bool) (n : ℕ) → MatchBool asked (n ≡ 1) (n ≡ 0) → (kind : Kind) → MatchBool asked (kind ≡ kinds.Ask) (kind ≡ kinds.Connect) → (profile : Profile) (f : ClientFrame) → IsInTurn profile n f → kind_of (FromClient f) ≡ kind
+kind_now true n k kind is profile (Connect t g) turn = let some : n ≡ 0 → ⊥ = (λ z. omega (arith, k, z)) in absurd ((turn.1 some).0)
+kind_now true n k kind is profile (Ask xid ask) turn = sym is
+kind_now false n k kind is profile (Connect t g) turn = sym is
+kind_now false n k kind is profile (Ask xid ask) turn = absurd (turn.0 k)
+
+pub client_written : (limits : Limits) (asked : Bool) (n : ℕ) → MatchBool asked (n ≡ 1) (n ≡ 0) → (kind : Kind) → MatchBool asked (kind ≡ kinds.Ask) (kind ≡ kinds.Connect) → (w x : Lanes) (p : List ℕ) → w.max ≡ limits.waiting → length p ≤ limits.client
+    → (f : ClientFrame) → IsAwaited limits.profile n 0 p w x f → SaysClientWritten limits asked kind w p x
+client_written limits asked n k kind is w x p room small f a = λ g written.
+    subst (λ z. SaysClient limits asked w z x) (client_known kind p f g a.sent a.is (kind_now asked n k kind is limits.profile f a.turn) written)
+    (client_frame_said limits asked n k w p f a.turn a.sent a.is x room small a.waits)
 
 -- ---- the server's
 
-told_op : (told : Replied) (op : Op) (frame : ℕ) → Some told ≡ Some (record { op = op; frame = frame }) → told.op ≡ op
-told_op told op frame e = let same : told ≡ record { op = op; frame = frame } = cc in ap (λ (z : Replied). z.op) same
+server_known : (kind : Kind) (p : List ℕ) (w : Lanes) (s t : ServerFrame) → kind_of (FromServer s) ≡ kind → IsDue s w → answers.IsSent s → server_payload s ≡ p → IsWritten kind p (FromServer t) → s ≡ t
+server_known kind p w (Connected u y) t e due sent is written = connected_known p (Connected u y) t tt sent is (subst (λ (k : Kind). IsWritten k p (FromServer t)) (sym e) written)
+server_known kind p w (Event z k) t e due sent is written = event_known p (Event z k) t tt sent is (subst (λ (k : Kind). IsWritten k p (FromServer t)) (sym e) written)
+server_known kind p w (Answered r) t e due sent is written = known t (subst (λ (k : Kind). IsWritten k p (FromServer t)) (sym e) written)
+  where
+    known : (t : ServerFrame) → IsWritten (kinds.Answered (answers.op_of_reply r)) p (FromServer t) → Answered r ≡ t
+    known (Connected u y) written = let e : kinds.Connected ≡ kinds.Answered (answers.op_of_reply r) = written.kind_is in absurd (cc)
+    known (Event z k) written = let e : kinds.Event ≡ kinds.Answered (answers.op_of_reply r) = written.kind_is in absurd (cc)
+    known (Answered q) written = reply_known due.0.op due.0.parts p r q due.2 sent is written
 
-module _ (limits : Limits) (asked : Bool) (w x : Lanes) (p : List ℕ) (small : length p ≤ limits.server) where
-  pub answer_written : (op : Op) (xid : ℤ) (r : Reply) → IsDueOf op xid p w r → IsDropped (lane_of xid) w x → SaysServerWritten limits asked true (kinds.Answered op) w p x
-  answer_written op xid r k dropped = λ t written. known t (subst (λ (o : Op). IsWritten (kinds.Answered o) p (FromServer t)) (sym k.1 ∙ told_op k.0 (answers.op_of_reply r) d.told.0.frame d.told.2) written)
-    where
-      d : IsDueReply xid p k.0 w r
-      d = k.2
-
-      said : SaysServer limits asked true w (Answered r) x
-      said = (server_frame_said limits asked true w p (Answered r) d.is (λ v heard. d.may (length v.client) (length v.server) v (some_spoken true v.server heard.server refl) (described asked true w v heard)) x (due_waits w (Answered r) d.due) small (subst (λ (z : ℤ). IsDropped (lane_of z) w x) (sym d.xid) dropped))
-
-      known : (t : ServerFrame) → IsWritten (kinds.Answered (answers.op_of_reply r)) p (FromServer t) → SaysServer limits asked true w t x
-      known (Connected u y) written = let e : kinds.Connected ≡ kinds.Answered (answers.op_of_reply r) = written.kind_is in absurd (cc)
-      known (Event z k) written = let e : kinds.Event ≡ kinds.Answered (answers.op_of_reply r) = written.kind_is in absurd (cc)
-      known (Answered q) written = subst (λ t. SaysServer limits asked true w t x) (reply_known d.due.0.op d.due.0.parts p r q d.due.2 d.sent d.is written) said
-
-  pub event_written : (s : ServerFrame) → answers.IsEvent s → answers.IsSent s → p ≡ answers.payload s → x ≡ w → SaysServerWritten limits asked true kinds.Event w p x
-  event_written s event sent is same = λ t written.
-      subst (λ t. SaysServer limits asked true w t x) (event_known p s t event sent (server_is s p is) written)
-      (server_frame_said limits asked true w p s (server_is s p is) (λ v heard. event_may (length v.client) (length v.server) w v (described asked true w v heard) s (some_spoken true v.server heard.server refl) event sent) x (has s event) small (forgotten s event))
-    where
-      has : (s : ServerFrame) → answers.IsEvent s → HasAsk s w
-      has (Connected u y) event = absurd event
-      has (Answered q) event = absurd event
-      has (Event z k) event = tt
-
-      forgotten : (s : ServerFrame) → answers.IsEvent s → IsForgotten s w x
-      forgotten (Connected u y) event = absurd event
-      forgotten (Answered q) event = absurd event
-      forgotten (Event z k) event = same
+pub server_written : (limits : Limits) (asked welcomed : Bool) (w x : Lanes) (p : List ℕ) → length p ≤ limits.server → (kind : Kind) (answer : Option (Lane × Replied)) (s : ServerFrame) → IsHeard asked welcomed p w answer s
+    → kind_of (FromServer s) ≡ kind → IsForgotten s w x → SaysServerWritten limits asked welcomed kind w p x
+server_written limits asked welcomed w x p small kind answer s h is left = λ t written.
+    subst (λ t. SaysServer limits asked welcomed w t x) (server_known kind p w s t is h.due h.sent h.is written)
+    (server_frame_said limits asked welcomed w p s h.is h.may x (due_waits w s h.due) small left)
 
 -- ---- the speaker's
 

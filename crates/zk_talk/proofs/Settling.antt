@@ -1,51 +1,169 @@
--- What the quick way finds, as the exact way would.
-use Rattle.std.proofs.Common.{◌≡◌, ℕ, ◌+◌, ◌≤◌, List, length, refl, sym, ap, subst, arith}
-use Rattle.std.specs.Prelude.{ℤ, Option, Some, None, slice_get, Result, Ok, Err, IsOk, OnOk}
-use Rattle.std.proofs.lemmas.Bool.{false≢true}
+-- What is judged of a payload is so of the frame that has it.
+use Rattle.std.proofs.Common.{w32, FitsSigned, ◌≡◌, ◌≢◌, ℕ, ◌<◌, ◌^◌, List, length, refl, sym, ap, ◌∙◌, subst, arith, Bool, true, false, MatchBool, IsTrue}
+use Rattle.std.specs.Prelude.{ℤ, ◌≤◌, ◌+◌, [], map, Option, Some, None, Result, Ok, Err, IsOk, OnOk, IfErr, slice_get}
+use Rattle.zk_jute.specs.declared.fault.ItemFault.{ItemFault}
+use Rattle.zk_jute.specs.declared.fault.Reason.TheVariants.{NoMemory, QueueFull}
+use Rattle.zk_jute.specs.Verdict.{Says}
+use Rattle.zk_jute.proofs.Judged.{says_more}
 use Rattle.zk_records.specs.declared.op.Op.{Op}
+use Rattle.zk_records.specs.declared.op.Op.TheVariants as ops
 use Rattle.zk_records.specs.declared.op.PartOp.{PartOp}
 use Rattle.zk_records.specs.declared.header.ReplyHeader.{ReplyHeader}
 use Rattle.zk_records.specs.declared.profile.Profile.{Profile}
-use Rattle.zk_records.specs.Codes.{HasOp}
+use Rattle.zk_asks.specs.Held as A
 use Rattle.zk_asks.specs.Held.{ClientFrame}
 use Rattle.zk_asks.specs.declared.frame.ClientFrameOf.TheVariants.{Connect, Ask}
+use Rattle.zk_asks.specs.declared.judge.Outline.{Outline}
+use Rattle.zk_asks.specs.Codes.{IsAllowed}
+use Rattle.zk_asks.specs.Fronts.{IsOutlined, IsMultiOf, outline_of, asking_of}
+use Rattle.zk_asks.specs.Parts.{op_of_part}
+use Rattle.zk_asks.proofs.Judged.{AsksFor, a_multi, judged_xid}
 use Rattle.zk_asks.specs.Rows.{op_of_ask}
-use Rattle.zk_asks.specs.Fronts.{IsAsked}
+use Rattle.zk_asks.specs.Frames.{IsFirst, ops_of_ask, others_have_none}
+use Rattle.zk_asks.specs.Frames as asks
 use Rattle.zk_answers.specs.Held.{Outcome, Reply, ServerFrame}
 use Rattle.zk_answers.specs.declared.frame.OutcomeOf.TheVariants as outcome
 use Rattle.zk_answers.specs.declared.frame.ServerFrameOf.TheVariants.{Connected, Answered, Event}
 use Rattle.zk_answers.specs.Faults.{IsHead}
 use Rattle.zk_answers.specs.Frames as answers
 use Rattle.zk_answers.specs.Fronts.{IsReplyUnder}
+use Rattle.zk_waiting.specs.declared.lane.Lane.{Lane}
 use Rattle.zk_waiting.specs.Lane.{lane_of}
-use Rattle.zk_waiting.specs.Waiting.{Lanes, Request, queue_on, weight_of, IsPut, IsDropped}
+use Rattle.zk_waiting.specs.Waiting.{Lanes, Request, queue_on, weight_of, IsPut, IsPutFault}
+use Rattle.zk_waiting.specs.declared.waiting.PutFault.{PutFault}
+use Rattle.zk_waiting.specs.declared.waiting.PutFault.TheVariants as put
+use Rattle.zk_talk.specs.Payloads.{client_payload}
+use Rattle.zk_talk.specs.Conversation.{ClientMay}
+use Rattle.zk_talk.specs.Judged.{IsInTurn, TellsClient, HasRoomFor, IsNumbered, IsForgotten, TellsReplied}
 use Rattle.zk_talk.specs.declared.replied.Replied.{Replied}
-use Rattle.zk_talk.specs.Judged.{HasRoomFor, IsNumbered}
-use Rattle.zk_talk.specs.Settled.{IsAwaited, IsDueReply, IsSettled}
-use Rattle.zk_talk.proofs.Payloads.{client_is, server_is}
+use Rattle.zk_talk.specs.Settled.{IsAsking, IsComing, IsDueReply, IsHeard, IsExpected, IsSettled, Answers, replied_of}
+use Rattle.zk_talk.proofs.Payloads.{client_is, server_is, few_parts}
 use Rattle.zk_talk.proofs.Judging as J
+use Rattle.zk_talk.proofs.Hearing.{described, none_spoken, some_spoken, turn_later, turn_first, no_welcome, hears, turned}
 
--- what holds of each value holds where there is one
-pub of_ok : {X E P : Type 0} (r : Result X E) → IsOk r → OnOk r P → P
-of_ok (Ok x) is k = k
-of_ok (Err e) is k = absurd (false≢true is)
+pub not_false : (b : Bool) → (b ≡ false → ⊥) → IsTrue b
+not_false true n = refl
+not_false false n = absurd (n refl)
 
--- ---- a request
+-- what holds wherever there is a value
+pub on_ok : {X E P : Type 0} (r : Result X E) → (IsOk r → P) → OnOk r P
+on_ok (Ok x) k = k refl
+on_ok (Err e) k = tt
 
-module _ (profile : Profile) (count number : ℕ) (p : List ℕ) (old new : Lanes) where
-  pub asked_awaited : (xid : ℤ) (op : Op) (parts : List PartOp) → (count ≡ 0 → ⊥) → IsAsked profile xid op parts p → weight_of old + (1 + length parts) ≤ old.max → IsPut (lane_of xid) (record { xid = xid; op = op; parts = parts; frame = number }) old new
-      → (f : ClientFrame) × IsAwaited profile count number p old new f
-  asked_awaited xid op parts later k fits put =
-      let a = k.1.0 in
-      let named = subst (λ (o : Op). IsPut (lane_of xid) (record { xid = xid; op = o; parts = parts; frame = number }) old new) (sym k.1.1) put in (
-        Ask xid a,
-        record {
-          turn = ((λ z. absurd (later z)), (λ n. (tt, subst (λ (o : Op). HasOp profile o) (sym k.1.1) k.0)));
-          sent = k.1.3;
-          is = client_is (Ask xid a) p k.1.4;
-          waits = (omega (arith, fits, ap length k.1.2), subst (λ (ps : List PartOp). IsPut (lane_of xid) (record { xid = xid; op = op_of_ask a; parts = ps; frame = number }) old new) (sym k.1.2) named);
-        },
+-- what a verdict says of more, of a result
+pub errs_more : {V X : Type 0} (tells : V → Option ItemFault) (P Q : ItemFault → Type 0) → ((e : ItemFault) → P e → Q e) → (r : Result X V) → IfErr r (Says tells P) → IfErr r (Says tells Q)
+errs_more tells P Q more (Ok x) h = tt
+errs_more tells P Q more (Err v) h = says_more tells P Q more v h
+
+-- ---- a client's frame
+
+first_asks : (f : ClientFrame) → IsFirst f → asking_of f ≡ None
+first_asks (Connect hello read_only) first = refl
+first_asks (Ask xid ask) first = absurd first
+
+module _ (profile : Profile) (count : ℕ) (p : List ℕ) where
+  pub connect_comes : count ≡ 0 → (f : ClientFrame) → IsFirst f → asks.IsSent f → p ≡ asks.payload f → IsComing profile count p None f
+  connect_comes z f first sent is = record { turn = ((λ _. first), (λ n. absurd (n z))); sent = sent; is = client_is f p is; asks = first_asks f first }
+
+  pub ask_comes : (of : Outline) → (count ≡ 0 → ⊥) → IsOutlined profile of p → (f : ClientFrame) × IsComing profile count p (Some of) f
+  ask_comes of later k = (
+    Ask of.xid k.0,
+    record {
+      turn = ((λ z. absurd (later z)), (λ n. (tt, k.1)));
+      sent = k.3;
+      is = client_is (Ask of.xid k.0) p k.4;
+      asks = ap Some k.2;
+    },
+  )
+
+  -- there is no room for the frame
+  pub full_told : (w : Lanes) (f : ClientFrame) → IsInTurn profile count f → asks.IsSent f → client_payload f ≡ p → (HasRoomFor f w → ⊥)
+      → (QueueFull ≢ NoMemory) × TellsClient profile count w p (record { place = 0; reason = QueueFull })
+  full_told w f turn sent is none =
+      let full = J.no_room f w none in (
+        (λ e. cc),
+        λ limits m v q o d.
+            J.put_refused count m w v d limits p f (record { place = 0; reason = QueueFull }) q (subst (λ z. ClientMay z v.client f) (sym o) (J.in_turn count m w v d profile f turn sent)) is (full.0, refl, full.1),
       )
+
+-- ---- what is asked waits
+
+abbrev pub asking : (profile : Profile) (count : ℕ) (p : List ℕ) (asked : Option Outline) (f : ClientFrame) → IsComing profile count p asked f → IsAsking asked p f
+asking profile count p asked f k = (k.asks, k.sent, k.is)
+
+pub none_room : (f : ClientFrame) (w : Lanes) → asking_of f ≡ None → HasRoomFor f w
+none_room (Connect hello read_only) w e = tt
+none_room (Ask xid ask) w e = absurd cc
+
+pub none_put : (number : ℕ) (f : ClientFrame) (w : Lanes) → asking_of f ≡ None → IsNumbered number f w w
+none_put number (Connect hello read_only) w e = refl
+none_put number (Ask xid ask) w e = absurd cc
+
+pub put_full : (e : PutFault) (weight max : ℕ) → IsPutFault e weight max → max < weight
+put_full put.QueueFull weight max h = h
+
+-- these are the operations of the request's parts
+abbrev pub HasParts : List PartOp → ClientFrame → Type 0
+HasParts ps (Connect hello read_only) = Unit {0}
+HasParts ps (Ask xid ask) = ops_of_ask ask ≡ ps
+
+pub bytes_of_it : (f : ClientFrame) (p : List ℕ) → client_payload f ≡ p → p ≡ asks.payload f
+unfolding client_payload
+bytes_of_it f p e = sym e
+
+pub judged_as : (asked : Option Outline) (p : List ℕ) (f : ClientFrame) → IsAsking asked p f → AsksFor asked p f
+judged_as asked p f k = (k.0, k.1, bytes_of_it f p k.2)
+
+module _ (of : Outline) where
+  outline_is : (xid : ℤ) (ask : A.Ask) → asking_of (Ask xid ask) ≡ Some of → outline_of xid ask ≡ of
+  outline_is xid ask e = cc
+
+  module _ (ps : List PartOp) (w : Lanes) where
+    pub room_to : (f : ClientFrame) → asking_of f ≡ Some of → HasParts ps f → weight_of w + (1 + length ps) ≤ w.max → HasRoomFor f w
+    room_to (Connect hello read_only) e parts fits = absurd cc
+    room_to (Ask xid ask) e parts fits = omega (arith, fits, ap length parts)
+
+    pub room_from : (f : ClientFrame) → asking_of f ≡ Some of → HasParts ps f → HasRoomFor f w → weight_of w + (1 + length ps) ≤ w.max
+    room_from (Connect hello read_only) e parts room = absurd cc
+    room_from (Ask xid ask) e parts room = omega (arith, room, ap length parts)
+
+    pub put_to : (number : ℕ) (new : Lanes) (op : Op) → op ≡ of.op → (f : ClientFrame) → asking_of f ≡ Some of → HasParts ps f → weight_of w + (1 + length ps) ≤ w.max
+        → IsPut (lane_of of.xid) (record { xid = of.xid; op = op; parts = ps; frame = number }) w new → IsNumbered number f w new
+    put_to number new op is (Connect hello read_only) e parts fits put = absurd cc
+    put_to number new op is (Ask xid ask) e parts fits put =
+        let same = outline_is xid ask e in
+        let id : xid ≡ of.xid = ap (λ (o : Outline). o.xid) same in
+        let named : op_of_ask ask ≡ op = ap (λ (o : Outline). o.op) same ∙ sym is in
+        let one = subst (λ (o : Op). IsPut (lane_of of.xid) (record { xid = of.xid; op = o; parts = ps; frame = number }) w new) (sym named) put in
+        let two = subst (λ (qs : List PartOp). IsPut (lane_of of.xid) (record { xid = of.xid; op = op_of_ask ask; parts = qs; frame = number }) w new) (sym parts) one in
+        (omega (arith, fits, ap length parts), subst (λ (z : ℤ). IsPut (lane_of z) (record { xid = z; op = op_of_ask ask; parts = ops_of_ask ask; frame = number }) w new) (sym id) two)
+
+  pub has_none : of.op ≢ ops.Multi → (f : ClientFrame) → asking_of f ≡ Some of → HasParts [] f
+  has_none other (Connect hello read_only) e = tt
+  has_none other (Ask xid ask) e = others_have_none ask (λ m. other (sym (ap (λ (o : Outline). o.op) (outline_is xid ask e)) ∙ m))
+
+  module _ (p : List ℕ) where
+    pub may_ask : (f : ClientFrame) → IsAsking (Some of) p f → IsAllowed of.xid of.op
+    may_ask (Connect hello read_only) k = let e = k.0 in absurd cc
+    may_ask (Ask xid ask) k =
+        let same = outline_is xid ask k.0 in
+        subst (λ (z : ℤ). IsAllowed z of.op) (ap (λ (o : Outline). o.xid) same) (subst (λ (o : Op). IsAllowed xid o) (ap (λ (o : Outline). o.op) same) k.1.0)
+
+    pub fits_asked : (f : ClientFrame) → IsAsking (Some of) p f → FitsSigned w32 of.xid
+    fits_asked f k = judged_xid p of f (judged_as (Some of) p f k)
+
+    pub few_asked : (f : ClientFrame) → IsAsking (Some of) p f → length p < 2 ^ 32 → of.parts < 2 ^ 32
+    few_asked (Connect hello read_only) k small = let e = k.0 in absurd cc
+    few_asked (Ask xid ask) k small = omega (arith, small, few_parts xid ask, ap length k.2, ap (λ (o : Outline). o.parts) (outline_is xid ask k.0))
+
+    module _ (multi : of.op ≡ ops.Multi) where
+      pub multi_asked : (f : ClientFrame) → IsAsking (Some of) p f → (xid : ℤ) × (ds : List A.Part) × IsMultiOf xid ds p × (length ds ≡ of.parts)
+      multi_asked f k = let m = a_multi p of multi f (judged_as (Some of) p f k) in (of.xid, m.0, m.2, m.3)
+
+      pub has_these : (list : List A.Part) → ((xid : ℤ) (ds : List A.Part) → IsMultiOf xid ds p → list ≡ ds) → (f : ClientFrame) → IsAsking (Some of) p f → HasParts (map op_of_part list) f
+      has_these list only f k =
+          let m = a_multi p of multi f (judged_as (Some of) p f k) in
+          subst (HasParts (map op_of_part list)) (sym m.1) (ap (map op_of_part) (sym (only of.xid m.0 m.2)))
 
 pub room_before : (number : ℕ) (f : ClientFrame) (old new : Lanes) → IsNumbered number f old new → HasRoomFor f old
 room_before number (Connect hello read_only) old new waits = tt
@@ -77,33 +195,79 @@ module _ (w : Lanes) (p : List ℕ) (header : ReplyHeader) (rest : List ℕ) (h 
         },
       )
 
-module _ (count : ℕ) (p : List ℕ) (request : Replied) (old new : Lanes) where
-  pub reply_settled : (xid : ℤ) → (count ≡ 0 → ⊥) → (q : Reply) × IsDueReply xid p request old q → IsDropped (lane_of xid) old new → (s : ServerFrame) × IsSettled count p (Some request) old new s
-  reply_settled xid later k dropped =
+-- ---- a server's frame
+
+no_answer : (s : ServerFrame) (w : Lanes) → answers.IsEvent s → Answers s w None
+no_answer (Connected hello read_only) w event = refl
+no_answer (Answered reply) w event = absurd event
+no_answer (Event zxid change) w event = refl
+
+no_answer_yet : (s : ServerFrame) (w : Lanes) → answers.IsConnected s → Answers s w None
+no_answer_yet (Connected hello read_only) w first = refl
+no_answer_yet (Answered reply) w first = absurd first
+no_answer_yet (Event zxid change) w first = refl
+
+-- the request that is told is the one that is replied to
+pub tells_replied : (s : ServerFrame) (w : Lanes) (answer : Option (Lane × Replied)) (told : Option Replied) → told ≡ replied_of answer → Answers s w answer → TellsReplied s w told
+tells_replied (Connected hello read_only) w answer told is a = is ∙ ap replied_of a
+tells_replied (Answered reply) w answer told is a = subst (TellsReplied (Answered reply) w) (sym (is ∙ ap replied_of a.1)) a.2
+tells_replied (Event zxid change) w answer told is a = is ∙ ap replied_of a
+
+module _ (asked welcomed : Bool) (p : List ℕ) (w : Lanes) where
+  pub reply_heard : welcomed ≡ true → (lane : Lane) (xid : ℤ) (told : Replied) → lane ≡ lane_of xid → (r : Reply) × IsDueReply xid p told w r → (s : ServerFrame) × IsHeard asked welcomed p w (Some (lane, told)) s
+  reply_heard e lane xid told is k =
+      let r = k.0 in
       let d = k.1 in (
-        Answered k.0,
+        Answered r,
         record {
-          turn = ((λ z. absurd (later z)), (λ n c. c));
-          told = d.told;
+          turn = turn_later welcomed (Answered r) e (λ c. c);
+          replies = (told, ap (λ (l : Lane). Some (l, told)) (is ∙ sym (ap lane_of d.xid)), d.told);
           due = d.due;
           sent = d.sent;
           is = d.is;
-          forgotten = subst (λ (z : ℤ). IsDropped (lane_of z) old new) (sym d.xid) dropped;
-          may = λ asked v e. d.may asked count v later e;
+          may = λ v heard. d.may (length v.client) (length v.server) v (some_spoken welcomed v.server heard.server e) (described asked welcomed w v heard);
         },
       )
 
--- ---- an event
+  pub event_heard : welcomed ≡ true → (s : ServerFrame) → answers.IsEvent s → answers.IsSent s → p ≡ answers.payload s → IsHeard asked welcomed p w None s
+  event_heard e s event sent is = record {
+    turn = turn_later welcomed s e (no_welcome s event);
+    replies = no_answer s w event;
+    due = J.event_due w s event;
+    sent = sent;
+    is = server_is s p is;
+    may = λ v heard. J.event_may _ _ _ v (described asked welcomed w v heard) s (some_spoken welcomed v.server heard.server e) event sent;
+  }
 
-pub event_settled : (count : ℕ) (p : List ℕ) (w : Lanes) → (count ≡ 0 → ⊥) → (s : ServerFrame) → answers.IsEvent s → answers.IsSent s → p ≡ answers.payload s → IsSettled count p None w w s
-event_settled count p w later (Connected hello flag) event sent is = absurd event
-event_settled count p w later (Answered reply) event sent is = absurd event
-event_settled count p w later (Event zxid change) event sent is = record {
-  turn = ((λ z. absurd (later z)), (λ n c. c));
-  told = refl;
-  due = tt;
-  sent = sent;
-  is = server_is (Event zxid change) p is;
-  forgotten = refl;
-  may = λ asked v d. J.event_may asked count w v d (Event zxid change) later event sent;
+  pub connected_heard : welcomed ≡ false → asked ≡ true → (s : ServerFrame) → answers.IsConnected s → answers.IsSent s → p ≡ answers.payload s → IsHeard asked welcomed p w None s
+  connected_heard e spoken s first sent is = record {
+    turn = turn_first welcomed s e first;
+    replies = no_answer_yet s w first;
+    due = J.connected_due w s first;
+    sent = sent;
+    is = server_is s p is;
+    may = λ v heard. J.connected_may _ _ _ v (described asked welcomed w v heard) s (none_spoken welcomed v.server heard.server e) (some_spoken asked v.client heard.client spoken) first sent;
+  }
+
+  -- by the numbers of frames
+  pub expected : (n m : ℕ) → MatchBool asked (n ≡ 0 → ⊥) (n ≡ 0) → MatchBool welcomed (m ≡ 0 → ⊥) (m ≡ 0) → (answer : Option (Lane × Replied)) (s : ServerFrame) → IsHeard asked welcomed p w answer s → IsExpected n m p w answer s
+  expected n m a b answer s h = record {
+    turn = turned welcomed m s b h.turn;
+    replies = h.replies;
+    due = h.due;
+    sent = h.sent;
+    is = h.is;
+    may = λ v d. h.may v (hears asked welcomed n m w v a b d);
+  }
+
+pub settled : (asked count : ℕ) (p : List ℕ) (answer : Option (Lane × Replied)) (told : Option Replied) (old new : Lanes) (s : ServerFrame) → IsExpected asked count p old answer s
+    → told ≡ replied_of answer → ((t : ServerFrame) → Answers t old answer → IsForgotten t old new) → IsSettled asked count p told old new s
+settled asked count p answer told old new s x tells forgotten = record {
+  turn = x.turn;
+  told = tells_replied s old answer told tells x.replies;
+  due = x.due;
+  sent = x.sent;
+  is = x.is;
+  forgotten = forgotten s x.replies;
+  may = x.may;
 }

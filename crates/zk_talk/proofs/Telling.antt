@@ -2,7 +2,7 @@
 use Rattle.std.proofs.Common.{◌≡◌, ◌≢◌, ℕ, ◌⊎◌, inl, inr, List, ℤ, sym, ap, ◌∙◌, subst}
 use Rattle.zk_jute.specs.declared.fault.ItemFault.{ItemFault}
 use Rattle.zk_jute.specs.declared.fault.Reason.{Reason}
-use Rattle.zk_jute.specs.declared.fault.Reason.TheVariants.{NoMemory, Unasked, XidOrder, QueueFull}
+use Rattle.zk_jute.specs.declared.fault.Reason.TheVariants.{NoMemory, Unasked, XidOrder}
 use Rattle.zk_jute.specs.Reading.{told_place}
 use Rattle.zk_jute.specs.Told.{IsTold}
 use Rattle.zk_records.specs.declared.profile.Profile.{Profile}
@@ -62,14 +62,8 @@ no_unasked e = cc
 no_order : (a b : ℤ) → XidOrder a b ≡ NoMemory → ⊥
 no_order a b e = cc
 
-no_full : QueueFull ≡ NoMemory → ⊥
-no_full e = cc
-
 pub unasked_known : (e : ItemFault) → e.reason ≡ Unasked → e.reason ≢ NoMemory
 unasked_known e is n = no_unasked (sym is ∙ n)
 
 pub order_known : (e : ItemFault) (a b : ℤ) → e.reason ≡ XidOrder a b → e.reason ≢ NoMemory
 order_known e a b is n = no_order a b (sym is ∙ n)
-
-pub full_known : (e : ItemFault) → e.reason ≡ QueueFull → e.reason ≢ NoMemory
-full_known e is n = no_full (sym is ∙ n)

@@ -52,7 +52,7 @@ server_shown n kept s w told tells due turn sent is = record { kind = kind_of n 
 
 -- ---- what the payload of a kept frame is
 
-one_payload : (p q : List ℕ) → frame p ≡ frame q → p ≡ q
+pub one_payload : (p q : List ℕ) → frame p ≡ frame q → p ≡ q
 one_payload p q e = carried (frame q) p (sym e) ∙ sym (carried (frame q) q refl)
 
 pub client_bytes : (p : List ℕ) (f : ClientFrame) → frame p ≡ frame (client_payload f) → p ≡ asks.payload f

@@ -1,18 +1,35 @@
 -- What is known of a frame that is judged without being made.
-use Rattle.std.specs.Prelude.{◌≡◌, ℕ, ℤ, List, Option, Some}
-use Rattle.zk_records.specs.declared.op.Op.{Op}
+use Rattle.std.specs.Prelude.{◌≡◌, ℕ, ℤ, Bool, List, Option, Some, None, MatchBool}
 use Rattle.zk_records.specs.declared.profile.Profile.{Profile}
 use Rattle.zk_asks.specs.Held.{ClientFrame}
+use Rattle.zk_asks.specs.declared.judge.Outline.{Outline}
+use Rattle.zk_asks.specs.Fronts.{asking_of}
 use Rattle.zk_asks.specs.Frames as asks
 use Rattle.zk_answers.specs.Held.{Reply, ServerFrame}
-use Rattle.zk_answers.specs.declared.frame.ServerFrameOf.TheVariants.{Answered}
+use Rattle.zk_answers.specs.declared.frame.ServerFrameOf.TheVariants.{Connected, Answered, Event}
 use Rattle.zk_answers.specs.Frames as answers
+use Rattle.zk_waiting.specs.declared.lane.Lane.{Lane}
+use Rattle.zk_waiting.specs.Lane.{lane_of}
 use Rattle.zk_waiting.specs.Waiting.{Lanes}
 use Rattle.zk_talk.specs.Payloads.{client_payload, server_payload}
 use Rattle.zk_talk.specs.Conversation.{Conversation, ServerMay}
 use Rattle.zk_talk.specs.Describes.{Describes}
 use Rattle.zk_talk.specs.declared.replied.Replied.{Replied}
 use Rattle.zk_talk.specs.Judged.{IsInTurn, IsNumbered, IsDue, IsForgotten, TellsReplied}
+use Rattle.zk_talk.specs.Said.{Heard}
+
+-- ---- a client's frame
+
+-- this is the client's frame of the payload, and what it asks
+abbrev pub IsAsking : Option Outline → List ℕ → ClientFrame → Type 0
+IsAsking asked p f = (asking_of f ≡ asked) × asks.IsSent f × (client_payload f ≡ p)
+
+-- the client's frame with this payload, after `count` frames, may come now, and asks this
+pub record IsComing (profile : Profile) (count : ℕ) (p : List ℕ) (asked : Option Outline) (f : ClientFrame) : Type 0 where
+  pub turn : IsInTurn profile count f
+  pub sent : asks.IsSent f
+  pub is : client_payload f ≡ p
+  pub asks : asking_of f ≡ asked
 
 -- the client's frame with this payload, after `count` frames, may come now, and waits for its reply under this number
 pub record IsAwaited (profile : Profile) (count number : ℕ) (p : List ℕ) (old new : Lanes) (f : ClientFrame) : Type 0 where
@@ -20,6 +37,8 @@ pub record IsAwaited (profile : Profile) (count number : ℕ) (p : List ℕ) (ol
   pub sent : asks.IsSent f
   pub is : client_payload f ≡ p
   pub waits : IsNumbered number f old new
+
+-- ---- a server's
 
 -- the reply with this payload and this xid, to the request that waits, may come after any frame but the first
 pub record IsDueReply (number : ℤ) (p : List ℕ) (asked : Replied) (waiting : Lanes) (r : Reply) : Type 0 where
@@ -30,17 +49,46 @@ pub record IsDueReply (number : ℤ) (p : List ℕ) (asked : Replied) (waiting :
   pub is : server_payload (Answered r) ≡ p
   pub may : (n m : ℕ) (v : Conversation) → (m ≡ 0 → ⊥) → Describes n m waiting v → ServerMay v.client v.server (Answered r)
 
--- the request has this operation
-abbrev pub IsDueOf : Op → ℤ → List ℕ → Lanes → Reply → Type 0
-IsDueOf op number p waiting r = (asked : Replied) × (asked.op ≡ op) × IsDueReply number p asked waiting r
+-- the request that is told with its lane
+abbrev pub replied_of : Option (Lane × Replied) → Option Replied
+replied_of None = None
+replied_of (Some (lane, told)) = Some told
 
--- the server's frame with this payload, after `count` frames, may come now; it answers this request, which is dropped,
--- or none
-pub record IsSettled (count : ℕ) (p : List ℕ) (answered : Option Replied) (old new : Lanes) (s : ServerFrame) : Type 0 where
+-- the frame replies to this request of this lane, the lane's oldest; or it is no reply
+abbrev pub Answers : ServerFrame → Lanes → Option (Lane × Replied) → Type 0
+Answers (Connected hello read_only) w answer = answer ≡ None
+Answers (Answered reply) w answer = (told : Replied) × (answer ≡ Some (lane_of reply.xid, told)) × TellsReplied (Answered reply) w (Some told)
+Answers (Event zxid event) w answer = answer ≡ None
+
+-- the reply to the connect request, or a frame after it
+abbrev pub IsTurn : Bool → ServerFrame → Type 0
+IsTurn welcomed s = MatchBool welcomed (answers.IsConnected s → ⊥) (answers.IsConnected s)
+
+-- the server's frame with this payload may come now, whatever was heard, and replies to this, or to nothing
+pub record IsHeard (asked welcomed : Bool) (p : List ℕ) (waiting : Lanes) (answer : Option (Lane × Replied)) (s : ServerFrame) : Type 0 where
+  pub turn : IsTurn welcomed s
+  pub replies : Answers s waiting answer
+  pub due : IsDue s waiting
+  pub sent : answers.IsSent s
+  pub is : server_payload s ≡ p
+  pub may : (v : Conversation) → Heard asked welcomed waiting v → ServerMay v.client v.server s
+
+-- the same, after `asked` frames of the client and `count` of the server
+pub record IsExpected (asked count : ℕ) (p : List ℕ) (waiting : Lanes) (answer : Option (Lane × Replied)) (s : ServerFrame) : Type 0 where
+  pub turn : (count ≡ 0 → answers.IsConnected s) × ((count ≡ 0 → ⊥) → answers.IsConnected s → ⊥)
+  pub replies : Answers s waiting answer
+  pub due : IsDue s waiting
+  pub sent : answers.IsSent s
+  pub is : server_payload s ≡ p
+  pub may : (v : Conversation) → Describes asked count waiting v → ServerMay v.client v.server s
+
+-- the server's frame with this payload, after `asked` frames of the client and `count` of the server, may come now; it
+-- answers this request, which is dropped, or none
+pub record IsSettled (asked count : ℕ) (p : List ℕ) (answered : Option Replied) (old new : Lanes) (s : ServerFrame) : Type 0 where
   pub turn : (count ≡ 0 → answers.IsConnected s) × ((count ≡ 0 → ⊥) → answers.IsConnected s → ⊥)
   pub told : TellsReplied s old answered
   pub due : IsDue s old
   pub sent : answers.IsSent s
   pub is : server_payload s ≡ p
   pub forgotten : IsForgotten s old new
-  pub may : (asked : ℕ) (v : Conversation) → Describes asked count old v → ServerMay v.client v.server s
+  pub may : (v : Conversation) → Describes asked count old v → ServerMay v.client v.server s

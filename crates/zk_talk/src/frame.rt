@@ -1,20 +1,22 @@
 //! What is done with a side's whole frame: it is judged, and then kept or passed.
-ghost use Rattle.std.specs.Prelude.{◌≡◌, ◌≢◌, ◌<◌, ◌≤◌, ◌↔◌, ℕ, [], length, take, drop, IfOk, IfErr, IfSome, IfNone, OnOk, IsTrue, false};
+ghost use Rattle.std.specs.Prelude.{◌≡◌, ◌≢◌, ◌<◌, ◌≤◌, ◌↔◌, ℕ, [], length, take, drop, IfOk, IfErr, OnOk, OnErr, IsTrue};
 ghost use Rattle.zk_jute.specs.declared.fault.Reason.TheVariants.{NoMemory};
+ghost use Rattle.zk_jute.specs.Verdict.{Says};
 ghost use Rattle.zk_asks.specs.Held as asks;
 ghost use Rattle.zk_answers.specs.Held as answers;
 ghost use Rattle.zk_talk.specs.Judged.{KeepsClient, KeepsServer, TellsClient, TellsServer, PassesClient, PassesServer, HasNextClient, HasNextServer};
 ghost use Rattle.zk_talk.specs.Streams.{IsAtFrame, TakenBack, passed, kept_now, held_in};
 
 use crate::judge::{
-    await_numbered, await_quick, forget_quick, forget_seen, next_client, next_server, replied,
+    await_ask, forget_asked, has_room, judge_client, next_server, put_asked, replied, settle,
 };
 use crate::replied::Replied;
 use crate::stream::{Stream, carried};
+use crate::view::shown_server;
 use std::alloc::Global;
 use zk_answers::ServerFrame;
-use zk_asks::ClientFrame;
-use zk_jute::{ItemFault, Reason};
+use zk_asks::{ClientFrame, judged_ref};
+use zk_jute::{ItemFault, Reason, Verdict};
 use zk_records::{Own, Profile};
 use zk_waiting::Awaited;
 
@@ -28,77 +30,50 @@ pub fn is_no_memory(item: ItemFault) -> bool
     }
 }
 
-/// Keeps the client's whole frame, whose last `used` bytes are new, if it is a request that may come next under
-/// `profile`; else changes nothing. False: undecided.
+/// Keeps the client's whole frame, whose last `used` bytes are new, if it is one that may come next under `profile`; else
+/// changes nothing.
 #[inline(always)]
-pub fn keep_client(
+pub fn keep_client<V: Verdict>(
     profile: Profile,
     stream: &mut Stream,
     waiting: &mut Awaited,
     used: usize,
-) -> bool
+) -> Result<(), V>
     requires { IsAtFrame stream.old used }
     ensures max { waiting.new.max ≡ waiting.old.max }
-    ensures found { IsTrue result → (f : asks.ClientFrame) × KeepsClient profile stream.old waiting.old f waiting.new stream.new }
-    ensures kept { IsTrue result → stream.new ≡ kept_now stream.old used }
-    ensures same { result ≡ false → (waiting.new ≡ waiting.old) × (stream.new ≡ stream.old) }
+    ensures found { OnOk result ((f : asks.ClientFrame) × KeepsClient profile stream.old waiting.old f waiting.new stream.new) }
+    ensures kept { OnOk result (stream.new ≡ kept_now stream.old used) }
+    ensures same { OnErr result ((waiting.new ≡ waiting.old) × (stream.new ≡ stream.old)) }
+    ensures fault { IfErr result (Says V.tells (λ e. (e.reason ≢ NoMemory) × TellsClient profile stream.old.count waiting.old (drop 4 stream.old.held) e)) }
 {
     let count = stream.count();
-    if !await_quick(profile, count, count, waiting, stream.payload()) {
-        return false;
-    }
+    await_ask::<V>(profile, count, count, waiting, stream.payload())?;
     stream.keep(used);
-    true
+    Ok(())
 }
 
-/// Passes the client's frame `piece[..used]` if it is a request that may come next under `profile`; else changes nothing.
-/// Copies nothing. False: undecided.
+/// Passes the client's frame `piece[..used]` if it is one that may come next under `profile`; else changes nothing. Copies
+/// nothing.
 #[inline(always)]
-pub fn pass_client(
+pub fn pass_client<V: Verdict>(
     profile: Profile,
     stream: &mut Stream,
     waiting: &mut Awaited,
     piece: &[u8],
     used: usize,
-) -> bool
+) -> Result<(), V>
     requires part { used ≤ length piece.now }
     requires front { IsAtFrame (held_in stream.old (take used piece.now)) used }
     requires none { (stream.old.held ≡ []) × (stream.old.kept ≡ []) }
     ensures max { waiting.new.max ≡ waiting.old.max }
-    ensures found { IsTrue result → (f : asks.ClientFrame) × PassesClient profile stream.old waiting.old (take used piece.now) f waiting.new }
-    ensures passed { IsTrue result → stream.new ≡ passed stream.old used }
-    ensures same { result ≡ false → (waiting.new ≡ waiting.old) × (stream.new ≡ stream.old) }
+    ensures found { OnOk result ((f : asks.ClientFrame) × PassesClient profile stream.old waiting.old (take used piece.now) f waiting.new) }
+    ensures passed { OnOk result (stream.new ≡ passed stream.old used) }
+    ensures same { OnErr result ((waiting.new ≡ waiting.old) × (stream.new ≡ stream.old)) }
+    ensures fault { IfErr result (Says V.tells (λ e. (e.reason ≢ NoMemory) × TellsClient profile stream.old.count waiting.old (drop 4 (take used piece.now)) e)) }
 {
     let count = stream.count();
-    if !await_quick(profile, count, count, waiting, carried(piece, used)) {
-        return false;
-    }
+    await_ask::<V>(profile, count, count, waiting, carried(piece, used))?;
     stream.pass_front(used);
-    true
-}
-
-/// Judges the client's whole frame, whose last `used` bytes are new, under `profile`, and keeps it.
-// `keep_client` first, so that a request that came in several pieces makes no frame, too.
-pub fn client_step(
-    profile: Profile,
-    stream: &mut Stream,
-    waiting: &mut Awaited,
-    used: usize,
-) -> Result<(), ItemFault>
-    requires { IsAtFrame stream.old used }
-    ensures max { waiting.new.max ≡ waiting.old.max }
-    ensures found { OnOk result ((f : asks.ClientFrame) × KeepsClient profile stream.old waiting.old f waiting.new stream.new) }
-    ensures kept { OnOk result (stream.new ≡ kept_now stream.old used) }
-    ensures same { IfErr result (λ e. (waiting.new ≡ waiting.old) × (stream.new ≡ stream.old)) }
-    ensures fault { IfErr result (λ e. (e.reason ≢ NoMemory) × TellsClient profile stream.old.count waiting.old (drop 4 stream.old.held) e) }
-{
-    if keep_client(profile, stream, waiting, used) {
-        return Ok(());
-    }
-    let count = stream.count();
-    let frame = next_client(profile, count, waiting, stream.payload())?;
-    await_numbered(waiting, &frame, count);
-    stream.keep(used);
     Ok(())
 }
 
@@ -122,10 +97,14 @@ pub fn client_frame(
     ensures fault { IfErr result (λ e. e.reason ≢ NoMemory → TellsClient profile stream.old.count waiting.old (drop 4 stream.old.held) e) }
 {
     let count = stream.count();
-    let seen = next_client(profile, count, waiting, stream.payload())?;
+    let asked = judge_client::<ItemFault>(profile, count, stream.payload())?;
+    if !has_room(waiting, stream.payload(), asked) {
+        return Err(ItemFault::at(0, Reason::QueueFull));
+    }
+    let seen = judged_ref(asked, stream.payload());
     match seen.own(alloc) {
         Ok(frame) => {
-            await_numbered(waiting, &seen, count);
+            put_asked(waiting, stream.payload(), asked, count);
             stream.pass(used);
             Ok(frame)
         }
@@ -136,71 +115,49 @@ pub fn client_frame(
     }
 }
 
-/// Keeps the server's whole frame, whose last `used` bytes are new, if it is a reply or an event that may come next, and
-/// returns its request, if it is a reply; `None`: undecided, and nothing changed.
+/// Keeps the server's whole frame, whose last `used` bytes are new, if it may come next, where the client has sent `asked`
+/// frames, and returns its request, if it is a reply; else changes nothing.
 #[inline(always)]
-pub fn keep_server(
-    stream: &mut Stream,
-    waiting: &mut Awaited,
-    used: usize,
-) -> Option<Option<Replied>>
-    requires { IsAtFrame stream.old used }
-    ensures max { waiting.new.max ≡ waiting.old.max }
-    ensures found { (asked : ℕ) → IfSome result (λ told. (s : answers.ServerFrame) × KeepsServer asked stream.old waiting.old told s waiting.new stream.new) }
-    ensures kept { IfSome result (λ told. stream.new ≡ kept_now stream.old used) }
-    ensures same { IfNone result ((waiting.new ≡ waiting.old) × (stream.new ≡ stream.old)) }
-{
-    let answered = forget_quick(stream.count(), waiting, stream.payload())?;
-    stream.keep(used);
-    Some(answered)
-}
-
-/// Passes the server's frame `piece[..used]` if it is a reply or an event that may come next, and returns its request, if it
-/// is a reply; `None`: undecided, and nothing changed. Copies nothing.
-#[inline(always)]
-pub fn pass_server(
-    stream: &mut Stream,
-    waiting: &mut Awaited,
-    piece: &[u8],
-    used: usize,
-) -> Option<Option<Replied>>
-    requires part { used ≤ length piece.now }
-    requires front { IsAtFrame (held_in stream.old (take used piece.now)) used }
-    requires none { (stream.old.held ≡ []) × (stream.old.kept ≡ []) }
-    ensures max { waiting.new.max ≡ waiting.old.max }
-    ensures found { (asked : ℕ) → IfSome result (λ _. (s : answers.ServerFrame) × PassesServer asked stream.old waiting.old (take used piece.now) s waiting.new) }
-    ensures passed { IfSome result (λ _. stream.new ≡ passed stream.old used) }
-    ensures same { IfNone result ((waiting.new ≡ waiting.old) × (stream.new ≡ stream.old)) }
-{
-    let answered = forget_quick(stream.count(), waiting, carried(piece, used))?;
-    stream.pass_front(used);
-    Some(answered)
-}
-
-/// Judges the server's whole frame, whose last `used` bytes are new, where the client has sent `asked` frames; keeps it,
-/// and returns its request, if it is a reply.
-// `keep_server` first, as in `client_step`.
-pub fn server_step(
+pub fn keep_server<V: Verdict>(
     asked: u64,
     stream: &mut Stream,
     waiting: &mut Awaited,
     used: usize,
-) -> Result<Option<Replied>, ItemFault>
+) -> Result<Option<Replied>, V>
     requires { IsAtFrame stream.old used }
     ensures max { waiting.new.max ≡ waiting.old.max }
     ensures found { IfOk result (λ told. (s : answers.ServerFrame) × KeepsServer asked stream.old waiting.old told s waiting.new stream.new) }
     ensures kept { OnOk result (stream.new ≡ kept_now stream.old used) }
-    ensures same { IfErr result (λ e. (waiting.new ≡ waiting.old) × (stream.new ≡ stream.old)) }
-    ensures fault { IfErr result (λ e. (e.reason ≢ NoMemory) × TellsServer asked stream.old.count waiting.old (drop 4 stream.old.held) e) }
+    ensures same { OnErr result ((waiting.new ≡ waiting.old) × (stream.new ≡ stream.old)) }
+    ensures fault { IfErr result (Says V.tells (λ e. (e.reason ≢ NoMemory) × TellsServer asked stream.old.count waiting.old (drop 4 stream.old.held) e)) }
 {
-    if let Some(answered) = keep_server(stream, waiting, used) {
-        return Ok(answered);
-    }
-    let frame = next_server(asked, stream.count(), waiting, stream.payload())?;
-    let answered = replied(waiting, &frame);
-    forget_seen(waiting, &frame);
+    let answered = settle::<V>(asked, stream.count(), waiting, stream.payload())?;
     stream.keep(used);
     Ok(answered)
+}
+
+/// Passes the server's frame `piece[..used]` if it may come next, where the client has sent `asked` frames; else changes
+/// nothing. Copies nothing.
+#[inline(always)]
+pub fn pass_server<V: Verdict>(
+    asked: u64,
+    stream: &mut Stream,
+    waiting: &mut Awaited,
+    piece: &[u8],
+    used: usize,
+) -> Result<(), V>
+    requires part { used ≤ length piece.now }
+    requires front { IsAtFrame (held_in stream.old (take used piece.now)) used }
+    requires none { (stream.old.held ≡ []) × (stream.old.kept ≡ []) }
+    ensures max { waiting.new.max ≡ waiting.old.max }
+    ensures found { OnOk result ((s : answers.ServerFrame) × PassesServer asked stream.old waiting.old (take used piece.now) s waiting.new) }
+    ensures passed { OnOk result (stream.new ≡ passed stream.old used) }
+    ensures same { OnErr result ((waiting.new ≡ waiting.old) × (stream.new ≡ stream.old)) }
+    ensures fault { IfErr result (Says V.tells (λ e. (e.reason ≢ NoMemory) × TellsServer asked stream.old.count waiting.old (drop 4 (take used piece.now)) e)) }
+{
+    settle::<V>(asked, stream.count(), waiting, carried(piece, used))?;
+    stream.pass_front(used);
+    Ok(())
 }
 
 /// Judges the server's whole frame, whose last `used` bytes are new, where the client has sent `asked` frames; passes it,
@@ -222,10 +179,13 @@ pub fn server_frame(
     ensures stays { IfErr result (λ e. e.reason ≢ NoMemory → stream.new ≡ stream.old) }
     ensures fault { IfErr result (λ e. e.reason ≢ NoMemory → TellsServer asked stream.old.count waiting.old (drop 4 stream.old.held) e) }
 {
-    let seen = next_server(asked, stream.count(), waiting, stream.payload())?;
+    let count = stream.count();
+    let answer = next_server::<ItemFault>(asked, count, waiting, stream.payload())?;
+    let told = replied(answer);
+    let seen = shown_server(count + 1, told, stream.payload());
     match seen.own(alloc) {
         Ok(frame) => {
-            forget_seen(waiting, &seen);
+            forget_asked(waiting, answer);
             stream.pass(used);
             Ok(frame)
         }

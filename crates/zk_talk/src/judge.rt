@@ -1,128 +1,127 @@
-//! Whether a payload may come next, and what waits after it.
-ghost use Rattle.std.specs.Prelude.{◌≡◌, ◌≢◌, ◌<◌, ◌^◌, ◌↔◌, ℕ, List, length, IsOk, IfOk, IfErr, IfSome, IfNone, OnOk, IsTrue, MatchBool, false, Some};
+//! Whether a payload may come next, and what waits after it. There is one judge; its `Verdict` reports the fault, or
+//! nothing.
+ghost use Rattle.std.specs.Prelude.{◌≡◌, ◌≢◌, ◌<◌, ◌^◌, ◌↔◌, ℕ, List, length, IsOk, IfOk, IfErr, OnOk, OnErr, IsTrue, MatchBool, false, Some};
 ghost use Rattle.zk_jute.specs.declared.fault.Reason.TheVariants.{NoMemory};
+ghost use Rattle.zk_jute.specs.Told.{IsSurelyTold};
+ghost use Rattle.zk_jute.specs.Verdict.{Says};
+ghost use Rattle.zk_records.specs.declared.op.Op.TheVariants as ops;
 ghost use Rattle.zk_asks.specs.Codes.{event_xid};
+ghost use Rattle.zk_waiting.specs.Lane.{lane_of};
 ghost use Rattle.zk_asks.specs.Held as asks;
-ghost use Rattle.zk_asks.specs.Frames.{IsFirst, IsSent, MaySend};
-ghost use Rattle.zk_answers.specs.Faults.{IsHead};
+ghost use Rattle.zk_asks.specs.Frames.{IsFirst, MaySend};
+ghost use Rattle.zk_answers.specs.Faults.{IsHead, IsEventFault};
 ghost use Rattle.zk_answers.specs.Held as answered;
 ghost use Rattle.zk_answers.specs.Frames as answers;
-ghost use Rattle.zk_waiting.specs.Lane.{lane_of};
-ghost use Rattle.zk_waiting.specs.Waiting.{IsDropped};
-ghost use Rattle.zk_talk.specs.Payloads.{client_payload, server_payload};
-ghost use Rattle.zk_talk.specs.Conversation.{Conversation, ServerMay};
-ghost use Rattle.zk_talk.specs.Describes.{Describes};
-ghost use Rattle.zk_talk.specs.Settled.{IsAwaited, IsDueReply, IsSettled};
-ghost use Rattle.zk_talk.specs.Judged.{TellsLater, TellsClient, TellsServer, IsInTurn, IsTurnFault, IsPutRefusal, HasRoomFor, IsNumbered, IsRemembered, IsDue, HasAsk, IsForgotten, TellsReplied};
-ghost use Rattle.zk_talk.specs.Said.{Heard};
+ghost use Rattle.zk_talk.specs.Payloads.{client_payload};
+ghost use Rattle.zk_talk.specs.Settled.{IsAsking, IsComing, IsAwaited, IsDueReply, IsHeard, IsExpected, IsSettled, Answers, replied_of};
+ghost use Rattle.zk_talk.specs.Judged.{TellsLater, TellsClient, TellsServer, IsTurnFault, IsPutRefusal, HasRoomFor, IsNumbered, IsRemembered, HasAsk, IsForgotten, TellsReplied};
 ghost use Rattle.zk_talk.specs.SaidPayload.{HearsFault};
 
 use crate::replied::Replied;
 use std::alloc::Global;
-use zk_answers::{
-    ServerFrame, ServerFrameOf, ServerRef, borrow_connected, borrow_event_under,
-    borrow_reply_under, form_of, quick_event, quick_reply, reply_head,
-};
-use zk_asks::{
-    Asked, ClientFrame, ClientFrameOf, ClientRef, RequestRef, borrow_ask, borrow_first, quick_ask,
-    quick_multi,
-};
-use zk_jute::{ItemFault, Reason};
-use zk_records::{Profile, ReplyHeader};
+use zk_answers::{ServerFrame, form_of, judge_event, judge_reply, reply_head, scan_connected};
+use zk_asks::{Alone, Asked, ClientFrame, Outline, judge_ask, judged_multi, scan_first};
+use zk_jute::{ItemFault, Reason, Verdict};
+use zk_records::{Op, Profile, ReplyHeader};
 use zk_waiting::{Awaited, Lane, PutFault, lane_of};
 
-/// The client's payload after `count` frames, borrowed.
-pub fn seen_client(profile: Profile, count: u64, payload: &[u8]) -> Result<ClientRef<'_>, ItemFault>
-    ensures found { IfOk result (λ f. IsInTurn profile count f × IsSent f × (client_payload f ≡ payload.now)) }
-    ensures fault { IfErr result (λ e. (e.reason ≢ NoMemory) × IsTurnFault profile count payload.now e) }
-{
-    if count == 0 {
-        borrow_first(payload)
-    } else {
-        borrow_ask(profile, payload)
-    }
-}
-
-/// Whether there is room for what is to wait for the reply to `frame`.
-pub fn has_room(waiting: &Awaited, frame: &ClientRef<'_>) -> bool
-    requires { length (client_payload frame.now) < 2 ^ 32 }
-    ensures { IsTrue result ↔ HasRoomFor frame.now waiting.now }
-{
-    match frame {
-        ClientFrameOf::Connect { .. } => true,
-        ClientFrameOf::Ask { ask, .. } => waiting.has_room(&RequestRef::of(ask)),
-    }
-}
-
-/// The client's payload after `count` frames, borrowed; there is room for what is to wait for its reply.
-pub fn next_client<'a>(
+/// Judges the client's payload after `count` frames, and returns what it asks: the outline of a request, or `None`
+/// for a connect request.
+#[inline(always)]
+pub fn judge_client<V: Verdict>(
     profile: Profile,
     count: u64,
-    waiting: &Awaited,
-    payload: &'a [u8],
-) -> Result<ClientRef<'a>, ItemFault>
-    requires { length payload.now < 2 ^ 32 }
-    ensures found { IfOk result (λ f. IsInTurn profile count f × IsSent f × (client_payload f ≡ payload.now)) }
-    ensures room { IfOk result (λ f. HasRoomFor f waiting.now) }
-    ensures fault { IfErr result (λ e. (e.reason ≢ NoMemory) × TellsClient profile count waiting.now payload.now e) }
+    payload: &[u8],
+) -> Result<Option<Outline>, V>
+    ensures found { IfOk result (λ asked. (f : asks.ClientFrame) × IsComing profile count payload.now asked f) }
+    ensures fault { IfErr result (Says V.tells (λ e. (e.reason ≢ NoMemory) × IsTurnFault profile count payload.now e)) }
 {
-    let frame = seen_client(profile, count, payload)?;
-    if has_room(waiting, &frame) {
-        Ok(frame)
+    if count == 0 {
+        V::on(scan_first(payload))?;
+        Ok(None)
     } else {
-        Err(ItemFault::at(0, Reason::QueueFull))
+        let asked = judge_ask::<V>(profile, payload)?;
+        Ok(Some(asked))
     }
 }
 
-/// Lets `payload`, which isn't the client's first, wait for its reply as its frame `number`, if it is a multi that may
-/// come; false: undecided, and nothing changed.
-fn await_multi(profile: Profile, number: u64, waiting: &mut Awaited, payload: &[u8]) -> bool
+/// Whether there is room for what is asked to wait for its reply.
+pub fn has_room(waiting: &Awaited, payload: &[u8], asked: Option<Outline>) -> bool
+    requires small { length payload.now < 2 ^ 32 }
+    requires asks { (f : asks.ClientFrame) × IsAsking asked payload.now f }
+    ensures { (f : asks.ClientFrame) → IsAsking asked payload.now f → IsTrue result ↔ HasRoomFor f waiting.now }
+{
+    let Some(outline) = asked else {
+        return true;
+    };
+    match outline.op {
+        Op::Multi => waiting.has_room(&judged_multi(payload, outline.parts)),
+        op => waiting.has_room(&Alone { op }),
+    }
+}
+
+/// Lets the multi that `payload` was judged to be, the client's frame `number`, wait for its reply, if there is room for
+/// it; false: nothing changed.
+#[inline(never)]
+fn put_multi(waiting: &mut Awaited, payload: &[u8], outline: Outline, number: u64) -> bool
+    requires small { length payload.now < 2 ^ 32 }
+    requires multi { outline.op ≡ ops.Multi }
+    requires asks { (f : asks.ClientFrame) × IsAsking (Some outline) payload.now f }
     ensures max { waiting.new.max ≡ waiting.old.max }
-    ensures found { IsTrue result → (count : ℕ) → (count ≡ 0 → ⊥) → (f : asks.ClientFrame) × IsAwaited profile count number payload.now waiting.old waiting.new f }
+    ensures put { IsTrue result → (f : asks.ClientFrame) → IsAsking (Some outline) payload.now f → IsNumbered number f waiting.old waiting.new }
+    ensures full { result ≡ false → (f : asks.ClientFrame) → IsAsking (Some outline) payload.now f → HasRoomFor f waiting.old → ⊥ }
     ensures same { result ≡ false → waiting.new ≡ waiting.old }
 {
-    match quick_multi(profile, payload) {
-        Some((xid, multi)) => waiting.put_numbered(xid, &multi, number).is_ok(),
-        None => false,
+    let multi = judged_multi(payload, outline.parts);
+    match waiting.put_numbered(outline.xid, &multi, number) {
+        Ok(()) => true,
+        Err(PutFault::QueueFull) => false,
     }
 }
 
-/// Lets the client's payload after `count` frames wait for its reply as its frame `number`, if it is a request that may
-/// come next; false: undecided, and nothing changed. No fault and no frame is made.
+/// Lets what is asked, the client's frame `number`, wait for its reply, if there is room for it; false: nothing changed.
 #[inline(always)]
-pub fn await_quick(
+pub fn put_asked(waiting: &mut Awaited, payload: &[u8], asked: Option<Outline>, number: u64) -> bool
+    requires small { length payload.now < 2 ^ 32 }
+    requires asks { (f : asks.ClientFrame) × IsAsking asked payload.now f }
+    ensures max { waiting.new.max ≡ waiting.old.max }
+    ensures put { IsTrue result → (f : asks.ClientFrame) → IsAsking asked payload.now f → IsNumbered number f waiting.old waiting.new }
+    ensures full { result ≡ false → (f : asks.ClientFrame) → IsAsking asked payload.now f → HasRoomFor f waiting.old → ⊥ }
+    ensures same { result ≡ false → waiting.new ≡ waiting.old }
+{
+    let Some(outline) = asked else {
+        return true;
+    };
+    match outline.op {
+        Op::Multi => put_multi(waiting, payload, outline, number),
+        op => match waiting.put_numbered(outline.xid, &Alone { op }, number) {
+            Ok(()) => true,
+            Err(PutFault::QueueFull) => false,
+        },
+    }
+}
+
+/// Lets the client's payload after `count` frames wait for its reply as its frame `number`, if it is one that may come next
+/// and there is room for it.
+#[inline(always)]
+pub fn await_ask<V: Verdict>(
     profile: Profile,
     count: u64,
     number: u64,
     waiting: &mut Awaited,
     payload: &[u8],
-) -> bool
+) -> Result<(), V>
+    requires { length payload.now < 2 ^ 32 }
     ensures max { waiting.new.max ≡ waiting.old.max }
-    ensures found { IsTrue result → (f : asks.ClientFrame) × IsAwaited profile count number payload.now waiting.old waiting.new f }
-    ensures same { result ≡ false → waiting.new ≡ waiting.old }
+    ensures found { OnOk result ((f : asks.ClientFrame) × IsAwaited profile count number payload.now waiting.old waiting.new f) }
+    ensures same { OnErr result (waiting.new ≡ waiting.old) }
+    ensures fault { IfErr result (Says V.tells (λ e. (e.reason ≢ NoMemory) × TellsClient profile count waiting.old payload.now e)) }
 {
-    if count == 0 {
-        return false;
-    }
-    match quick_ask(profile, payload) {
-        Some((xid, ask)) => waiting.put_numbered(xid, &ask, number).is_ok(),
-        None => await_multi(profile, number, waiting, payload),
-    }
-}
-
-/// Lets `frame`, the client's after `count` frames, wait for its reply, if it is to have one; there is room for it.
-pub fn await_numbered(waiting: &mut Awaited, frame: &ClientRef<'_>, count: u64)
-    requires may { MaySend frame.now }
-    requires small { length (client_payload frame.now) < 2 ^ 32 }
-    requires room { HasRoomFor frame.now waiting.old }
-    ensures max { waiting.new.max ≡ waiting.old.max }
-    ensures waits { IsNumbered count frame.now waiting.old waiting.new }
-{
-    if let ClientFrameOf::Ask { xid, ask } = frame {
-        match waiting.put_numbered(*xid, &RequestRef::of(ask), count) {
-            Ok(()) => {}
-            Err(PutFault::QueueFull) => unreachable!(),
-        }
+    let asked = judge_client::<V>(profile, count, payload)?;
+    if put_asked(waiting, payload, asked, number) {
+        Ok(())
+    } else {
+        Err(V::at(0, Reason::QueueFull))
     }
 }
 
@@ -148,54 +147,96 @@ pub fn remember(alloc: Global, waiting: &mut Awaited, frame: &ClientFrame) -> Re
     }
 }
 
-/// The reply `payload`, which has the header `head`, to the oldest request of its lane, borrowed.
-fn seen_answer<'a>(
+/// The oldest request of the lane, if `payload`, which has the header `head`, is a reply to it.
+#[inline(always)]
+fn judge_answer<V: Verdict>(
+    lane: Lane,
     head: &ReplyHeader,
     waiting: &Awaited,
-    payload: &'a [u8],
-) -> Result<ServerRef<'a>, ItemFault>
+    payload: &[u8],
+) -> Result<Replied, V>
+    requires lane { lane ≡ lane_of head.now.xid }
     requires head { (rest : List ℕ) × IsHead payload.now head.now rest }
     requires reply { head.now.xid ≢ event_xid }
-    ensures due { IfOk result (λ s. IsDue s waiting.now × answers.IsSent s × (server_payload s ≡ payload.now)) }
-    ensures turn { IfOk result (λ s. answers.IsConnected s → ⊥) }
-    ensures may { IfOk result (λ s. (n m : ℕ) (v : Conversation) → (m ≡ 0 → ⊥) → Describes n m waiting.now v → ServerMay v.client v.server s) }
-    ensures fault { IfErr result (λ e. (e.reason ≢ NoMemory) × TellsLater waiting.now payload.now e) }
+    ensures found { IfOk result (λ told. (r : answered.Reply) × IsDueReply head.now.xid payload.now told waiting.now r) }
+    ensures fault { IfErr result (Says V.tells (λ e. (e.reason ≢ NoMemory) × TellsLater waiting.now payload.now e)) }
 {
-    match waiting.oldest(lane_of(head.xid)) {
-        None => Err(ItemFault::at(0, Reason::Unasked)),
-        Some(slot) => {
-            let expected = slot.xid();
-            if expected != head.xid {
-                let got = head.xid;
-                return Err(ItemFault::at(0, Reason::XidOrder { expected, got }));
-            }
-            borrow_reply_under(&slot, head, payload)
-        }
+    let Some(slot) = waiting.oldest(lane) else {
+        return Err(V::at(0, Reason::Unasked));
+    };
+    let expected = slot.xid();
+    if expected != head.xid {
+        let got = head.xid;
+        return Err(V::at(0, Reason::XidOrder { expected, got }));
     }
+    judge_reply::<_, V>(&slot, head, payload)?;
+    let (op, frame) = (slot.op(), slot.frame());
+    Ok(Replied { op, frame })
 }
 
-/// The server's payload, borrowed; `asked`: whether the client has spoken, `welcomed`: whether the server has.
-pub fn seen_server<'a>(
+/// `judge_answer` of any lane.
+// Not inlined, so that the way of the plain lane holds no values of the others.
+#[inline(never)]
+fn judge_special<V: Verdict>(
+    lane: Lane,
+    head: &ReplyHeader,
+    waiting: &Awaited,
+    payload: &[u8],
+) -> Result<Replied, V>
+    requires lane { lane ≡ lane_of head.now.xid }
+    requires head { (rest : List ℕ) × IsHead payload.now head.now rest }
+    requires reply { head.now.xid ≢ event_xid }
+    ensures found { IfOk result (λ told. (r : answered.Reply) × IsDueReply head.now.xid payload.now told waiting.now r) }
+    ensures fault { IfErr result (Says V.tells (λ e. (e.reason ≢ NoMemory) × TellsLater waiting.now payload.now e)) }
+{
+    judge_answer::<V>(lane, head, waiting, payload)
+}
+
+/// Judges whether `payload`, which begins with the header `head`, is an event.
+// Not inlined: with it the way of replies is too long to be inlined itself.
+#[inline(never)]
+fn judge_change<V: Verdict>(head: &ReplyHeader, payload: &[u8]) -> Result<(), V>
+    requires head { (rest : List ℕ) × IsHead payload.now head.now rest }
+    requires event { head.now.xid ≡ event_xid }
+    ensures found { OnOk result ((s : answered.ServerFrame) × answers.IsEvent s × answers.IsSent s × (payload.now ≡ answers.payload s)) }
+    ensures fault { IfErr result (Says V.tells (IsSurelyTold (IsEventFault payload.now))) }
+{
+    judge_event::<V>(head, payload)
+}
+
+/// Judges the server's payload, and returns the lane of the request that it replies to, and the request, or `None` if it
+/// is no reply; `asked`: whether the client has spoken, `welcomed`: whether the server has.
+#[inline(always)]
+pub fn judge_server<V: Verdict>(
     asked: bool,
     welcomed: bool,
     waiting: &Awaited,
-    payload: &'a [u8],
-) -> Result<ServerRef<'a>, ItemFault>
-    ensures due { IfOk result (λ s. IsDue s waiting.now × answers.IsSent s × (server_payload s ≡ payload.now)) }
-    ensures turn { IfOk result (λ s. MatchBool welcomed (answers.IsConnected s → ⊥) (answers.IsConnected s)) }
-    ensures may { IfOk result (λ s. (v : Conversation) → Heard asked welcomed waiting.now v → ServerMay v.client v.server s) }
-    ensures fault { IfErr result (λ e. (e.reason ≢ NoMemory) × HearsFault asked welcomed waiting.now payload.now e) }
+    payload: &[u8],
+) -> Result<Option<(Lane, Replied)>, V>
+    ensures found { IfOk result (λ answer. (s : answered.ServerFrame) × IsHeard asked welcomed payload.now waiting.now answer s) }
+    ensures fault { IfErr result (Says V.tells (λ e. (e.reason ≢ NoMemory) × HearsFault asked welcomed waiting.now payload.now e)) }
 {
     if welcomed {
-        let head = reply_head(payload)?;
+        let head = V::on(reply_head(payload))?;
         if head.xid == -1 {
-            return borrow_event_under(&head, payload);
+            judge_change::<V>(&head, payload)?;
+            return Ok(None);
         }
-        seen_answer(&head, waiting, payload)
+        match lane_of(head.xid) {
+            Lane::Plain => {
+                let told = judge_answer::<V>(Lane::Plain, &head, waiting, payload)?;
+                Ok(Some((Lane::Plain, told)))
+            }
+            lane => {
+                let told = judge_special::<V>(lane, &head, waiting, payload)?;
+                Ok(Some((lane, told)))
+            }
+        }
     } else if asked {
-        borrow_connected(payload)
+        V::on(scan_connected(payload))?;
+        Ok(None)
     } else {
-        Err(ItemFault::at(0, Reason::Unasked))
+        Err(V::at(0, Reason::Unasked))
     }
 }
 
@@ -206,123 +247,59 @@ fn has_spoken(count: u64) -> bool
     count > 0
 }
 
-/// The server's payload after `asked` frames of the client and `count` of the server, borrowed.
-pub fn next_server<'a>(
+/// As `judge_server`, after `asked` frames of the client and `count` of the server.
+#[inline(always)]
+pub fn next_server<V: Verdict>(
     asked: u64,
     count: u64,
     waiting: &Awaited,
-    payload: &'a [u8],
-) -> Result<ServerRef<'a>, ItemFault>
-    ensures due { IfOk result (λ s. IsDue s waiting.now × answers.IsSent s × (server_payload s ≡ payload.now)) }
-    ensures turn { IfOk result (λ s. (count ≡ 0 → answers.IsConnected s) × ((count ≡ 0 → ⊥) → answers.IsConnected s → ⊥)) }
-    ensures may { IfOk result (λ s. (v : Conversation) → Describes asked count waiting.now v → ServerMay v.client v.server s) }
-    ensures fault { IfErr result (λ e. (e.reason ≢ NoMemory) × TellsServer asked count waiting.now payload.now e) }
+    payload: &[u8],
+) -> Result<Option<(Lane, Replied)>, V>
+    ensures found { IfOk result (λ answer. (s : answered.ServerFrame) × IsExpected asked count payload.now waiting.now answer s) }
+    ensures fault { IfErr result (Says V.tells (λ e. (e.reason ≢ NoMemory) × TellsServer asked count waiting.now payload.now e)) }
 {
-    seen_server(has_spoken(asked), has_spoken(count), waiting, payload)
+    judge_server::<V>(has_spoken(asked), has_spoken(count), waiting, payload)
 }
 
-/// The oldest request of `lane`, that of the header `head`, if `payload` is a reply to it; `None`: undecided.
+/// The request that is replied to.
 #[inline(always)]
-pub fn quick_answer(
-    lane: Lane,
-    head: &ReplyHeader,
-    waiting: &Awaited,
-    payload: &[u8],
-) -> Option<Replied>
-    requires lane { lane ≡ lane_of head.now.xid }
-    requires head { (rest : List ℕ) × IsHead payload.now head.now rest }
-    requires reply { head.now.xid ≢ event_xid }
-    ensures { IfSome result (λ request. (r : answered.Reply) × IsDueReply head.now.xid payload.now request waiting.now r) }
+pub fn replied(answer: Option<(Lane, Replied)>) -> Option<Replied>
+    ensures { result ≡ replied_of answer }
 {
-    let slot = waiting.oldest(lane)?;
-    if slot.xid() == head.xid && quick_reply(&slot, head, payload) {
-        let (op, frame) = (slot.op(), slot.frame());
-        Some(Replied { op, frame })
-    } else {
-        None
+    let (_lane, told) = answer?;
+    Some(told)
+}
+
+/// Drops the request that is replied to.
+#[inline(always)]
+pub fn forget_asked(waiting: &mut Awaited, answer: Option<(Lane, Replied)>)
+    requires { (s : answered.ServerFrame) × Answers s waiting.old answer × HasAsk s waiting.old }
+    ensures max { waiting.new.max ≡ waiting.old.max }
+    ensures forgotten { (s : answered.ServerFrame) → Answers s waiting.old answer → IsForgotten s waiting.old waiting.new }
+{
+    if let Some((lane, _told)) = answer {
+        waiting.drop_oldest(lane);
     }
 }
 
-/// Drops the request that `quick_answer` returns, of any lane, and returns it.
-// Not inlined, so that the way of the plain lane holds no values of the others.
-#[inline(never)]
-fn forget_special(
-    lane: Lane,
-    head: &ReplyHeader,
+/// Judges the server's payload after `asked` frames of the client and `count` of the server; drops the request that it
+/// replies to, and returns it, or `None` if it is no reply.
+#[inline(always)]
+pub fn settle<V: Verdict>(
+    asked: u64,
+    count: u64,
     waiting: &mut Awaited,
     payload: &[u8],
-) -> Option<Replied>
-    requires lane { lane ≡ lane_of head.now.xid }
-    requires head { (rest : List ℕ) × IsHead payload.now head.now rest }
-    requires reply { head.now.xid ≢ event_xid }
+) -> Result<Option<Replied>, V>
     ensures max { waiting.new.max ≡ waiting.old.max }
-    ensures due { IfSome result (λ request. (r : answered.Reply) × IsDueReply head.now.xid payload.now request waiting.old r) }
-    ensures dropped { IfSome result (λ request. IsDropped (lane_of head.now.xid) waiting.old waiting.new) }
-    ensures same { IfNone result (waiting.new ≡ waiting.old) }
+    ensures found { IfOk result (λ told. (s : answered.ServerFrame) × IsSettled asked count payload.now told waiting.old waiting.new s) }
+    ensures same { OnErr result (waiting.new ≡ waiting.old) }
+    ensures fault { IfErr result (Says V.tells (λ e. (e.reason ≢ NoMemory) × TellsServer asked count waiting.old payload.now e)) }
 {
-    let request = quick_answer(lane, head, waiting, payload)?;
-    waiting.drop_oldest(lane);
-    Some(request)
-}
-
-/// Whether `payload`, which begins with the header `head`, is an event; false: undecided. As `quick_event`.
-// Not inlined: with it the way of replies is too long to be inlined itself.
-#[inline(never)]
-pub fn is_event(head: &ReplyHeader, payload: &[u8]) -> bool
-    requires head { (rest : List ℕ) × IsHead payload.now head.now rest }
-    requires event { head.now.xid ≡ event_xid }
-    ensures { IsTrue result → (s : answered.ServerFrame) × answers.IsEvent s × answers.IsSent s × (payload.now ≡ answers.payload s) }
-{
-    quick_event(head, payload)
-}
-
-/// Judges the server's payload after `count` frames: if it is a reply that may come next, drops the request and returns
-/// it; `Some(None)` if it is an event that may. `None`: undecided, and nothing changed. No fault and no frame is made.
-#[inline(always)]
-pub fn forget_quick(count: u64, waiting: &mut Awaited, payload: &[u8]) -> Option<Option<Replied>>
-    ensures max { waiting.new.max ≡ waiting.old.max }
-    ensures found { IfSome result (λ told. (s : answered.ServerFrame) × IsSettled count payload.now told waiting.old waiting.new s) }
-    ensures same { IfNone result (waiting.new ≡ waiting.old) }
-{
-    if count == 0 {
-        return None;
-    }
-    let Ok(head) = reply_head(payload) else {
-        return None;
-    };
-    if head.xid == -1 {
-        if is_event(&head, payload) {
-            return Some(None);
-        }
-        return None;
-    }
-    match lane_of(head.xid) {
-        Lane::Plain => {
-            let request = quick_answer(Lane::Plain, &head, waiting, payload)?;
-            waiting.drop_oldest(Lane::Plain);
-            Some(Some(request))
-        }
-        lane => {
-            let request = forget_special(lane, &head, waiting, payload)?;
-            Some(Some(request))
-        }
-    }
-}
-
-/// The request that `frame` answers; `None` if it is no reply.
-pub fn replied(waiting: &Awaited, frame: &ServerRef<'_>) -> Option<Replied>
-    requires { HasAsk frame.now waiting.now }
-    ensures { TellsReplied frame.now waiting.now result }
-{
-    match frame {
-        ServerFrameOf::Answered(reply) => {
-            let slot = waiting.oldest(lane_of(reply.xid))?;
-            let (op, frame) = (reply.op(), slot.frame());
-            Some(Replied { op, frame })
-        }
-        ServerFrameOf::Connected { .. } => None,
-        ServerFrameOf::Event { .. } => None,
-    }
+    let answer = next_server::<V>(asked, count, waiting, payload)?;
+    let told = replied(answer);
+    forget_asked(waiting, answer);
+    Ok(told)
 }
 
 /// Drops the request that `frame` replies to.
@@ -332,17 +309,6 @@ pub fn forget(waiting: &mut Awaited, frame: &ServerFrame)
     ensures forgotten { IsForgotten frame.now waiting.old waiting.new }
 {
     if let ServerFrame::Answered(reply) = frame {
-        waiting.drop_oldest(lane_of(reply.xid));
-    }
-}
-
-/// Drops the request that the borrowed `frame` replies to.
-pub fn forget_seen(waiting: &mut Awaited, frame: &ServerRef<'_>)
-    requires { HasAsk frame.now waiting.old }
-    ensures max { waiting.new.max ≡ waiting.old.max }
-    ensures forgotten { IsForgotten frame.now waiting.old waiting.new }
-{
-    if let ServerFrameOf::Answered(reply) = frame {
         waiting.drop_oldest(lane_of(reply.xid));
     }
 }

@@ -6,7 +6,7 @@ ghost use Rattle.zk_talk.specs.declared.say.SayFault.TheVariants.{NoMemory};
 ghost use Rattle.zk_talk.specs.declared.payload.PayloadFault.TheVariants.{Say};
 ghost use Rattle.zk_talk.specs.SaidPayload.{SaysClientPayload, StandsClientPayload, RefusesClientPayload, SaysServerPayload, StandsServerPayload, RefusesServerPayload};
 
-use crate::judge::{await_numbered, forget_seen, has_room, seen_client, seen_server};
+use crate::judge::{forget_asked, has_room, judge_client, judge_server, put_asked};
 use crate::limits::Limits;
 use crate::say::{SayFault, put_length};
 use std::alloc::AllocError;
@@ -72,20 +72,21 @@ pub fn say_client_payload(
     // Memory is needed only for what may come, within its limit.
     ensures lacks { IfErr result (λ e. e ≡ Say NoMemory → StandsClientPayload limits asked waiting.old payload.now) }
 {
-    let frame = match seen_client(limits.profile(), u64::from(asked), payload) {
-        Ok(frame) => frame,
+    let count = u64::from(asked);
+    let ask = match judge_client::<ItemFault>(limits.profile(), count, payload) {
+        Ok(ask) => ask,
         Err(item) => return Err(PayloadFault::Item(item)),
     };
     if payload.len() > limits.client() as usize {
         return Err(PayloadFault::Say(SayFault::TooLong));
     }
-    if !has_room(waiting, &frame) {
+    if !has_room(waiting, payload, ask) {
         return Err(PayloadFault::Say(SayFault::QueueFull));
     }
     let Ok(()) = put_frame(payload, out) else {
         return Err(PayloadFault::Say(SayFault::NoMemory));
     };
-    await_numbered(waiting, &frame, 0);
+    put_asked(waiting, payload, ask, 0);
     Ok(())
 }
 
@@ -106,8 +107,8 @@ pub fn say_server_payload(
     // Memory is needed only for what may be said.
     ensures lacks { IfErr result (λ e. e ≡ Say NoMemory → StandsServerPayload limits asked welcomed waiting.old payload.now) }
 {
-    let frame = match seen_server(asked, welcomed, waiting, payload) {
-        Ok(frame) => frame,
+    let answer = match judge_server::<ItemFault>(asked, welcomed, waiting, payload) {
+        Ok(answer) => answer,
         Err(item) => return Err(PayloadFault::Item(item)),
     };
     if payload.len() > limits.server() as usize {
@@ -116,6 +117,6 @@ pub fn say_server_payload(
     let Ok(()) = put_frame(payload, out) else {
         return Err(PayloadFault::Say(SayFault::NoMemory));
     };
-    forget_seen(waiting, &frame);
+    forget_asked(waiting, answer);
     Ok(())
 }

@@ -20,8 +20,7 @@ ghost use Rattle.zk_talk.specs.Viewed.{Shows, Leaves, other_side};
 ghost use Rattle.zk_talk.specs.Taking.{TakesOn, StepsOn, IsRefused, Fails, given_up};
 
 use crate::frame::{
-    client_frame, client_step, keep_client, keep_server, pass_client, pass_server, server_frame,
-    server_step,
+    client_frame, keep_client, keep_server, pass_client, pass_server, server_frame,
 };
 use crate::limits::Limits;
 use crate::message::{Ending, Fault, Message, MessageOf, MessageRef, Side};
@@ -33,6 +32,7 @@ use crate::view::{shown_client, shown_server};
 use std::alloc::{AllocError, Global};
 use std::marker::Model;
 use zk_answers::Layout;
+use zk_jute::{ItemFault, Undecided};
 use zk_waiting::Awaited;
 
 /// What `Talk::take` took of a piece.
@@ -182,21 +182,23 @@ impl Talk {
             Side::Client => {
                 let used = self.client.take_front(piece)?;
                 let profile = self.limits.profile();
-                if keep_client(profile, &mut self.client, &mut self.waiting, used) {
-                    Some(used)
-                } else {
-                    self.client.take_back(used);
-                    None
+                match keep_client::<Undecided>(profile, &mut self.client, &mut self.waiting, used) {
+                    Ok(()) => Some(used),
+                    Err(_undecided) => {
+                        self.client.take_back(used);
+                        None
+                    }
                 }
             }
             Side::Server => {
                 let used = self.server.take_front(piece)?;
-                match keep_server(&mut self.server, &mut self.waiting, used) {
-                    Some(answered) => {
+                let asked = self.client.count();
+                match keep_server::<Undecided>(asked, &mut self.server, &mut self.waiting, used) {
+                    Ok(answered) => {
                         self.answered = answered;
                         Some(used)
                     }
-                    None => {
+                    Err(_undecided) => {
                         self.server.take_back(used);
                         None
                     }
@@ -222,14 +224,29 @@ impl Talk {
             Side::Client => {
                 let used = self.client.front(piece)?;
                 let profile = self.limits.profile();
-                if !pass_client(profile, &mut self.client, &mut self.waiting, piece, used) {
+                let Ok(()) = pass_client::<Undecided>(
+                    profile,
+                    &mut self.client,
+                    &mut self.waiting,
+                    piece,
+                    used,
+                ) else {
                     return None;
-                }
+                };
                 Some(used)
             }
             Side::Server => {
                 let used = self.server.front(piece)?;
-                pass_server(&mut self.server, &mut self.waiting, piece, used)?;
+                let asked = self.client.count();
+                let Ok(()) = pass_server::<Undecided>(
+                    asked,
+                    &mut self.server,
+                    &mut self.waiting,
+                    piece,
+                    used,
+                ) else {
+                    return None;
+                };
                 Some(used)
             }
         }
@@ -256,7 +273,7 @@ impl Talk {
                     });
                 };
                 let profile = self.limits.profile();
-                match client_step(profile, &mut self.client, &mut self.waiting, used) {
+                match keep_client::<ItemFault>(profile, &mut self.client, &mut self.waiting, used) {
                     Ok(()) => Ok(Stepped { used, whole: true }),
                     Err(item) => Err(refuse(&mut self.fault, side, &self.client, used, item)),
                 }
@@ -269,7 +286,7 @@ impl Talk {
                     });
                 };
                 let asked = self.client.count();
-                match server_step(asked, &mut self.server, &mut self.waiting, used) {
+                match keep_server::<ItemFault>(asked, &mut self.server, &mut self.waiting, used) {
                     Ok(answered) => {
                         self.answered = answered;
                         Ok(Stepped { used, whole: true })

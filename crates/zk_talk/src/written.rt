@@ -1,19 +1,31 @@
 //! `await_written`, `forget_written`, `put_in_length`: a message that is given as its kind and its payload's bytes.
-ghost use Rattle.std.specs.Prelude.{◌≡◌, ◌+◌, ◌≤◌, ◌<◌, ◌^◌, ◌++◌, ℤ, length, take, drop, false, IsTrue};
-ghost use Rattle.zk_answers.specs.Held as answered;
-ghost use Rattle.zk_answers.specs.Frames as answers;
+ghost use Rattle.std.specs.Prelude.{◌≡◌, ◌+◌, ◌≤◌, ◌<◌, ◌^◌, ◌++◌, length, take, drop, false, IsTrue, MatchBool};
 ghost use Rattle.zk_frames.specs.Framing.{frame};
-ghost use Rattle.zk_waiting.specs.Lane.{lane_of};
-ghost use Rattle.zk_waiting.specs.Waiting.{IsDropped};
-ghost use Rattle.zk_talk.specs.Settled.{IsDueOf};
-ghost use Rattle.zk_talk.specs.Written.{SaysClientWritten, SaysServerWritten};
+ghost use Rattle.zk_answers.specs.Held.{ServerFrame};
+ghost use Rattle.zk_waiting.specs.Waiting.{Lanes};
+ghost use Rattle.zk_talk.specs.declared.message.Kind.TheVariants.{Connect, Ask};
+ghost use Rattle.zk_talk.specs.declared.message.MessageOf.TheVariants.{Server};
+ghost use Rattle.zk_talk.specs.Settled.{IsTurn, Answers};
+ghost use Rattle.zk_talk.specs.Written.{SaysClientWritten, SaysServerWritten, kind_of};
 
-use crate::judge::{await_quick, is_event, quick_answer, seen_client, seen_server};
+use crate::judge::{await_ask, forget_asked, judge_server};
 use crate::limits::Limits;
 use crate::message::Kind;
-use zk_answers::reply_head;
+use crate::replied::Replied;
+use zk_jute::Undecided;
 use zk_records::Op;
-use zk_waiting::{Awaited, lane_of};
+use zk_waiting::{Awaited, Lane};
+
+/// Whether a client's message of this kind may come, by whether the client has spoken.
+fn is_next(asked: bool, kind: Kind) -> bool
+    ensures { IsTrue result → MatchBool asked (kind ≡ Ask) (kind ≡ Connect) }
+{
+    match kind {
+        Kind::Connect => !asked,
+        Kind::Ask => asked,
+        Kind::Connected | Kind::Answered(_) | Kind::Event => false,
+    }
+}
 
 /// Lets the client's message of this kind and payload wait for its reply, if it may be said; false: undecided, and nothing
 /// changed. It allocates nothing.
@@ -30,23 +42,12 @@ pub fn await_written(
     ensures said { IsTrue result → SaysClientWritten limits asked kind waiting.old payload.now waiting.new }
     ensures same { result ≡ false → waiting.new ≡ waiting.old }
 {
-    if payload.len() > limits.client() as usize {
+    if payload.len() > limits.client() as usize || !is_next(asked, kind) {
         return false;
     }
-    match kind {
-        Kind::Connect => {
-            if asked {
-                return false;
-            }
-            seen_client(limits.profile(), 0, payload).is_ok()
-        }
-        Kind::Ask => {
-            if !asked {
-                return false;
-            }
-            await_quick(limits.profile(), 1, 0, waiting, payload)
-        }
-        Kind::Connected | Kind::Answered(_) | Kind::Event => false,
+    match await_ask::<Undecided>(limits.profile(), u64::from(asked), 0, waiting, payload) {
+        Ok(()) => true,
+        Err(_undecided) => false,
     }
 }
 
@@ -57,40 +58,21 @@ fn is_same(a: Op, b: Op) -> bool
     a == b
 }
 
-/// Drops the request of the operation `op` that `payload` replies to, if it may come after the server's first; false:
-/// undecided, and nothing changed. No fault and no frame is made.
-fn forget_answer(op: Op, waiting: &mut Awaited, payload: &[u8]) -> bool
-    ensures max { waiting.new.max ≡ waiting.old.max }
-    ensures found { IsTrue result → (xid : ℤ) × (r : answered.Reply) × IsDueOf op xid payload.now waiting.old r × IsDropped (lane_of xid) waiting.old waiting.new }
-    ensures same { result ≡ false → waiting.new ≡ waiting.old }
+/// Whether a server's message is of this kind, which replies to `answer`, by whether the server has spoken.
+fn is_answer(welcomed: bool, kind: Kind, answer: Option<(Lane, Replied)>) -> bool
+    ensures { IsTrue result → (s : ServerFrame) (w : Lanes) → IsTurn welcomed s → Answers s w answer → kind_of (Server s) ≡ kind }
 {
-    let Ok(head) = reply_head(payload) else {
-        return false;
-    };
-    if head.xid == -1 {
-        return false;
+    match answer {
+        Some((_lane, told)) => match kind {
+            Kind::Answered(asked) => is_same(told.op, asked),
+            Kind::Connect | Kind::Ask | Kind::Connected | Kind::Event => false,
+        },
+        None => match kind {
+            Kind::Connected => !welcomed,
+            Kind::Event => welcomed,
+            Kind::Connect | Kind::Ask | Kind::Answered(_) => false,
+        },
     }
-    let Some(answered) = quick_answer(lane_of(head.xid), &head, waiting, payload) else {
-        return false;
-    };
-    if !is_same(answered.op, op) {
-        return false;
-    }
-    waiting.drop_oldest(lane_of(head.xid));
-    true
-}
-
-/// Whether `payload` is an event; false: undecided. No fault and no frame is made.
-fn is_event_alone(payload: &[u8]) -> bool
-    ensures { IsTrue result → (s : answered.ServerFrame) × answers.IsEvent s × answers.IsSent s × (payload.now ≡ answers.payload s) }
-{
-    let Ok(head) = reply_head(payload) else {
-        return false;
-    };
-    if head.xid != -1 {
-        return false;
-    }
-    is_event(&head, payload)
 }
 
 /// Drops the request that the server's message of this kind and payload replies to, if it may be said; false: undecided,
@@ -111,20 +93,14 @@ pub fn forget_written(
     if payload.len() > limits.server() as usize {
         return false;
     }
-    if let Kind::Connected = kind {
-        if welcomed {
-            return false;
-        }
-        return seen_server(asked, welcomed, waiting, payload).is_ok();
-    }
-    if !welcomed {
+    let Ok(answer) = judge_server::<Undecided>(asked, welcomed, waiting, payload) else {
+        return false;
+    };
+    if !is_answer(welcomed, kind, answer) {
         return false;
     }
-    match kind {
-        Kind::Answered(op) => forget_answer(op, waiting, payload),
-        Kind::Event => is_event_alone(payload),
-        Kind::Connect | Kind::Ask | Kind::Connected => false,
-    }
+    forget_asked(waiting, answer);
+    true
 }
 
 /// Puts the length of the payload that comes after the four bytes at `start` into these.

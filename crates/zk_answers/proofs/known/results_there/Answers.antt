@@ -3,7 +3,7 @@ use Rattle.zk_answers.proofs.Passing.{left_first, left_on, one_more, all_left}
 use Rattle.zk_answers.proofs.known.results_there.Goals as goal
 
 pub loop-next-init : goal.loop-next-init
-loop-next-init c = record { within = c.requires.within; few = omega arith; left = left_first c.args.src.now.bytes.now c.args.place c.requires.within }
+loop-next-init c = record { within = c.requires.within; few = omega arith; left = left_first c.args.payload.now c.args.place c.requires.within }
 
 pub behind_result-requires-clause-stands : goal.behind_result-requires-clause-stands
 behind_result-requires-clause-stands c =
@@ -13,7 +13,7 @@ behind_result-requires-clause-stands c =
 
 pub loop-next-preserved : goal.loop-next-preserved
 loop-next-preserved c =
-    let src = c.args.src.now.bytes.now in
+    let src = c.args.payload.now in
     let i = c.loop-next.invariant in
     let s = c.requires.stands in
     let l = i.left s.0 s.1 s.2 s.3 in
@@ -31,4 +31,4 @@ lying-requires c =
 
 pub returns : goal.returns
 returns c = λ ds end have stands.
-    c.lying.ensures ∙ all_left c.args.src.now.bytes.now c.args.place c.loop-next.at c.loop-next.count c.requires.within c.loop-next.invariant.left c.in_default.ensures ds end have stands
+    c.lying.ensures ∙ all_left c.args.payload.now c.args.place c.loop-next.at c.loop-next.count c.requires.within c.loop-next.invariant.left c.in_default.ensures ds end have stands

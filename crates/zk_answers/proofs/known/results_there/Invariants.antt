@@ -4,10 +4,10 @@ use Rattle.zk_answers.proofs.known.results_there.Given as goal
 
 abbrev pub invariant-loop-next : goal.invariant-loop-next
 invariant-loop-next l = record {
-  within : l.at ≤ length l.src.bytes.now;
+  within : l.at ≤ length l.payload;
   few : l.count ≤ l.at;
-  left : AreLeft l.src.bytes.now l.place l.at l.count;
+  left : AreLeft l.payload l.place l.at l.count;
 }
 
 abbrev pub decreases-loop-next : goal.decreases-loop-next
-decreases-loop-next l = length l.src.bytes.now - l.at
+decreases-loop-next l = length l.payload - l.at

@@ -1,38 +1,49 @@
-use Rattle.std.proofs.Common.{sym, ◌∙◌, arith}
+use Rattle.std.proofs.Common.{◌≡◌, ℤ, Option, Some, None, to_z, of_z, refl, sym, ◌∙◌, arith}
+use Rattle.std.specs.Prelude.{MatchOption}
+use Rattle.std.specs.Option.{IsSome}
 use Rattle.std.specs.Int.{w32}
 use Rattle.std.proofs.lemmas.Int.{to_z-of_z}
 use Rattle.zk_records.specs.Records.{request_header}
-use Rattle.zk_asks.proofs.Knowing.{of_answer, of_some, surely_read, ask_header, ask_body, ask_read, ask_is}
+use Rattle.zk_records.specs.Codes.{HasOp, IsNoOp, op_number}
+use Rattle.zk_records.specs.declared.op.Op.{Op}
+use Rattle.zk_records.specs.declared.profile.Profile.TheVariants as profiles
+use Rattle.zk_asks.proofs.Knowing.{found_there, ends_within, of_some, ask_header, ask_op, ask_body, ask_is}
 use Rattle.zk_asks.proofs.known.known_ask.Goals as goal
 
-pub read_ref-requires-clause-known : goal.read_ref-requires-clause-known
-read_ref-requires-clause-known c = let f = c.requires in ask_header c.args.src.now.bytes.now f.0 (f.1, f.2, f.3)
+pub known_at-place-requires : goal.known_at-place-requires
+known_at-place-requires c κs = let f = c.requires in ((refl, tt), (omega arith, ask_header c.args.payload.now f.0 (f.1, f.2, f.3)))
 
-pub unwrap-place-requires : goal.unwrap-place-requires
-unwrap-place-requires c = let f = c.requires in surely_read request_header c.args.src.now.bytes.now 0 c.read_ref.result c.read_ref.ensures.fault (ask_header c.args.src.now.bytes.now f.0 (f.1, f.2, f.3))
+some_op : (o : Option Op) (kind : ℤ) → MatchOption o (IsNoOp profiles.V35 kind) (λ op. HasOp profiles.V35 op × (kind ≡ op_number op)) → (op : Op) → kind ≡ op_number op → IsSome o
+some_op (Some op) kind told p e = refl
+some_op None kind told p e = absurd (told p tt e)
 
-pub body_ref-requires : goal.body_ref-requires
-body_ref-requires c =
+pub unwrap-op-requires : goal.unwrap-op-requires
+unwrap-op-requires c =
+    let src = c.args.payload.now in
     let f = c.requires in
-    let h = c.unwrap-place.result.0 in
-    let found = of_answer _ c.read_ref.result c.unwrap-place.result c.unwrap-place.ensures c.read_ref.ensures.found in
-    let within = of_answer _ c.read_ref.result c.unwrap-place.result c.unwrap-place.ensures c.read_ref.ensures.within in
-    let kind = sym (to_z-of_z w32 h.kind found.0.1.1.0) ∙ (of_some _ _ c.op_of.result c.unwrap-op.result c.unwrap-op.ensures c.op_of.ensures).1 in
-    (omega arith, (within, ask_body c.args.src.now.bytes.now h c.unwrap-place.result.1 found.0 found.1 c.unwrap-op.result kind f.0 (f.1, f.2, f.3) within))
+    let x = c.known_at-place in
+    let h = x.result.0 in
+    let found = found_there request_header src 0 x.result x.ensures (ask_header src f.0 (f.1, f.2, f.3)) in
+    let op = ask_op src h x.result.1 found.0 found.1 f.0 (f.1, f.2, f.3) in
+    some_op c.op_of.result (to_z w32 (of_z w32 h.kind)) c.op_of.ensures op.0 (to_z-of_z w32 h.kind found.0.1.1.0 ∙ op.1)
 
-pub unwrap-ask-requires : goal.unwrap-ask-requires
-unwrap-ask-requires c =
+pub body_there-ask-requires : goal.body_there-ask-requires
+body_there-ask-requires c =
+    let src = c.args.payload.now in
     let f = c.requires in
-    let h = c.unwrap-place.result.0 in
-    let found = of_answer _ c.read_ref.result c.unwrap-place.result c.unwrap-place.ensures c.read_ref.ensures.found in
+    let x = c.known_at-place in
+    let h = x.result.0 in
+    let found = found_there request_header src 0 x.result x.ensures (ask_header src f.0 (f.1, f.2, f.3)) in
+    let within = ends_within (request_header.items h) src 0 x.result.1 (omega arith) found.1 in
     let kind = sym (to_z-of_z w32 h.kind found.0.1.1.0) ∙ (of_some _ _ c.op_of.result c.unwrap-op.result c.unwrap-op.ensures c.op_of.ensures).1 in
-    ask_read c.args.src.now.bytes.now h c.unwrap-place.result.1 found.0 found.1 c.unwrap-op.result kind f.0 (f.1, f.2, f.3) c.body_ref.result c.body_ref.ensures.fault
+    record { within = within; stands = ask_body src h x.result.1 found.0 found.1 c.unwrap-op.result kind f.0 (f.1, f.2, f.3) within }
 
 pub returns : goal.returns
 returns c = λ f later sent is.
-    let h = c.unwrap-place.result.0 in
-    let found = of_answer _ c.read_ref.result c.unwrap-place.result c.unwrap-place.ensures c.read_ref.ensures.found in
+    let src = c.args.payload.now in
+    let x = c.known_at-place in
+    let h = x.result.0 in
+    let found = found_there request_header src 0 x.result x.ensures (ask_header src f (later, sent, is)) in
+    let within = ends_within (request_header.items h) src 0 x.result.1 (omega arith) found.1 in
     let kind = sym (to_z-of_z w32 h.kind found.0.1.1.0) ∙ (of_some _ _ c.op_of.result c.unwrap-op.result c.unwrap-op.ensures c.op_of.ensures).1 in
-    let body = of_answer _ c.body_ref.result c.unwrap-ask.result c.unwrap-ask.ensures c.body_ref.ensures.found in
-    rw (to_z-of_z w32 h.xid found.0.1.0)
-    (ask_is c.args.src.now.bytes.now h c.unwrap-place.result.1 found.0 found.1 c.unwrap-op.result kind f (later, sent, is) c.unwrap-ask.result.0 c.unwrap-ask.result.1 body.0 body.1 body.2)
+    rw (to_z-of_z w32 h.xid found.0.1.0) (ask_is src h x.result.1 found.0 found.1 c.unwrap-op.result kind within f (later, sent, is) c.body_there-ask.result c.body_there-ask.ensures)

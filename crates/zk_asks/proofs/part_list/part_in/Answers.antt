@@ -1,35 +1,36 @@
-use Rattle.std.proofs.Common.{refl, sym, ◌∙◌, arith}
-use Rattle.zk_records.specs.Records.{multi_header}
-use Rattle.zk_asks.proofs.Knowing.{of_answer, of_some, surely_read}
-use Rattle.zk_asks.proofs.Left.{record_behind, part_behind}
-use Rattle.zk_asks.proofs.Lying.{mark_stands, pair_told}
+use Rattle.std.proofs.Common.{◌≡◌, Option, Some, refl, sym, ◌∙◌, subst}
+use Rattle.std.specs.Option.{IsSome}
+use Rattle.zk_records.specs.declared.op.PartOp.{PartOp}
+use Rattle.zk_asks.proofs.Lying.{mark_stands, op_there, record_known, record_behind, part_is}
 use Rattle.zk_asks.proofs.part_list.part_in.Goals as goal
 
-pub read_ref-requires-clause-known : goal.read_ref-requires-clause-known
-read_ref-requires-clause-known c = let p = c.requires.known in mark_stands p.0 c.args.src.now.bytes.now c.args.place p.1 c.requires.place p.2 p.3
-
-pub unwrap-after-requires : goal.unwrap-after-requires
-unwrap-after-requires c =
+pub known_at-after-requires : goal.known_at-after-requires
+known_at-after-requires c κs =
     let p = c.requires.known in
-    surely_read multi_header c.args.src.now.bytes.now c.args.place c.read_ref.result c.read_ref.ensures.fault (mark_stands p.0 c.args.src.now.bytes.now c.args.place p.1 c.requires.place p.2 p.3)
+    ((refl, tt), (c.requires.place, mark_stands p.0 c.args.payload.now c.args.place p.1 c.requires.place p.2 p.3))
 
-pub record_ref-requires : goal.record_ref-requires
-record_ref-requires c =
+pub unwrap-op-requires : goal.unwrap-op-requires
+unwrap-op-requires c =
     let p = c.requires.known in
-    let within = of_answer _ c.read_ref.result c.unwrap-after.result c.unwrap-after.ensures c.read_ref.ensures.within in
-    let kind = of_some _ _ c.part_of.result c.unwrap-op.result c.unwrap-op.ensures c.part_of.ensures in
-    (omega arith, (within, record_behind p.0 c.args.src.now.bytes.now c.args.place p.1 c.requires.place p.2 p.3 c.read_ref.result c.unwrap-after.result c.unwrap-after.ensures c.read_ref.ensures.found c.unwrap-op.result kind))
+    subst IsSome (sym (op_there p.0 c.args.payload.now c.args.place p.1 c.requires.place p.2 p.3 c.known_at-after.result c.known_at-after.ensures c.part_of.result c.part_of.ensures)) refl
 
-pub unwrap-requires : goal.unwrap-requires
-unwrap-requires c =
+pub record_in-requires-clause-place : goal.record_in-requires-clause-place
+record_in-requires-clause-place c =
     let p = c.requires.known in
-    let kind = of_some _ _ c.part_of.result c.unwrap-op.result c.unwrap-op.ensures c.part_of.ensures in
-    let r = c.record_ref in
-    rw (part_behind p.0 c.args.src.now.bytes.now c.args.place p.1 c.requires.place p.2 p.3 c.read_ref.result c.unwrap-after.result c.unwrap-after.ensures c.read_ref.ensures.found c.unwrap-op.result kind r.result r.ensures.found r.ensures.fault) refl
+    (record_behind p.0 c.args.payload.now c.args.place p.1 c.requires.place p.2 p.3 c.known_at-after.result c.known_at-after.ensures).0
 
-pub returns-clause-only : goal.returns-clause-only
-returns-clause-only c = λ p end have stands.
-    let kind = of_some _ _ c.part_of.result c.unwrap-op.result c.unwrap-op.ensures c.part_of.ensures in
-    let r = c.record_ref in
-    let one = part_behind p c.args.src.now.bytes.now c.args.place end c.requires.place have stands c.read_ref.result c.unwrap-after.result c.unwrap-after.ensures c.read_ref.ensures.found c.unwrap-op.result kind r.result r.ensures.found r.ensures.fault in
-    pair_told _ _ (sym c.unwrap.ensures ∙ one)
+same_op : (a b : PartOp) → ◌≡◌ {A = Option PartOp} (Some a) (Some b) → a ≡ b
+same_op a b e = cc
+
+pub record_in-requires-clause-known : goal.record_in-requires-clause-known
+record_in-requires-clause-known c =
+    let p = c.requires.known in
+    let x = c.known_at-after in
+    let op = op_there p.0 c.args.payload.now c.args.place p.1 c.requires.place p.2 p.3 x.result x.ensures c.part_of.result c.part_of.ensures in
+    record_known c.args.payload.now x.result.1 (same_op _ _ (sym op ∙ c.unwrap-op.ensures)) (record_behind p.0 c.args.payload.now c.args.place p.1 c.requires.place p.2 p.3 x.result x.ensures).1
+
+pub returns : goal.returns
+returns c = λ p end have stands.
+    let x = c.known_at-after in
+    let op = op_there p c.args.payload.now c.args.place end c.requires.place have stands x.result x.ensures c.part_of.result c.part_of.ensures in
+    part_is p c.args.payload.now c.args.place end c.requires.place have stands x.result x.ensures c.unwrap-op.result (same_op _ _ (sym op ∙ c.unwrap-op.ensures)) c.record_in.result c.record_in.ensures

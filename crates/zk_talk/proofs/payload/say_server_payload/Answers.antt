@@ -8,15 +8,21 @@ returns-in-Err-clause-err c = inr (server_payload_item c.args.limits c.args.aske
 
 pub returns-then-payload-server-clause-err : goal.returns-then-payload-server-clause-err
 returns-then-payload-server-clause-err c =
+    let k = c.in-Ok.ensures.found in
     let over : c.args.limits.server < length c.args.payload.now = omega (arith, c.if-payload-server.true, c.server.ensures) in
-    inr (server_payload_long c.args.limits c.args.asked c.args.welcomed c.args.waiting.now c.args.payload.now c.in-Ok.frame c.in-Ok.ensures.due.2 c.in-Ok.ensures.may over)
+    inr (server_payload_long c.args.limits c.args.asked c.args.welcomed c.args.waiting.now c.args.payload.now k.0 k.1.is k.1.may over)
 
 pub returns-in_default-clause-lacks : goal.returns-in_default-clause-lacks
 returns-in_default-clause-lacks c =
+    let k = c.in-Ok.ensures.found in
     let small : length c.args.payload.now ≤ c.args.limits.server = omega (arith, c.if-payload-server.false, c.server.ensures) in
-    λ wanting. server_payload_stands c.args.limits c.args.asked c.args.welcomed c.args.waiting.now c.args.payload.now c.in-Ok.frame c.in-Ok.ensures.due.2 c.in-Ok.ensures.may small
+    λ wanting. server_payload_stands c.args.limits c.args.asked c.args.welcomed c.args.waiting.now c.args.payload.now k.0 k.1.is k.1.may small
+
+pub forget_asked-requires : goal.forget_asked-requires
+forget_asked-requires c = let k = c.in-Ok.ensures.found in (k.0, k.1.replies, due_waits c.args.waiting.now k.0 k.1.due)
 
 pub returns-clause-said : goal.returns-clause-said
 returns-clause-said c =
+    let k = c.in-Ok.ensures.found in
     let small : length c.args.payload.now ≤ c.args.limits.server = omega (arith, c.if-payload-server.false, c.server.ensures) in
-    server_payload_said c.args.limits c.args.asked c.args.welcomed c.args.waiting.now c.args.payload.now c.in-Ok.frame c.in-Ok.ensures.due.2 c.in-Ok.ensures.may c.forget_seen.new.waiting (due_waits c.args.waiting.now c.in-Ok.frame c.in-Ok.ensures.due.0) small c.forget_seen.ensures.forgotten
+    server_payload_said c.args.limits c.args.asked c.args.welcomed c.args.waiting.now c.args.payload.now k.0 k.1.is k.1.may c.forget_asked.new.waiting (due_waits c.args.waiting.now k.0 k.1.due) small (c.forget_asked.ensures.forgotten k.0 k.1.replies)

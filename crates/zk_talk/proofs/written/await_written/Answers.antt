@@ -1,14 +1,18 @@
 use Rattle.std.proofs.Common.{◌≤◌, length, arith, subst}
+use Rattle.zk_records.specs.declared.profile.Profile.{Profile}
 use Rattle.zk_asks.specs.Held.{ClientFrame}
 use Rattle.zk_talk.specs.Settled.{IsAwaited}
-use Rattle.zk_talk.proofs.SayingWritten.{ask_written}
+use Rattle.zk_talk.proofs.SayingPayloads.{spoken_frames}
+use Rattle.zk_talk.proofs.SayingWritten.{client_written}
 use Rattle.zk_talk.proofs.written.await_written.Goals as goal
 
-pub returns-else-not-asked-clause-said : goal.returns-else-not-asked-clause-said
-returns-else-not-asked-clause-said c = λ yes.
+pub returns-in-Ok-clause-said : goal.returns-in-Ok-clause-said
+returns-in-Ok-clause-said c = λ yes.
+    let limits = c.args.limits in
+    let n = c.from.result in
     let w = c.args.waiting.now in
-    let x = c.await_quick.new.waiting in
+    let x = c.await_ask.new.waiting in
     let p = c.args.payload.now in
-    let small : length p ≤ c.args.limits.client = omega (arith, c.if-payload-client.false, c.client.ensures) in
-    let a = subst (λ z. (f : ClientFrame) × IsAwaited z 1 0 p w x f) c.profile-in-Ask.ensures (c.await_quick.ensures.found yes) in
-    rw (c.in-Ask.is, c.if-not-asked.false) (ask_written c.args.limits w x p c.requires.room small a.0 a.1)
+    let small : length p ≤ limits.client = omega (arith, c.if-payload-client.false, c.client.ensures) in
+    let a = subst (λ (z : Profile). (f : ClientFrame) × IsAwaited z n 0 p w x f) c.profile.ensures c.in-Ok.ensures.found in
+    client_written limits c.args.asked n (spoken_frames c.args.asked n c.from.ensures) c.args.kind (c.is_next.ensures c.if-not-is_next.false) w x p c.requires.room small a.0 a.1

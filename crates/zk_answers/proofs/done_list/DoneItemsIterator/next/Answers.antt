@@ -19,7 +19,7 @@ invariant_of-self c =
     let src = l.payload.now in
     let some : 0 < l.left = omega (arith, c.if-self-eq0.false) in
     let r = c.done_in-done in
-    (first_read done_items src (done_value src) (done_read src) l.left l.place some c.self.invariant r.result.0 r.result.1 (λ d e have stands. ap Ok (r.ensures.only d e have stands))).0
+    (first_read done_items src (done_value src) (done_read src) l.left l.place some c.self.invariant r.result.0 r.result.1 (λ d e have stands. ap Ok (r.ensures d e have stands))).0
 
 pub returns-clause-steps : goal.returns-clause-steps
 returns-clause-steps c =
@@ -27,7 +27,7 @@ returns-clause-steps c =
     let src = l.payload.now in
     let some : 0 < l.left = omega (arith, c.if-self-eq0.false) in
     let r = c.done_in-done in
-    sym c.self.view_is ∙ (first_read done_items src (done_value src) (done_read src) l.left l.place some c.self.invariant r.result.0 r.result.1 (λ d e have stands. ap Ok (r.ensures.only d e have stands))).1
+    sym c.self.view_is ∙ (first_read done_items src (done_value src) (done_read src) l.left l.place some c.self.invariant r.result.0 r.result.1 (λ d e have stands. ap Ok (r.ensures d e have stands))).1
 
 pub returns-clause-goes : goal.returns-clause-goes
 returns-clause-goes c =

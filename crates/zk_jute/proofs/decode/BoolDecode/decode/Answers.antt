@@ -1,20 +1,9 @@
-use Rattle.std.proofs.Common.{List, ℕ, sym, subst}
-use Rattle.std.specs.Prelude.{IsOk}
-use Rattle.zk_jute.specs.Layout.{One, End}
-use Rattle.zk_jute.specs.Item.{Boolean}
-use Rattle.zk_jute.specs.Reading.{items_at}
-use Rattle.zk_jute.specs.Standing.{Known}
+use Rattle.std.proofs.Common.{sym}
 use Rattle.zk_jute.proofs.Fields.{bool_gives, bool_plain}
-use Rattle.zk_jute.proofs.Known.{bool_known}
 use Rattle.zk_jute.proofs.decode.BoolDecode.decode.Goals as goal
 
-pub given-requires : goal.given-requires
-given-requires g c =
-    let there = subst (λ (src : List ℕ). Known g.P.Origin.knows (IsOk (items_at (One Boolean End) src c.args.place))) (sym c.payload.ensures) c.requires.known in
-    bool_known g.P.Origin.knows c.payload.result.now c.args.place c.bool_at.result c.bool_at.ensures.exact there
-
 pub returns-clause-exact : goal.returns-clause-exact
-returns-clause-exact g c = rw (c.given.ensures, sym c.payload.ensures) (bool_gives c.payload.result.now c.args.place c.bool_at.result c.bool_at.ensures.exact)
+returns-clause-exact g c = rw (sym c.payload.ensures) (bool_gives c.payload.result.now c.args.place c.bool_at.result c.bool_at.ensures.exact)
 
 pub returns-clause-plain : goal.returns-clause-plain
-returns-clause-plain g c = λ _. rw (c.given.ensures, sym c.payload.ensures) (bool_plain c.payload.result.now c.args.place c.bool_at.result c.bool_at.ensures.exact)
+returns-clause-plain g c = λ _. rw (sym c.payload.ensures) (bool_plain c.payload.result.now c.args.place c.bool_at.result c.bool_at.ensures.exact)

@@ -1,20 +1,28 @@
-use Rattle.std.proofs.Common.{List, ℕ, sym, subst}
-use Rattle.std.specs.Prelude.{IsOk}
-use Rattle.zk_jute.specs.Layout.{One, End}
-use Rattle.zk_jute.specs.Item.{Long}
-use Rattle.zk_jute.specs.Reading.{items_at}
-use Rattle.zk_jute.specs.Standing.{Known}
+use Rattle.std.proofs.Common.{◌≡◌, ◌+◌, ◌≤◌, Bool, true, false, length, Ok, Err, sym, ap, ◌∙◌, arith}
+use Rattle.std.specs.Int.{w64}
+use Rattle.std.proofs.lemmas.Int.{to_z-of_z, ints}
+use Rattle.zk_jute.specs.Reading.{told}
 use Rattle.zk_jute.proofs.Fields.{long_gives, long_plain}
-use Rattle.zk_jute.proofs.Known.{long_known}
+use Rattle.zk_jute.proofs.Known.{long_room, long_short}
 use Rattle.zk_jute.proofs.decode.I64Decode.decode.Goals as goal
 
-pub given-requires : goal.given-requires
-given-requires g c =
-    let there = subst (λ (src : List ℕ). Known g.P.Origin.knows (IsOk (items_at (One Long End) src c.args.place))) (sym c.payload.ensures) c.requires.known in
-    long_known g.P.Origin.knows c.payload.result.now c.args.place c.long_at.result c.long_at.ensures.exact there
+not_there : (b : Bool) → b ≡ true → b ≡ false → ⊥
+not_there b e f = let q : ◌≡◌ {A = Bool} true false = sym e ∙ f in absurd cc
+
+pub has-requires-clause-known : goal.has-requires-clause-known
+has-requires-clause-known g c = long_room (g.P.Origin.payload c.args.src.now) c.args.place g.P.Origin.knows c.requires.place c.requires.known
+
+pub returns-then-not-has-clause-exact : goal.returns-then-not-has-clause-exact
+returns-then-not-has-clause-exact g c =
+    let src = g.P.Origin.payload c.args.src.now in
+    let none : c.args.place + 8 ≤ length src → ⊥ = (λ le. not_there c.has.result (c.has.ensures.1 le) c.if-not-has.true) in
+    long_gives src c.args.place (Err c.at.result) (ap told (long_short src c.args.place none c.requires.place) ∙ ap Err (sym c.at.ensures))
+
+pub returns-then-not-has-clause-plain : goal.returns-then-not-has-clause-plain
+returns-then-not-has-clause-plain g c = λ plain.
+    let src = g.P.Origin.payload c.args.src.now in
+    let none : c.args.place + 8 ≤ length src → ⊥ = (λ le. not_there c.has.result (c.has.ensures.1 le) c.if-not-has.true) in
+    long_plain src c.args.place (Err c.at.result) (ap told (long_short src c.args.place none c.requires.place) ∙ ap Err (sym c.at.ensures))
 
 pub returns-clause-exact : goal.returns-clause-exact
-returns-clause-exact g c = rw (c.given.ensures, sym c.payload.ensures) (long_gives c.payload.result.now c.args.place c.long_at.result c.long_at.ensures.exact)
-
-pub returns-clause-plain : goal.returns-clause-plain
-returns-clause-plain g c = λ _. rw (c.given.ensures, sym c.payload.ensures) (long_plain c.payload.result.now c.args.place c.long_at.result c.long_at.ensures.exact)
+returns-clause-exact g c = rw (sym c.payload.ensures, to_z-of_z w64 c.long_of.result (omega (arith, ints, c.long_of.type_inv))) (long_gives c.payload.result.now c.args.place (Ok (c.long_of.result, c.args.place + 8)) c.long_of.ensures)

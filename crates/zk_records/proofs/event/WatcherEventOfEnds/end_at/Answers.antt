@@ -1,9 +1,0 @@
-use Rattle.std.proofs.Common.{refl}
-use Rattle.zk_jute.specs.Wired.{◌and◌, int}
-use Rattle.zk_jute.proofs.Reached.{made_ends}
-use Rattle.zk_records.specs.Made as made
-use Rattle.zk_records.specs.Records.{watcher_event_of}
-use Rattle.zk_records.proofs.event.WatcherEventOfEnds.end_at.Goals as goal
-
-pub returns-clause-some : goal.returns-clause-some
-returns-clause-some g c = made_ends (int and int and g.T.Form.wired) (watcher_event_of g.T.Form.wired) made.watcher_event (λ x. refl) c.args.payload.now c.args.place c.end_at.result c.end_at.ensures.some
