@@ -167,7 +167,7 @@ fn outlined(payload: &[u8]) -> Option<(i32, Op, usize)> {
     Some((outline.xid, outline.op, outline.parts))
 }
 
-/// `judge_ask` decides, and reports the fault that is asked for: `TWO` ends within its last header.
+/// `judge_ask` decides, and reports the fault that is asked for: without its last byte `TWO` ends within its last header.
 #[test]
 fn outlines(rt: HostRuntime) -> Result<(), Fail> {
     let exists = outlined(b"\0\0\0\x01\0\0\0\x03\0\0\0\x02/a\x01");

@@ -13,7 +13,7 @@ use Rattle.zk_jute.specs.Told.{StandsAt, HasSureFault, IsToldAt, IsSurelyToldAt}
 use Rattle.zk_jute.specs.Verdict.{Says, IsValueAt}
 use Rattle.zk_jute.specs.Wired.{Wired}
 use Rattle.zk_jute.proofs.Covers.{Covers, text_covered}
-use Rattle.zk_jute.proofs.Judged.{says_more}
+use Rattle.zk_jute.proofs.Judged.{errs_more}
 use Rattle.zk_records.specs.Records.{reply_header}
 use Rattle.zk_records.specs.declared.header.ReplyHeader.{ReplyHeader}
 use Rattle.zk_records.specs.declared.op.Op.{Op}
@@ -25,19 +25,14 @@ use Rattle.zk_answers.specs.Held.{Body, Outcome, PartDone}
 use Rattle.zk_answers.specs.declared.frame.PartDoneOf.TheVariants as done
 use Rattle.zk_answers.specs.declared.frame.BodyOf.TheVariants as body
 use Rattle.zk_answers.specs.declared.frame.OutcomeOf.TheVariants as outcome
-use Rattle.zk_answers.specs.Results.{Own, AnswerAll, IsDoneFault, multi_items, result_of, result_layout}
+use Rattle.zk_answers.specs.Results.{Own, IsDoneFault, result_of, result_layout}
 use Rattle.zk_answers.specs.Rows.{op_of_body, body_items}
 use Rattle.zk_answers.specs.Frames.{BodyFits}
 use Rattle.zk_answers.specs.Faults.{Shape, Fields, IsShapeFault, body_shape, IsHead}
-use Rattle.zk_answers.specs.Fronts.{IsReplyUnder, IsResultAt}
+use Rattle.zk_answers.specs.Fronts.{AreDonesAt, IsReplyUnder, IsResultAt}
 use Rattle.zk_answers.specs.Scanned.{IsBodyAt, IsOutcomeAt}
 use Rattle.zk_answers.proofs.Heads.{head_is}
 use Rattle.zk_answers.proofs.Refusals.{reply_found}
-
--- what a verdict says of more, of a result
-pub errs_more : {V X : Type 0} (tells : V → Option ItemFault) (P Q : ItemFault → Type 0) → ((e : ItemFault) → P e → Q e) → (r : Result X V) → IfErr r (Says tells P) → IfErr r (Says tells Q)
-errs_more tells P Q more (Ok x) h = tt
-errs_more tells P Q more (Err v) h = says_more tells P Q more v h
 
 module _ (src : List ℕ) (place : ℕ) (op : Op) (left : List PartOp) where
   abbrev pub BodyEnds : {V : Type 0} → Result ℕ V → Type 0
@@ -70,7 +65,7 @@ module _ (src : List ℕ) (place : ℕ) (op : Op) (left : List PartOp) where
 
 -- of a multi's results
 module _ (src : List ℕ) (place : ℕ) (op : Op) (left : List PartOp) (is : op ≡ ops.Multi) where
-  pub results_there : {V : Type 0} (result : Result ℕ V) → IfOk result (λ end. (ds : List PartDone) × AnswerAll left ds × HaveBytes (multi_items ds) × StandsAt (multi_items ds) src place end) → BodyEnds src place op left result
+  pub results_there : {V : Type 0} (result : Result ℕ V) → IfOk result (AreDonesAt left src place) → BodyEnds src place op left result
   results_there (Ok end) f = (body.Multi f.0, (sym is, f.1, f.2, f.3))
   results_there (Err e) f = tt
 

@@ -5,8 +5,7 @@ use Rattle.std.proofs.lemmas.List.{append-nil, length-append}
 use Rattle.zk_jute.specs.Item.{Item, bytes_of, HaveBytes}
 use Rattle.zk_jute.specs.Layout.{IsValueOf}
 use Rattle.zk_jute.specs.Told.{StandsAt}
-use Rattle.zk_jute.specs.Held.{Text, Vector}
-use Rattle.zk_jute.specs.Wired.{Wired, ustring, vector}
+use Rattle.zk_jute.specs.Wired.{Wired}
 use Rattle.zk_jute.specs.Standing.{OneStands}
 use Rattle.zk_jute.proofs.Layouts.{bytes_only, bytes_both, have_parts}
 use Rattle.zk_jute.proofs.Known.{stands_first, stands_last}
@@ -15,18 +14,15 @@ use Rattle.zk_asks.proofs.Knowing.{IsThe}
 use Rattle.zk_records.specs.declared.header.ReplyHeader.{ReplyHeader}
 use Rattle.zk_records.specs.Held.{WatcherEvent}
 use Rattle.zk_records.specs.declared.op.Op.{Op}
-use Rattle.zk_records.specs.declared.op.Op.TheVariants as ops
 use Rattle.zk_records.specs.declared.op.PartOp.{PartOp}
 use Rattle.zk_records.specs.declared.stat.Stat.{Stat}
 use Rattle.zk_records.specs.Records.{stat, reply_header, watcher_event}
-use Rattle.zk_answers.specs.Held.{Body, Outcome, PartDone, Reply, ServerFrame}
-use Rattle.zk_answers.specs.declared.frame.BodyOf.TheVariants as body
+use Rattle.zk_answers.specs.Held.{Body, Outcome, Reply, ServerFrame}
 use Rattle.zk_answers.specs.declared.frame.OutcomeOf.TheVariants as outcome
 use Rattle.zk_answers.specs.declared.frame.ServerFrameOf.TheVariants as frame
 use Rattle.zk_answers.specs.Faults.{IsHead}
 use Rattle.zk_answers.specs.Frames.{err_of, header_of, event_header, rest_items, IsEvent, IsOutcome, IsSent, IsReplyTo, OutcomeFits, payload}
 use Rattle.zk_answers.specs.Rows.{Content, row_of, remake, items_in, op_of_body, body_items}
-use Rattle.zk_answers.specs.Results.{multi_items}
 use Rattle.zk_answers.specs.Known.{ABodyStands}
 use Rattle.zk_answers.proofs.Bodies.{IsMade, is_made}
 use Rattle.zk_answers.proofs.Heads.{head_unique}
@@ -133,14 +129,6 @@ module _ (op : Op) (src : List ℕ) (place : ℕ) (x : Content (row_of op)) wher
   content_is only b end of have stands =
       let m : IsMade op b = subst (λ (o : Op). IsMade o b) of (is_made b) in
       ap (remake (row_of op)) (only m.0 end (subst HaveBytes (sym m.2) have) (subst (λ (i : List Item). StandsAt i src place end) (sym m.2) stands)) ∙ m.1
-
-pub multi_is : (src : List ℕ) (place : ℕ) (ds : List PartDone) → ((xs : List PartDone) (end : ℕ) → HaveBytes (multi_items xs) → StandsAt (multi_items xs) src place end → ds ≡ xs)
-    → (b : Body) (end : ℕ) → op_of_body b ≡ ops.Multi → HaveBytes (body_items b) → StandsAt (body_items b) src place end → body.Multi ds ≡ b
-multi_is src place ds = content_is ops.Multi src place ds
-
-pub names_are : (src : List ℕ) (place : ℕ) (names : Vector Text) → ((xs : Vector Text) (end : ℕ) → HaveBytes ((vector ustring).items xs) → StandsAt ((vector ustring).items xs) src place end → names ≡ xs)
-    → (b : Body) (end : ℕ) → op_of_body b ≡ ops.GetChildren → HaveBytes (body_items b) → StandsAt (body_items b) src place end → body.GetChildren names ≡ b
-names_are src place names = content_is ops.GetChildren src place names
 
 -- ---- a body's field, and the Stat behind it
 

@@ -1,22 +1,21 @@
 -- Results that lie in a payload: what stands there is their value, and what reads them.
-use Rattle.std.proofs.Common.{◌≡◌, ℕ, ◌+◌, ◌≤◌, List, [], ◌∷◌, ◌++◌, length, drop, Some, None, Ok, Err, inr, refl, sym, ap, subst, ◌∙◌, arith}
+use Rattle.std.proofs.Common.{◌≡◌, ℕ, ◌+◌, ◌≤◌, List, [], ◌∷◌, ◌++◌, length, drop, None, Ok, Err, inr, refl, sym, ap, subst, ◌∙◌, arith}
 use Rattle.std.specs.Prelude.{ℤ, Result, IfOk, ◌≢◌}
 use Rattle.std.specs.List.{flat_map}
 use Rattle.std.proofs.lemmas.List.{append-nil}
 use Rattle.zk_jute.specs.declared.fault.ItemFault.{ItemFault}
-use Rattle.zk_jute.specs.declared.fault.Reason.TheVariants.{NoMemory}
 use Rattle.zk_jute.specs.Item.{Item, AnInt, bytes_of, HaveBytes}
 use Rattle.zk_jute.specs.Layout.{IsValueOf, Unfolds}
 use Rattle.zk_jute.specs.Reading.{Read, ◌>>=◌, read_map, int_at, long_at, items_at}
-use Rattle.zk_jute.specs.Told.{StandsAt, HasToldFault, HasSureFault, IsToldAt}
+use Rattle.zk_jute.specs.Told.{StandsAt, HasSureFault}
 use Rattle.zk_jute.specs.Values.{text_items, text_unfolds}
 use Rattle.zk_jute.specs.Held.{Text}
 use Rattle.zk_jute.specs.Standing.{OneStands}
 use Rattle.zk_jute.specs.Wired.{Wired, int, long, ustring, ◌and◌}
 use Rattle.zk_jute.specs.Shown.{text_value, both_at, text_is_value, Stretch, Begins}
 use Rattle.zk_jute.proofs.Layouts.{items_again, bytes_only, have_both, have_parts}
-use Rattle.zk_jute.proofs.Sequels.{excluded, stands_then}
-use Rattle.zk_jute.proofs.Stretches.{stands_split, values_told, values_counted}
+use Rattle.zk_jute.proofs.Sequels.{stands_then}
+use Rattle.zk_jute.proofs.Stretches.{stands_split, values_counted}
 use Rattle.zk_jute.proofs.Valued.{IsValued, int_valued, long_valued, both_valued, value_read, recast}
 use Rattle.zk_records.specs.Records.{multi_header, stat}
 use Rattle.zk_records.specs.Codes.{part_number}
@@ -27,10 +26,10 @@ use Rattle.zk_records.specs.declared.op.PartOp.TheVariants as parts
 use Rattle.zk_records.proofs.Numbers.{part_number_apart}
 use Rattle.zk_asks.specs.Parts.{marked, end_header}
 use Rattle.zk_asks.specs.Shown.{part_numbered}
-use Rattle.zk_answers.specs.Fronts.{IsResultAt, IsDoneAt}
+use Rattle.zk_answers.specs.Fronts.{AreDonesAt, IsResultAt, IsDoneAt, IsDoneFaultAt}
 use Rattle.zk_answers.specs.Held.{PartDone}
 use Rattle.zk_answers.specs.declared.frame.PartDoneOf.TheVariants as done
-use Rattle.zk_answers.specs.Results.{error_header, result_header, done_items, mark_before, result_of, result_layout, multi_items, Answers, AnswerAll, Own, IsDoneFault}
+use Rattle.zk_answers.specs.Results.{error_header, result_header, done_items, mark_before, result_of, result_layout, Answers, AnswerAll, Own}
 use Rattle.zk_answers.specs.Shown.{stat_of, counts_value, stat_value, result_value, done_value, dones_at}
 use Rattle.zk_answers.proofs.Dones.{mark_is, mark_same, not_failed}
 use Rattle.zk_answers.proofs.Outcomes.{result_inside}
@@ -72,10 +71,6 @@ items_are _ = refl
 nine : (d : PartDone) → length (bytes_of (marked (mark_before d))) ≡ 9
 nine (done.Created path) = refl
 nine _ = refl
-
-numbered : (op : PartOp) → part_numbered (part_number op) ≡ Some op
-numbered parts.Create = refl
-numbered _ = refl
 
 -- a value that stands is told
 stands_told : {X : Type 0} (w : Wired X) (src : List ℕ) (v : ℕ → Read X) → IsValued w src v → (x : X) (place end : ℕ) → HaveBytes (w.items x) → place ≤ length src → StandsAt (w.items x) src place end → v place ≡ Ok (x, end)
@@ -125,9 +120,6 @@ module _ (src : List ℕ) (d : PartDone) (place end : ℕ) (le : place ≤ lengt
 
   pub mark_stands : OneStands multi_header.items src place
   mark_stands = (mark_before d, place + 9, header_there.0, header_there.1)
-
-  pub no_header_fault : (e : ItemFault) → HasToldFault (IsValueOf multi_header.layout) src place e → ⊥
-  no_header_fault e f = excluded multi_header.layout mark (drop place src) (drop (place + 9) src) f.0 e.reason (mark_is (mark_before d) header_there.0) header_there.1.0 f.1
 
   done_there : done_value src place ≡ Ok (d, end)
   done_there =
@@ -239,9 +231,6 @@ module _ (src : List ℕ) (d : PartDone) (place end : ℕ) (le : place ≤ lengt
         let same = one_value (result_value None src after) (done.PartFailed n, at) (done.PartFailed failed.0, end) (told_of n at has t) (told_of failed.0 end number.0 number.1) in
         same ∙ ap (λ (x : PartDone). (x, end)) (sym failed.1)
 
-    pub number_stands : (e : ItemFault) → HasToldFault (IsValueOf int.layout) src after e → ⊥
-    number_stands e f = excluded int.layout (AnInt failed.0 ∷ []) (drop after src) (drop end src) f.0 e.reason (int.unfolds failed.0, number.0) number.1.0 f.1
-
 pub dones_counted : (src : List ℕ) (count place : ℕ) → Begins done_items src count place → length (dones_at src count place) ≡ count
 dones_counted src = values_counted done_items src (done_value src) (done_read src)
 
@@ -268,7 +257,7 @@ module _ (op : PartOp) (src : List ℕ) (place after : ℕ) (header : MultiHeade
       )
   own_found have s is (Err e) found = tt
 
-  pub own_fault : StandsAt (marked header) src place after → header ≡ result_header op → (e : ItemFault) → HasSureFault (IsValueOf (result_layout op)) src after e → ((ops : List PartOp) → IsToldAt (IsDoneFault (op ∷ ops)) src place e) × (e.reason ≢ NoMemory)
+  pub own_fault : StandsAt (marked header) src place after → header ≡ result_header op → (e : ItemFault) → HasSureFault (IsValueOf (result_layout op)) src after e → IsDoneFaultAt op src place e
   own_fault s is e fault = (λ ops. result_inside op ops src place after header e s is (inr fault.0), fault.1)
 
 -- an error, with its header
@@ -286,20 +275,10 @@ error_found op src place after end header n have s is has t same =
 -- what is told of the list, once its end is passed
 pub dones_passed : (src : List ℕ) (place at count after : ℕ) (header : MultiHeader) (ops : List PartOp) → (s : Stretch done_items src place at count) → AnswerAll ops s.values
     → HaveBytes (marked header) → StandsAt (marked header) src at after → header ≡ end_header
-    → (ds : List PartDone) × AnswerAll ops ds × HaveBytes (multi_items ds) × StandsAt (multi_items ds) src place after
+    → AreDonesAt ops src place after
 dones_passed src place at count after header ops s answers v t is =
     let ds = s.values in
     let end = marked end_header in
     let have = have_both (flat_map done_items ds) end s.have (subst (λ (h : MultiHeader). HaveBytes (marked h)) is v) in
     let stands = stands_then (flat_map done_items ds) end src place at after s.stands (subst (λ (h : MultiHeader). StandsAt (marked h) src at after) is t) in
     (ds, answers, have, stands)
-
--- results that are there, as a list of them that lies there
-module _ (src : List ℕ) (place after count : ℕ) (le : place ≤ length src) (ds : List PartDone) (is : count ≡ length ds) (have : HaveBytes (multi_items ds)) (stands : StandsAt (multi_items ds) src place after) where
-  abbrev pub dones_begin : Begins done_items src count place
-  dones_begin =
-      let s = stands_split (flat_map done_items ds) (marked end_header) src place after le stands in
-      (le, place + length (bytes_of (flat_map done_items ds)), record { values = ds; count_is = is; have = (have_parts (flat_map done_items ds) (marked end_header) have).0; stands = s.0 })
-
-  pub dones_told : dones_at src count place ≡ ds
-  dones_told = values_told done_items src (done_value src) (done_read src) place dones_begin.1 count le dones_begin.2

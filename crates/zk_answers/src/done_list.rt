@@ -1,18 +1,16 @@
 //! `DoneList`: the results of a multi, borrowed from its payload, and the iterator over them.
-ghost use Rattle.std.specs.Prelude.{List, ◌≡◌, ◌≢◌, ◌≤◌, ◌∷◌, ℕ, Ok, Some, length, IfOk, IfErr, IfSome};
+ghost use Rattle.std.specs.Prelude.{List, ◌≡◌, ◌≤◌, ℕ, Ok, Some, length, IfOk, IfErr, IfSome};
 ghost use Rattle.std.specs.Iterator.{YieldsFirst, UpTo, item_count};
 ghost use Rattle.std.specs.Iterator.SizeHint.{IsWithinCount};
-ghost use Rattle.zk_jute.specs.declared.fault.Reason.TheVariants.{NoMemory};
 ghost use Rattle.zk_jute.specs.Item.{HaveBytes};
-ghost use Rattle.zk_jute.specs.Standing.{Known, OneStands};
+ghost use Rattle.zk_jute.specs.Standing.{OneStands};
 ghost use Rattle.zk_jute.specs.Shown.{Begins};
 ghost use Rattle.zk_jute.specs.Layout.{IsValueOf};
-ghost use Rattle.zk_jute.specs.Told.{StandsAt, IsToldAt, HasSureFault, IsSurelyToldAt};
+ghost use Rattle.zk_jute.specs.Told.{StandsAt, HasSureFault, IsSurelyToldAt};
 ghost use Rattle.zk_jute.specs.Verdict.{Says};
-ghost use Rattle.zk_records.specs.declared.op.PartOp as codes;
 ghost use Rattle.zk_answers.specs.Held.{PartDone};
-ghost use Rattle.zk_answers.specs.Results.{done_items, multi_items, result_layout, result_of, AnswerAll, IsDoneFault, Own};
-ghost use Rattle.zk_answers.specs.Fronts.{IsResultAt, IsDoneAt};
+ghost use Rattle.zk_answers.specs.Results.{done_items, result_layout, result_of, IsDoneFault, Own};
+ghost use Rattle.zk_answers.specs.Fronts.{AreDonesAt, IsResultAt, IsDoneAt, IsDoneFaultAt};
 ghost use Rattle.zk_answers.specs.Shown.{dones_at};
 
 use crate::frame::{PartDoneOf, PartDoneRef};
@@ -161,7 +159,7 @@ fn result_end<V: Verdict>(payload: &[u8], place: usize, op: PartOp) -> Result<us
 fn done_end<V: Verdict>(payload: &[u8], place: usize, op: PartOp) -> Result<usize, V>
     requires { place ≤ length payload.now }
     ensures found { IfOk result (λ end. IsDoneAt op payload.now place end) }
-    ensures fault { IfErr result (Says V.tells (λ e. ((ops : List codes.PartOp) → IsToldAt (IsDoneFault (op ∷ ops)) payload.now place e) × (e.reason ≢ NoMemory))) }
+    ensures fault { IfErr result (Says V.tells (IsDoneFaultAt op payload.now place)) }
     ensures within { IfOk result (λ end. end ≤ length payload.now) }
 {
     let src = Payload { bytes: payload };
@@ -214,7 +212,7 @@ pub(crate) fn results_end<F: Asked, V: Verdict>(
     place: usize,
 ) -> Result<usize, V>
     requires { place ≤ length payload.now }
-    ensures found { IfOk result (λ end. (ds : List PartDone) × AnswerAll (F.part_ops form.now) ds × HaveBytes (multi_items ds) × StandsAt (multi_items ds) payload.now place end) }
+    ensures found { IfOk result (AreDonesAt (F.part_ops form.now) payload.now place) }
     ensures fault { IfErr result (Says V.tells (IsSurelyToldAt (IsDoneFault (F.part_ops form.now)) payload.now place)) }
     ensures within { IfOk result (λ end. end ≤ length payload.now) }
 {

@@ -20,7 +20,7 @@ use zk_records::{
 };
 
 /// The bytes of a reply's header.
-pub(crate) const HEADER: usize = 16;
+const HEADER: usize = 16;
 
 /// The place after the body at `place` of a reply to `form`.
 #[inline(always)]

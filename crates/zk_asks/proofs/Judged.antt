@@ -1,5 +1,5 @@
 -- A payload that was judged to be a request: its body is made again from the place behind its header.
-use Rattle.std.proofs.Common.{w32, FitsSigned, ◌≡◌, ℕ, ◌+◌, ◌≤◌, List, ◌++◌, length, drop, Option, Some, None, refl, sym, ap, subst, ◌∙◌, arith}
+use Rattle.std.proofs.Common.{w32, FitsSigned, ◌≡◌, ℕ, ◌+◌, ◌≤◌, List, ◌++◌, length, drop, Option, Some, refl, sym, ap, subst, ◌∙◌, arith}
 use Rattle.std.specs.Prelude.{ℤ}
 use Rattle.std.specs.List.{flat_map}
 use Rattle.std.proofs.lemmas.List.{length-map}
@@ -22,7 +22,7 @@ use Rattle.zk_asks.specs.Fronts.{outline_of, asking_of, IsMultiOf}
 use Rattle.zk_asks.specs.Parts.{op_of_part, part_items, end_header, marked}
 use Rattle.zk_asks.specs.Rows.{row_of, Content, remake, items_in, op_of_ask, body_items}
 use Rattle.zk_asks.specs.Shown.{part_value, parts_at}
-use Rattle.zk_asks.specs.Frames.{IsFirst, IsSent, ops_of_ask, payload}
+use Rattle.zk_asks.specs.Frames.{IsSent, ops_of_ask, payload}
 use Rattle.zk_asks.proofs.Made.{IsMade, is_made}
 use Rattle.zk_asks.proofs.Asks.{body_is}
 use Rattle.zk_asks.proofs.Later.{body_only, body_apart, ask_injective}
@@ -100,27 +100,27 @@ parts_in : (a : Ask) → op_of_ask a ≡ ops.Multi → (ds : List Part) × (a �
 parts_in (ask.Multi ds) e = (ds, refl)
 parts_in a e = absurd cc
 
-module _ (src : List ℕ) (o : Outline) where
-  outline_is : (xid : ℤ) (a : Ask) → asking_of (frame.Ask xid a) ≡ Some o → outline_of xid a ≡ o
-  outline_is xid a e = cc
+pub outline_is : (o : Outline) (xid : ℤ) (a : Ask) → asking_of (frame.Ask xid a) ≡ Some o → outline_of xid a ≡ o
+outline_is o xid a e = cc
 
+module _ (src : List ℕ) (o : Outline) where
   pub judged_within : (f : ClientFrame) → AsksFor (Some o) src f → 8 ≤ length src
   judged_within (frame.Connect hello flag) k = let e = k.0 in absurd cc
   judged_within (frame.Ask xid a) k = (behind_head xid a src k.1 k.2).1
 
   pub judged_body : (f : ClientFrame) → AsksFor (Some o) src f → OneStands (items_in (row_of o.op)) src 8
   judged_body (frame.Connect hello flag) k = let e = k.0 in absurd cc
-  judged_body (frame.Ask xid a) k = subst (λ (p : Op). OneStands (items_in (row_of p)) src 8) (ap (λ (z : Outline). z.op) (outline_is xid a k.0)) (body_behind xid a src k.1 k.2)
+  judged_body (frame.Ask xid a) k = subst (λ (p : Op). OneStands (items_in (row_of p)) src 8) (ap (λ (z : Outline). z.op) (outline_is o xid a k.0)) (body_behind xid a src k.1 k.2)
 
   pub judged_xid : (f : ClientFrame) → AsksFor (Some o) src f → FitsSigned w32 o.xid
   judged_xid (frame.Connect hello flag) k = let e = k.0 in absurd cc
-  judged_xid (frame.Ask xid a) k = subst (FitsSigned w32) (ap (λ (z : Outline). z.xid) (outline_is xid a k.0)) (xid_fits xid a src k.1 k.2)
+  judged_xid (frame.Ask xid a) k = subst (FitsSigned w32) (ap (λ (z : Outline). z.xid) (outline_is o xid a k.0)) (xid_fits xid a src k.1 k.2)
 
   -- what is made of the body that stands there is the request's
   pub judged_is : (b : Ask) → ((a : Ask) (q : ℕ) → op_of_ask a ≡ o.op → HaveBytes (body_items a) → StandsAt (body_items a) src 8 q → b ≡ a) → (f : ClientFrame) → AsksFor (Some o) src f → frame.Ask o.xid b ≡ f
   judged_is b only (frame.Connect hello flag) k = let e = k.0 in absurd cc
   judged_is b only (frame.Ask xid a) k =
-      let same = outline_is xid a k.0 in
+      let same = outline_is o xid a k.0 in
       let one = only a (end xid a src k.1 k.2) (ap (λ (z : Outline). z.op) same) (have xid a src k.1 k.2) (behind_head xid a src k.1 k.2).0 in
       ap (λ (z : Ask). frame.Ask o.xid z) one ∙ ap (λ (x : ℤ). frame.Ask x a) (sym (ap (λ (z : Outline). z.xid) same))
 
@@ -131,7 +131,7 @@ module _ (src : List ℕ) (o : Outline) where
     pub a_multi : (f : ClientFrame) → AsksFor (Some o) src f → AMulti f
     a_multi (frame.Connect hello flag) k = let e = k.0 in absurd cc
     a_multi (frame.Ask xid a) k =
-        let same = outline_is xid a k.0 in
+        let same = outline_is o xid a k.0 in
         let p = parts_in a (ap (λ (z : Outline). z.op) same ∙ multi) in
         let id : xid ≡ o.xid = ap (λ (z : Outline). z.xid) same in
         let is : frame.Ask xid a ≡ frame.Ask o.xid (ask.Multi p.0) = ap (λ (x : ℤ). frame.Ask x a) id ∙ ap (λ (z : Ask). frame.Ask o.xid z) p.1 in (
@@ -146,8 +146,3 @@ module _ (src : List ℕ) (o : Outline) where
 
     pub judged_parts : (f : ClientFrame) → AsksFor (Some o) src f → frame.Ask o.xid (ask.Multi (parts_at src o.parts 8)) ≡ f
     judged_parts f k = let m = a_multi f k in ap (λ (z : List Part). frame.Ask o.xid (ask.Multi z)) (parts_are o.xid m.0 src m.2 o.parts m.3) ∙ sym m.1
-
--- what asks nothing is a first frame
-pub none_asked : (f : ClientFrame) → asking_of f ≡ None → IsFirst f
-none_asked (frame.Connect hello flag) e = tt
-none_asked (frame.Ask xid a) e = absurd cc

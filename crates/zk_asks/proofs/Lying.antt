@@ -1,5 +1,5 @@
 -- Parts that lie in a payload: what stands there is their value, and where they are passed.
-use Rattle.std.proofs.Common.{◌≡◌, ℕ, ◌+◌, ◌≤◌, ◌<◌, inr, List, [], ◌∷◌, ◌++◌, length, drop, Some, Ok, refl, sym, ap, subst, ◌∙◌, arith}
+use Rattle.std.proofs.Common.{◌≡◌, ℕ, ◌+◌, ◌≤◌, ◌<◌, List, [], ◌∷◌, ◌++◌, length, drop, Some, Ok, refl, sym, ap, subst, ◌∙◌, arith}
 use Rattle.std.specs.Prelude.{ℤ, negsuc, false, Option, None, MatchOption, map, slice_get, get_or, ◌≢◌}
 use Rattle.std.specs.Int.{w32}
 use Rattle.std.proofs.Common.{to_z, of_z}
@@ -8,12 +8,10 @@ use Rattle.std.specs.List.{flat_map}
 use Rattle.std.proofs.lemmas.List.{append-nil, length-drop, length-map, drop-drop, get_or-drop}
 use Rattle.std.proofs.lemmas.Option.{slice_get_past, slice_get-map, slice_get-get_or}
 use Rattle.std.specs.Option.{option_map}
-use Rattle.zk_jute.specs.declared.fault.ItemFault.{ItemFault}
 use Rattle.zk_jute.specs.Item.{Item, AnInt, ABoolean, bytes_of, HaveBytes}
-use Rattle.zk_jute.specs.Layout.{Layout, IsValueOf}
+use Rattle.zk_jute.specs.Layout.{IsValueOf}
 use Rattle.zk_jute.specs.Reading.{Read, ◌>>=◌, read_map, int_at, items_at}
-use Rattle.zk_jute.specs.Faults.{IsFault}
-use Rattle.zk_jute.specs.Told.{StandsAt, HasToldFault, IsToldAt}
+use Rattle.zk_jute.specs.Told.{StandsAt}
 use Rattle.zk_jute.specs.Wired.{int, ustring, buffer, vector, ◌and◌}
 use Rattle.zk_jute.specs.Standing.{OneStands}
 use Rattle.zk_jute.specs.Shown.{text_value, blob_value, list_value, both_at, text_is_value, Stretch, Begins}
@@ -198,12 +196,6 @@ module _ (src : List ℕ) (place at count : ℕ) (so_far : Stretch part_items sr
       let f = all_found is in
       let told = values_told part_items src (part_value src) (part_read src) place at count le so_far in
       (subst (λ (qs : List Part). HaveBytes (multi_items qs)) (sym told) f.2, subst (λ (qs : List Part). StandsAt (multi_items qs) src place after) (sym told) f.3)
-
--- ---- what is refused
-
-pub fields_lying : (l : Layout) (src : List ℕ) (place : ℕ) (e : ItemFault) → HasToldFault (IsValueOf l) src place e → IsToldAt (IsFault (IsValueOf l)) src place e
-unfolding IsToldAt
-fields_lying l src place e h = inr h
 
 -- a header, a body and nothing else
 pub ask_sent : (src : List ℕ) (xid kind : ℤ) (after end : ℕ) (a : Ask) → HaveBytes (header_items xid kind) → StandsAt (header_items xid kind) src 0 after → kind ≡ op_number (op_of_ask a) → IsAllowed xid (op_of_ask a)

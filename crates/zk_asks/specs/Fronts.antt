@@ -1,5 +1,5 @@
 -- Requests and parts, by where they begin and end.
-use Rattle.std.specs.Prelude.{◌≡◌, ℕ, ℤ, List, [], length, Option, Some, None}
+use Rattle.std.specs.Prelude.{◌≡◌, ℕ, ℤ, List, length, Option, Some, None}
 use Rattle.zk_jute.specs.Item.{HaveBytes}
 use Rattle.zk_jute.specs.Layout.{IsValueOf}
 use Rattle.zk_jute.specs.Told.{StandsAt}
@@ -17,10 +17,6 @@ use Rattle.zk_asks.specs.Parts.{part_layout, op_of_part, record_of}
 use Rattle.zk_asks.specs.Rows.{op_of_ask, body_items}
 use Rattle.zk_asks.specs.Frames.{ops_of_ask, IsSent, payload}
 
--- the body of a request of this operation, and without parts, is at the place, and ends there
-abbrev pub IsBodyAlone : Op → List ℕ → ℕ → ℕ → Type 0
-IsBodyAlone op src place end = (a : Ask) × (op_of_ask a ≡ op) × (ops_of_ask a ≡ []) × HaveBytes (body_items a) × StandsAt (body_items a) src place end
-
 -- the record of a part of this operation is at the place, and ends there
 abbrev pub IsRecordAt : PartOp → List ℕ → ℕ → ℕ → Type 0
 IsRecordAt op src place end = (p : Part) × (op_of_part p ≡ op) × IsValueOf (part_layout op) (record_of p) × StandsAt (record_of p) src place end
@@ -29,12 +25,7 @@ IsRecordAt op src place end = (p : Part) × (op_of_part p ≡ op) × IsValueOf (
 abbrev pub IsHeadAt : Profile → ℤ → Op → List ℕ → ℕ → Type 0
 IsHeadAt profile xid op src end = HasOp profile op × IsAllowed xid op × HaveBytes (op_header xid op) × StandsAt (op_header xid op) src 0 end
 
--- the payload is that of a request of the profile under this xid, of this operation, and its parts are of these
-abbrev pub IsAsked : Profile → ℤ → Op → List PartOp → List ℕ → Type 0
-IsAsked profile xid op parts bytes =
-    HasOp profile op × ((a : Ask) × (op_of_ask a ≡ op) × (ops_of_ask a ≡ parts) × IsSent (frame.Ask xid a) × (bytes ≡ payload (frame.Ask xid a)))
-
--- what is left of the request where it is reduced to its outline
+-- the outline of the request
 abbrev pub outline_of : ℤ → Ask → Outline
 outline_of xid a = record { xid = xid; op = op_of_ask a; parts = length (ops_of_ask a) }
 

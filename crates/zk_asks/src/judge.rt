@@ -17,7 +17,7 @@ use zk_records::{
 };
 
 /// The bytes of a request's header.
-pub(crate) const BODY: usize = 8;
+pub(crate) const HEADER: usize = 8;
 
 /// A request reduced to what its reply is read by, in numbers: its parts, if it has some, are read again from the payload.
 #[derive(Clone, Copy, Debug)]
@@ -71,11 +71,11 @@ fn asked_head<V: Verdict>(profile: Profile, payload: &[u8]) -> Result<(i32, Op, 
     Ok((header.xid, op, place))
 }
 
-/// The xid and the outline of `payload`, a later one of a client, if it is a request of the profile.
+/// The outline of `payload`, a later one of a client, if it is a request of the profile.
 ///
 /// # Errors
 ///
-/// The fault that `read_ask` returns, but `NoMemory`. `Undecided` says nothing.
+/// The fault that `borrow_ask` returns. `Undecided` says nothing.
 #[inline(always)]
 pub fn judge_ask<V: Verdict>(profile: Profile, payload: &[u8]) -> Result<Outline, V>
     ensures found { IfOk result (λ o. IsOutlined profile o payload.now) }
@@ -96,6 +96,6 @@ pub fn judged_multi(payload: &[u8], count: usize) -> MultiRef<'_>
     ensures { (xid : ℤ) (ds : List Part) → IsMultiOf xid ds payload.now → result.list ≡ ds }
 {
     MultiRef {
-        list: lying(payload, count, BODY),
+        list: lying(payload, count, HEADER),
     }
 }

@@ -1,4 +1,4 @@
-//! `client_ref`: a payload that is known to be a client's frame, borrowed without a judgement.
+//! `client_ref`, `judged_ref`: payloads known to be a client's frames, borrowed without a judgement.
 ghost use Rattle.std.specs.Prelude.{◌≡◌, ◌≤◌, ℕ, length, Some};
 ghost use Rattle.zk_jute.specs.Item.{HaveBytes};
 ghost use Rattle.zk_jute.specs.Told.{StandsAt};
@@ -11,7 +11,7 @@ ghost use Rattle.zk_asks.specs.Fronts.{asking_of};
 
 use crate::ask_rows;
 use crate::frame::{AskOf, AskRef, ClientFrameOf, ClientRef};
-use crate::judge::{BODY, Outline};
+use crate::judge::{HEADER, Outline};
 use crate::part_list::{lying, parts_in};
 use zk_jute::{known_at, known_flagged};
 use zk_records::{
@@ -75,11 +75,11 @@ pub(crate) fn judged_request<'a>(payload: &'a [u8], outline: Outline) -> ClientR
     match outline.op {
         Op::Multi => ClientFrameOf::Ask {
             xid: outline.xid,
-            ask: AskOf::Multi(lying(payload, outline.parts, BODY)),
+            ask: AskOf::Multi(lying(payload, outline.parts, HEADER)),
         },
         op => ClientFrameOf::Ask {
             xid: outline.xid,
-            ask: body_there::<true>(payload, BODY, op),
+            ask: body_there::<true>(payload, HEADER, op),
         },
     }
 }

@@ -1,10 +1,11 @@
 //! A client's payloads: the connect request, and the requests of ZooKeeper 3.4, and `create2` of 3.5.
 //!
 //! - `read_first` and `read_ask` read a payload as an owned `ClientFrame`; `borrow_first` and `borrow_ask` decide the
-//!   same and borrow, without memory; `client_ref` borrows what is already judged.
+//!   same and borrow, without memory; `client_ref` and `judged_ref` borrow what is already judged.
 //! - `scan_ask` keeps of a request what its reply is read by, an `Asked`: the operation, and those of a multi's parts.
-//! - `judge_ask` judges a payload by where its records end, and keeps an `Outline` of it in numbers: its xid, its operation, and how many parts it has.
-//!   Of a fault it returns the verdict that is asked for: the `ItemFault`, or `Undecided`, which costs nothing.
+//! - `judge_ask` judges a payload by where its records end, and keeps an `Outline` of it in numbers: its xid, its
+//!   operation, and how many parts it has. Of a fault it returns the verdict that is asked for: the `ItemFault`, or
+//!   `Undecided`, which costs nothing.
 //! - `write_client` writes a frame's payload, and `size_within` counts it.
 //!
 //! A payload is read exactly if it is one of a client's forms; else the `ItemFault` of the first item that can't come

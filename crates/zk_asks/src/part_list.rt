@@ -7,7 +7,7 @@ ghost use Rattle.zk_jute.specs.Layout.{IsValueOf};
 ghost use Rattle.zk_jute.specs.Told.{StandsAt, HasSureFault, IsSurelyToldAt};
 ghost use Rattle.zk_jute.specs.Verdict.{Says};
 ghost use Rattle.zk_asks.specs.Held.{Part};
-ghost use Rattle.zk_jute.specs.Standing.{Known, OneStands};
+ghost use Rattle.zk_jute.specs.Standing.{OneStands};
 ghost use Rattle.zk_asks.specs.Parts.{part_row, part_layout, op_of_part, record_of, part_items, multi_items};
 ghost use Rattle.zk_asks.specs.Faults.{IsMultiFault};
 ghost use Rattle.zk_asks.specs.Fronts.{IsRecordAt};

@@ -29,6 +29,10 @@ module _ {V : Type 0} (tells : V → Option ItemFault) where
   pub says_more : (P Q : ItemFault → Type 0) → ((e : ItemFault) → P e → Q e) → (v : V) → Says tells P v → Says tells Q v
   says_more P Q more v h = IfSome_then (tells v) h more
 
+  pub errs_more : {X : Type 0} (P Q : ItemFault → Type 0) → ((e : ItemFault) → P e → Q e) → (r : Result X V) → IfErr r (Says tells P) → IfErr r (Says tells Q)
+  errs_more P Q more (Ok x) h = tt
+  errs_more P Q more (Err v) h = says_more P Q more v h
+
   -- the fault of a call
   pub says_told : {X : Type 0} (Q : ItemFault → Type 0) (answer : Result X ItemFault) → IfErr answer Q → (v : V) → Says tells (λ e. answer ≡ Err e) v → Says tells Q v
   says_told Q answer h v s = says_more _ Q (λ e is. subst (λ (r : Result _ ItemFault). IfErr r Q) is h) v s

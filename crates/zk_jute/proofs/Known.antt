@@ -7,15 +7,15 @@ use Rattle.std.proofs.Common.{nat_lt}
 use Rattle.std.proofs.lemmas.List.{append-nil, length-drop, drop_at}
 use Rattle.zk_jute.specs.declared.fault.Reason.TheVariants.{BadText, Short}
 use Rattle.zk_jute.specs.declared.fault.ItemFault.{ItemFault}
-use Rattle.zk_jute.specs.Item.{Int, Long, Ustring, Buffer, Item, AnInt, ALong, AUstring, ABuffer, ACount, bytes_of, HaveBytes}
+use Rattle.zk_jute.specs.Item.{Int, Long, Item, AnInt, ALong, ACount, bytes_of, HaveBytes}
 use Rattle.zk_jute.specs.Layout.{Layout, End, One, Each, ◌then◌, IsValueOf}
-use Rattle.zk_jute.specs.Reading.{Fault, Read, fault, Tells, Fails, ◌>>=◌, read_map, end_of, int_at, long_at, text_at, run_at, size_at, content_of, checked_text, times_at, elements_at, items_at}
+use Rattle.zk_jute.specs.Reading.{Fault, Read, fault, Tells, Fails, ◌>>=◌, read_map, end_of, int_at, long_at, text_at, run_at, size_at, checked_text, times_at, elements_at, items_at}
 use Rattle.zk_jute.specs.Told.{StandsAt}
 use Rattle.zk_jute.specs.Flagged.{flag_items, OneIsFlagged}
 use Rattle.zk_jute.specs.Wired.{Wired, boolean}
 use Rattle.zk_jute.specs.Standing.{Known, OneStands}
 use Rattle.zk_jute.proofs.Primitives.{utf8_if_valid}
-use Rattle.zk_jute.proofs.Fields.{read_then, int_is, long_is, text_is, run_is, each_is, list_some}
+use Rattle.zk_jute.proofs.Fields.{read_then, int_is, long_is, each_is, list_some}
 use Rattle.zk_jute.specs.Shown.{next_value, values_at}
 use Rattle.zk_jute.proofs.Layouts.{items_again, bytes_only, bytes_both, have_parts}
 use Rattle.zk_jute.proofs.Sequels.{none_left}
@@ -46,18 +46,9 @@ known_told true view (Err e) (Err f) t h = absurd cc
 -- ---- one item
 
 module _ (k : Bool) (src : List ℕ) (place : ℕ) where
-  pub text_known : Known k (IsOk (items_at (One Ustring End) src place)) → Known k (IsOk (text_at src place))
-  text_known h = known_map k (λ t. AUstring t ∷ []) (text_at src place) (subst (λ (r : Read (List Item)). Known k (IsOk r)) (text_is src place) h)
-
-  pub run_known : Known k (IsOk (items_at (One Buffer End) src place)) → Known k (IsOk (run_at src place))
-  run_known h = known_map k (λ t. ABuffer t ∷ []) (run_at src place) (subst (λ (r : Read (List Item)). Known k (IsOk r)) (run_is src place) h)
-
   -- a run is known by its text, and its length by the run
   pub bytes_known : Known k (IsOk (text_at src place)) → Known k (IsOk (run_at src place))
   bytes_known h = known_bind k (run_at src place) (checked_text place) h
-
-  pub size_known : (answer : Result (Option ℕ × ℕ) ItemFault) → Tells (λ x. x) answer (size_at src place) → Known k (IsOk (run_at src place)) → Known k (IsOk answer)
-  size_known answer t h = known_told k (λ x. x) answer (size_at src place) t (known_bind k (size_at src place) (content_of src place) h)
 
 -- ---- so many bytes are left
 

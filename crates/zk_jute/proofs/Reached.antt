@@ -21,9 +21,8 @@ use Rattle.zk_jute.specs.Reading.{int_at, size_at, run_at}
 use Rattle.zk_jute.specs.Told.{StandsAt}
 use Rattle.zk_jute.specs.Values.{text_items}
 use Rattle.zk_jute.specs.Shown.{Stretch}
-use Rattle.zk_jute.specs.Ends.{EndsAt, IsUtf8Between, TextsIfUtf8, IsRunOfLowSize}
+use Rattle.zk_jute.specs.Ends.{EndsAt, TextsIfUtf8, IsRunOfLowSize}
 use Rattle.zk_jute.proofs.Steps.{IsBytes}
-use Rattle.zk_jute.proofs.Primitives.{ascii_text}
 use Rattle.zk_jute.proofs.Numbers.{len32}
 use Rattle.zk_jute.proofs.Runs.{run_found, size_found}
 use Rattle.zk_jute.proofs.Layouts.{have_both, one_found}
@@ -93,14 +92,7 @@ null_text src place end fits le read =
     let f = one_found (AUstring None) src place end tt r.stands in
     (nullable.Null, f.have, (f.stands.parts, f.stands.at))
 
--- a run behind others, of which the bytes from `from` on aren't looked at yet
 module _ (src : List ℕ) (from at : ℕ) (fits : IsBytes src) (le : at ≤ length src) where
-  pub run_within : (o : Option (List ℕ)) (end : ℕ) → run_at src at ≡ Ok (o, end) → at + 4 ≤ end
-  run_within None end run = let s = (run_found src at (None, end) fits le run).stands.at in omega (arith, s)
-  run_within (Some bytes) end run =
-      let s = (run_found src at (Some bytes, end) fits le run).stands.at in
-      omega (arith, s, length-append (int_bytes (pos (length bytes))) bytes, len32 (pos (length bytes)))
-
   -- its length is ASCII, and looked at with the others
   pub low_more : (end : ℕ) → IsRunOfLowSize src at end → from ≤ at → (place count : ℕ) → TextsIfUtf8 src from place at count → TextsIfUtf8 src from place end (count + 1)
   low_more end (bytes, less, low, run) before place count so_far text =
@@ -137,7 +129,3 @@ module _ (src : List ℕ) (from at : ℕ) (fits : IsBytes src) (le : at ≤ leng
       let whole : take (end - (at + 4)) (drop (at + 4) src) ≡ bytes = ap (λ (n : ℕ). take n (drop (at + 4) src)) long ∙ ap (take (length bytes)) behind ∙ take_at bytes rest (length bytes) refl in
       let f = one_found (AUstring (Some bytes)) src at end (subst IsUtf8 whole text, r.has_bytes.1) r.stands in
       one_more text_items src place at end count so_far (nullable.Full bytes, f.have, (f.stands.parts, f.stands.at))
-
--- nothing is looked at twice: bytes from a place to itself
-pub no_bytes : (src : List ℕ) (at : ℕ) → IsUtf8Between src at at
-no_bytes src at = let none : at - at ≡ 0 = omega arith in subst (λ (n : ℕ). IsUtf8 (take n (drop at src))) (sym none) (ascii_text [] (λ i. omega arith))

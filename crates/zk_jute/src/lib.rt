@@ -38,9 +38,9 @@
 //!
 //! **What is known to be in a payload is not judged again.** `PayloadOf<'a, KNOWN>` is judged as `Payload<'a>`; of
 //! `KnownPayload<'a>` it is known what is there. A parser's condition is empty for the first, and for the second that a
-//! value is at the place. So the bytes that are left for a number or a length are not counted, nor the characters of a
-//! text looked at. What a frame shows, iterators over lists, parts and results, and the walk over a multi's parts read
-//! this way, by `known_at`, whose contract has no fault.
+//! value is at the place. So the bytes that are left for an int, a long or a length are not counted, nor the characters
+//! of a text looked at. What a frame shows, iterators over lists, parts and results, and the walk over a multi's parts
+//! read this way, by `known_at`, whose contract has no fault.
 //!
 //! **A borrowed list is a place and a count.** Its value is computed from the bytes (`Element`). That all elements are
 //! there is its invariant, so `count` is exact.

@@ -51,9 +51,6 @@ module _ (limit size : ℕ) (held piece part after : List ℕ) (room : ℕ) (is 
   pub front_taken : (used : ℕ) → IsFront held part used (record { limit = limit; bytes = after }) → (held ≡ []) × ((0 < used) × (used ≤ length piece) × (size + used < 2 ^ 62) × (after ≡ held ++ take used piece) × IsFrame limit after)
   front_taken used f = (f.nothing, (f.some, omega (arith, f.part, long, short), omega (arith, f.part, long, fits), f.bytes ∙ front_again piece part room used is f.part ∙ ap (λ z. z ++ take used piece) (sym f.nothing), f.whole))
 
-  range_length : IsRefusal limit held part LengthRange after → length held < 4
-  range_length r = r.3
-
   pub range_taken : (h : ℕ) → h ≡ length held → IsRefusal limit held part LengthRange after → IsStop limit size held piece (4 - h) OutOfRange × (4 - h ≤ length piece)
   range_taken h e r =
       let few = length-take-le r.0 part r.2 in

@@ -1,19 +1,16 @@
 -- The body behind a payload's header: of a request, of an event, of a reply.
-use Rattle.std.proofs.Common.{◌≡◌, ℕ, List, [], ◌∷◌, length, take, drop, ◌-◌, Some, None, Ok, Err, refl, sym, ap, subst, ◌∙◌, arith}
+use Rattle.std.proofs.Common.{◌≡◌, ℕ, List, [], ◌∷◌, length, take, drop, ◌-◌, Some, None, Ok, refl, sym, ap, subst, ◌∙◌, arith}
 use Rattle.std.specs.Prelude.{ℤ, pos, ◌≢◌, slice_get, filter}
 use Rattle.std.proofs.lemmas.List.{length-drop, drop_at, take_rest}
-use Rattle.zk_jute.specs.declared.fault.ItemFault.{ItemFault}
 use Rattle.zk_jute.specs.Item.{Int, AnInt, bytes_of, HaveBytes}
 use Rattle.zk_jute.specs.Layout.{Layout, End, One}
 use Rattle.zk_jute.specs.Faults.{Opens}
 use Rattle.zk_jute.specs.Reading.{Fails, Tells, end_of, items_at}
 use Rattle.zk_jute.specs.Reading as reading
 use Rattle.zk_jute.proofs.Steps.{IsBytes}
-use Rattle.zk_jute.proofs.Fields.{int_gives, int_plain}
-use Rattle.zk_jute.proofs.Chains.{then_read_one, then_fails, then_fails_later}
-use Rattle.zk_jute.proofs.Layouts.{bytes_only}
-use Rattle.zk_jute.proofs.Sequels.{excluded}
-use Rattle.zk_jute.proofs.Theorems.{found, plain_fault}
+use Rattle.zk_jute.proofs.Fields.{int_gives}
+use Rattle.zk_jute.proofs.Chains.{then_read_one}
+use Rattle.zk_jute.proofs.Theorems.{found}
 use Rattle.zk_records.specs.declared.header.RequestHeader.{RequestHeader}
 use Rattle.zk_records.specs.declared.op.Op.{Op}
 use Rattle.zk_records.specs.Records.{request_header, reply_header}
@@ -49,34 +46,8 @@ module _ (src : List ℕ) where
   abbrev pub IsHeaded : RequestHeader → List ℕ → Type 0
   IsHeaded header rest = HaveBytes (request_header.items header) × Opens src (request_header.items header) rest
 
-  abbrev pub IsHeadless : Type 0
-  IsHeadless = (header : RequestHeader) (rest : List ℕ) → IsHeaded header rest → ⊥
-
-  pub headed_once : (header other : RequestHeader) (rest more : List ℕ) → IsHeaded header rest → IsHeaded other more → header ≡ other
-  headed_once header other rest more h k =
-      request_header.tells_apart header other (bytes_only request_header.layout (request_header.items header) (request_header.items other) rest more
-      (request_header.unfolds header, h.0) (request_header.unfolds other, k.0) (sym h.1 ∙ k.1)).0
-
-  pub headless_none : (v : Conversation) → IsHeadless → (layout : Kind) (body : List ℕ) → HasBody v src Client layout body → ⊥
-  headless_none v none layout body (request xid op b have opens) = none (record { xid = xid; kind = op_number op }) b (have, opens)
-
-  pub no_op_none : (v : Conversation) (header : RequestHeader) (rest : List ℕ) → IsHeaded header rest → ((op : Op) → header.kind ≢ op_number op) → (layout : Kind) (body : List ℕ) → HasBody v src Client layout body → ⊥
-  no_op_none v header rest is none layout body (request xid op b have opens) =
-      none op (ap (λ (h : RequestHeader). h.kind) (headed_once header (record { xid = xid; kind = op_number op }) rest b is (have, opens)))
-
 module _ (src : List ℕ) (fits : IsBytes src) where
-  refused : (e : ItemFault) → Fails e (items_at request_header.layout src 0) → IsHeadless src
-  refused e h header rest is =
-      let f = (plain_fault request_header.layout request_header.items src 0 fits (omega arith) (Err e) h).0 in
-      excluded request_header.layout (request_header.items header) src rest f.0 e.reason (request_header.unfolds header, is.0) is.1 f.1
-
-  pub no_xid : (e : ItemFault) → Tells {X = ℤ × ℕ} (λ x. x) (Err e) (reading.int_at src 0) → IsHeadless src
-  no_xid e h = refused e (then_fails Number Number src 0 e (int_plain src 0 (Err e) h))
-
   module _ (xid : ℤ) (middle : ℕ) (one : Tells (λ x. x) (Ok (xid, middle)) (reading.int_at src 0)) where
-    pub no_kind : (e : ItemFault) → Tells {X = ℤ × ℕ} (λ x. x) (Err e) (reading.int_at src middle) → IsHeadless src
-    no_kind e h = refused e (then_fails_later Number Number src 0 e middle (ap end_of (int_gives src 0 (Ok (xid, middle)) one)) (int_plain src middle (Err e) h))
-
     pub headed : (kind : ℤ) (end : ℕ) → Tells (λ x. x) (Ok (kind, end)) (reading.int_at src middle) → IsHeaded src (record { xid = xid; kind = kind }) (drop end src)
     headed kind end two =
         let all = then_read_one Number Number src 0 (AnInt xid) (AnInt kind ∷ []) middle end (int_gives src 0 (Ok (xid, middle)) one) (int_gives src middle (Ok (kind, end)) two) in
@@ -120,10 +91,6 @@ module _ (v : Conversation) (p : List ℕ) where
   module _ (header : ReplyHeader) (rest : List ℕ) (h : IsHead p header rest) (no_event : header.xid ≢ event_xid) where
     same_head : (other : ReplyHeader) (body : List ℕ) → IsHead p other body → other ≡ header
     same_head other body k = (head_unique p other header body rest k h).0
-
-    pub failed_none : header.err ≢ pos 0 → (layout : Kind) (body : List ℕ) → HasBody v p Server layout body → ⊥
-    failed_none err layout body (event other b k e) = no_event (ap (λ (z : ReplyHeader). z.xid) (sym (same_head other b k)) ∙ e)
-    failed_none err layout body (reply other b k x e ask next not) = err (ap (λ (z : ReplyHeader). z.err) (sym (same_head other b k)) ∙ e)
 
     pub unanswered_none : AnswersNone v header.xid → (layout : Kind) (body : List ℕ) → HasBody v p Server layout body → ⊥
     unanswered_none none layout body (event other b k e) = no_event (ap (λ (z : ReplyHeader). z.xid) (sym (same_head other b k)) ∙ e)

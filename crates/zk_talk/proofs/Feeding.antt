@@ -1,15 +1,15 @@
 -- A piece that is taken bit by bit.
-use Rattle.std.proofs.Common.{◌≡◌, ℕ, ◌+◌, ◌≤◌, inl, inr, List, ◌++◌, length, drop, sym, ap, ◌∙◌, subst, append_assoc}
+use Rattle.std.proofs.Common.{◌≡◌, ℕ, ◌+◌, inl, inr, List, ◌++◌, drop, sym, ap, ◌∙◌, subst, append_assoc}
 use Rattle.std.proofs.lemmas.List.{map-append}
 use Rattle.zk_talk.specs.declared.message.Side.{Side}
 use Rattle.zk_talk.specs.History.{History}
-use Rattle.std.proofs.Common.{Some, None, take}
+use Rattle.std.proofs.Common.{Some, take}
 use Rattle.zk_talk.specs.declared.message.Fault.{Fault}
 use Rattle.zk_talk.specs.Held.{Message}
 use Rattle.zk_talk.specs.History.{on}
 use Rattle.zk_talk.specs.Stands.{TalkState, Stands, Refuses}
 use Rattle.std.proofs.Common.{drop}
-use Rattle.std.proofs.lemmas.List.{take-append-drop, take_all}
+use Rattle.std.proofs.lemmas.List.{take-append-drop}
 use Rattle.std.proofs.Math.Seq.{take-add}
 use Rattle.zk_jute.specs.declared.fault.Reason.TheVariants.{NoMemory}
 use Rattle.zk_talk.specs.Taking.{GoesOn, Fails}
@@ -35,7 +35,3 @@ feed_fails old mid new side bytes at' before now fault inv known (inr r) h st =
     let joined : (h ++ on side (take at' bytes)) ++ on side (drop at' bytes) ≡ h ++ on side bytes =
     append_assoc h (on side (take at' bytes)) (on side (drop at' bytes)) ∙ ap (λ z. h ++ z) (sym (on-append side (take at' bytes) (drop at' bytes)) ∙ ap (on side) (take-append-drop at' bytes)) in
     subst (λ z. Refuses new z now fault) joined (r (h ++ on side (take at' bytes)) now (inv h st))
-
-pub feed_ends : (old new : TalkState) (side : Side) (bytes : List ℕ) (at' : ℕ) (before now : List Message) → length bytes ≤ at' →
-    ((h : History) → Stands old h before → Stands new (h ++ on side (take at' bytes)) now) → TakesAll old before side bytes None new now
-feed_ends old new side bytes at' before now l inv h st = subst (λ z. Stands new (h ++ on side z) now) (take_all at' bytes l) (inv h st)

@@ -1,18 +1,15 @@
 -- The body in which the fault lies, of a talk that keeps it.
 use Rattle.std.proofs.Common.{◌≡◌, ℕ, List, [], ◌∷◌, ◌++◌, length, refl, sym, subst, ◌∙◌, Option, Some, None, Bor, MatchOption}
-use Rattle.std.proofs.lemmas.Bool.{false≢true}
 use Rattle.zk_answers.specs.declared.layout.Layout.{Layout}
-use Rattle.zk_frames.specs.Framing.{frame, IsFrame}
+use Rattle.zk_frames.specs.Framing.{frame}
 use Rattle.zk_talk.specs.declared.message.Fault.{Fault}
 use Rattle.zk_talk.specs.Held.{Message}
 use Rattle.zk_talk.specs.History.{History}
 use Rattle.zk_talk.specs.Conversation.{Conversation}
 use Rattle.zk_talk.specs.Describes.{Describes}
-use Rattle.zk_talk.specs.Fault.{IsCause, IsOfItems, rest_on, side_limit}
-use Rattle.zk_talk.specs.Fault.IsCause.{stream_end, length_range, payload_fault}
+use Rattle.zk_talk.specs.Fault.{rest_on}
 use Rattle.zk_talk.specs.Refused.{HasBody, IsInBody, IsRefusedBody}
 use Rattle.zk_talk.specs.Stands.{TalkState, Refuses, held_on}
-use Rattle.zk_jute.specs.declared.fault.Reason.{Reason}
 use Rattle.zk_talk.proofs.Bodies.{frame_once}
 
 pub some_same : {X : Type 0} (o : Option X) (x y : X) → o ≡ Some x → o ≡ Some y → x ≡ y
@@ -27,15 +24,6 @@ module _ (t : TalkState) (h : History) (M : List Message) (f : Fault) (r : Refus
 
   pub known : Describes (length now.client) (length now.server) t.waiting now
   known = record { client = refl; server = refl; may = r.is.good.conversation.server; queues = r.queues }
-
-  -- a fault of items is a whole frame's
-  pub held_whole : IsOfItems f.reason → IsFrame (side_limit t.limits f.side) (held_on f.side t)
-  held_whole items = subst (IsFrame (side_limit t.limits f.side)) (sym (r.held items)) (go _ _ _ items r.is.cause)
-    where
-      go : (size place : ℕ) (reason : Reason) → IsOfItems reason → IsCause t.limits now f.side size (rest_on f.side r.is.client_rest r.is.server_rest) r.is.byte place reason → IsFrame (side_limit t.limits f.side) last
-      go size place reason items (stream_end a b is) = absurd (false≢true (subst IsOfItems is items))
-      go size place reason items (length_range a b c is) = absurd (false≢true (subst IsOfItems is items))
-      go size place reason items (payload_fault a p is fits x) = (p, is, fits)
 
   module _ (p : List ℕ) (is : held_on f.side t ≡ frame p) where
     pub body_none : ((layout : Layout) (body : List ℕ) → HasBody now p f.side layout body → ⊥) → (layout : Layout) (body : List ℕ) → IsRefusedBody t.limits h f r.is layout body → ⊥

@@ -23,7 +23,7 @@ use Rattle.zk_talk.specs.Describes.{Describes}
 use Rattle.zk_talk.specs.Judged.{IsRemembered, IsForgotten, HasAsk}
 use Rattle.zk_talk.specs.Fault.{IsNext}
 use Rattle.zk_talk.specs.Said.{Heard, HasSpoken, MayAsk, ClientMayStand, IsSaidClient, IsSaidServer, IsClientRefusal, IsServerRefusal, IsUnwritten, IsUnput, IsUnfit, MayAnswer, CannotAnswer}
-use Rattle.zk_talk.specs.Said.IsClientRefusal.{not_allowed, too_long, queue_full}
+use Rattle.zk_talk.specs.Said.IsClientRefusal.{queue_full}
 use Rattle.zk_talk.specs.Said.IsServerRefusal.{no_connect, long_connected, long_event, event_xid, unasked, xid_order, misfit, long_reply}
 use Rattle.zk_talk.specs.Said.IsUnfit.{not_a_reply, none_waits, other_waits, unlike}
 use Rattle.zk_talk.proofs.Lists.{not_empty, EachAfter-push}
@@ -92,22 +92,6 @@ module _ (limits : Limits) (asked welcomed : Bool) (w : Lanes) (v : Conversation
 
   -- ---- the client's messages
   module _ (f : ClientFrame) (connect : Bool) (kind : MatchBool connect (IsFirst f) (IsLater f)) (turn : connect ≡ asked → ⊥) where
-    pub client_misfit : (MayAsk limits f → ⊥) → IsClientRefusal limits v f Misfit
-    client_misfit n = go f connect refl kind n
-      where
-        go : (g : ClientFrame) (b : Bool) → connect ≡ b → MatchBool b (IsFirst g) (IsLater g) → (MayAsk limits g → ⊥) → IsClientRefusal limits v g Misfit
-        go (Connect t h) b e k n = absurd (n (tt, tt))
-        go (Ask xid ask) true e k n = absurd k
-        go (Ask xid ask) false e k n = not_allowed (clients_some (other_side connect asked turn e)) k n refl
-
-    pub client_long : (e : SayFault) → MayAsk limits f → IsUnwritten limits.client (asks.frame_items f) e → (e ≡ NoMemory) ⊎ IsClientRefusal limits v f e
-    client_long e may (inl m) = inl m
-    client_long e may (inr l) = inr (go connect refl kind)
-      where
-        go : (b : Bool) → connect ≡ b → MatchBool b (IsFirst f) (IsLater f) → IsClientRefusal limits v f e
-        go true q k = too_long (λ z. k) (λ z. absurd (z (clients_none (opposite connect asked turn q)))) may l.1 l.0
-        go false q k = too_long (λ z. absurd (clients_some (other_side connect asked turn q) z)) (λ z. k) may l.1 l.0
-
     pub client_full : (e : SayFault) → w.max ≡ limits.waiting → MayAsk limits f → Fit limits.client (asks.frame_items f) → IsUnput f w e → (e ≡ NoMemory) ⊎ IsClientRefusal limits v f e
     client_full e room may fit (inl m) = inl m
     client_full e room may fit (inr full) = inr (go f connect refl kind may fit full.0 full.2)

@@ -1,10 +1,7 @@
 -- What is judged of a payload is so of the frame that has it.
-use Rattle.std.proofs.Common.{w32, FitsSigned, ◌≡◌, ◌≢◌, ℕ, ◌<◌, ◌^◌, List, length, refl, sym, ap, ◌∙◌, subst, arith, Bool, true, false, MatchBool, IsTrue}
-use Rattle.std.specs.Prelude.{ℤ, ◌≤◌, ◌+◌, [], map, Option, Some, None, Result, Ok, Err, IsOk, OnOk, IfErr, slice_get}
-use Rattle.zk_jute.specs.declared.fault.ItemFault.{ItemFault}
+use Rattle.std.proofs.Common.{w32, FitsSigned, ◌≡◌, ◌≢◌, ℕ, ◌<◌, ◌^◌, List, length, refl, sym, ap, ◌∙◌, subst, arith, Bool, true, false, MatchBool}
+use Rattle.std.specs.Prelude.{ℤ, ◌≤◌, ◌+◌, map, Option, Some, None, Result, Ok, Err, IsOk, OnOk, slice_get}
 use Rattle.zk_jute.specs.declared.fault.Reason.TheVariants.{NoMemory, QueueFull}
-use Rattle.zk_jute.specs.Verdict.{Says}
-use Rattle.zk_jute.proofs.Judged.{says_more}
 use Rattle.zk_records.specs.declared.op.Op.{Op}
 use Rattle.zk_records.specs.declared.op.Op.TheVariants as ops
 use Rattle.zk_records.specs.declared.op.PartOp.{PartOp}
@@ -14,10 +11,9 @@ use Rattle.zk_asks.specs.Held as A
 use Rattle.zk_asks.specs.Held.{ClientFrame}
 use Rattle.zk_asks.specs.declared.frame.ClientFrameOf.TheVariants.{Connect, Ask}
 use Rattle.zk_asks.specs.declared.judge.Outline.{Outline}
-use Rattle.zk_asks.specs.Codes.{IsAllowed}
-use Rattle.zk_asks.specs.Fronts.{IsOutlined, IsMultiOf, outline_of, asking_of}
+use Rattle.zk_asks.specs.Fronts.{IsOutlined, IsMultiOf, asking_of}
 use Rattle.zk_asks.specs.Parts.{op_of_part}
-use Rattle.zk_asks.proofs.Judged.{AsksFor, a_multi, judged_xid}
+use Rattle.zk_asks.proofs.Judged.{AsksFor, a_multi, judged_xid, outline_is}
 use Rattle.zk_asks.specs.Rows.{op_of_ask}
 use Rattle.zk_asks.specs.Frames.{IsFirst, ops_of_ask, others_have_none}
 use Rattle.zk_asks.specs.Frames as asks
@@ -41,19 +37,10 @@ use Rattle.zk_talk.proofs.Payloads.{client_is, server_is, few_parts}
 use Rattle.zk_talk.proofs.Judging as J
 use Rattle.zk_talk.proofs.Hearing.{described, none_spoken, some_spoken, turn_later, turn_first, no_welcome, hears, turned}
 
-pub not_false : (b : Bool) → (b ≡ false → ⊥) → IsTrue b
-not_false true n = refl
-not_false false n = absurd (n refl)
-
 -- what holds wherever there is a value
 pub on_ok : {X E P : Type 0} (r : Result X E) → (IsOk r → P) → OnOk r P
 on_ok (Ok x) k = k refl
 on_ok (Err e) k = tt
-
--- what a verdict says of more, of a result
-pub errs_more : {V X : Type 0} (tells : V → Option ItemFault) (P Q : ItemFault → Type 0) → ((e : ItemFault) → P e → Q e) → (r : Result X V) → IfErr r (Says tells P) → IfErr r (Says tells Q)
-errs_more tells P Q more (Ok x) h = tt
-errs_more tells P Q more (Err v) h = says_more tells P Q more v h
 
 -- ---- a client's frame
 
@@ -88,17 +75,6 @@ module _ (profile : Profile) (count : ℕ) (p : List ℕ) where
 
 -- ---- what is asked waits
 
-abbrev pub asking : (profile : Profile) (count : ℕ) (p : List ℕ) (asked : Option Outline) (f : ClientFrame) → IsComing profile count p asked f → IsAsking asked p f
-asking profile count p asked f k = (k.asks, k.sent, k.is)
-
-pub none_room : (f : ClientFrame) (w : Lanes) → asking_of f ≡ None → HasRoomFor f w
-none_room (Connect hello read_only) w e = tt
-none_room (Ask xid ask) w e = absurd cc
-
-pub none_put : (number : ℕ) (f : ClientFrame) (w : Lanes) → asking_of f ≡ None → IsNumbered number f w w
-none_put number (Connect hello read_only) w e = refl
-none_put number (Ask xid ask) w e = absurd cc
-
 pub put_full : (e : PutFault) (weight max : ℕ) → IsPutFault e weight max → max < weight
 put_full put.QueueFull weight max h = h
 
@@ -115,9 +91,6 @@ pub judged_as : (asked : Option Outline) (p : List ℕ) (f : ClientFrame) → Is
 judged_as asked p f k = (k.0, k.1, bytes_of_it f p k.2)
 
 module _ (of : Outline) where
-  outline_is : (xid : ℤ) (ask : A.Ask) → asking_of (Ask xid ask) ≡ Some of → outline_of xid ask ≡ of
-  outline_is xid ask e = cc
-
   module _ (ps : List PartOp) (w : Lanes) where
     pub room_to : (f : ClientFrame) → asking_of f ≡ Some of → HasParts ps f → weight_of w + (1 + length ps) ≤ w.max → HasRoomFor f w
     room_to (Connect hello read_only) e parts fits = absurd cc
@@ -131,30 +104,20 @@ module _ (of : Outline) where
         → IsPut (lane_of of.xid) (record { xid = of.xid; op = op; parts = ps; frame = number }) w new → IsNumbered number f w new
     put_to number new op is (Connect hello read_only) e parts fits put = absurd cc
     put_to number new op is (Ask xid ask) e parts fits put =
-        let same = outline_is xid ask e in
+        let same = outline_is of xid ask e in
         let id : xid ≡ of.xid = ap (λ (o : Outline). o.xid) same in
         let named : op_of_ask ask ≡ op = ap (λ (o : Outline). o.op) same ∙ sym is in
         let one = subst (λ (o : Op). IsPut (lane_of of.xid) (record { xid = of.xid; op = o; parts = ps; frame = number }) w new) (sym named) put in
         let two = subst (λ (qs : List PartOp). IsPut (lane_of of.xid) (record { xid = of.xid; op = op_of_ask ask; parts = qs; frame = number }) w new) (sym parts) one in
         (omega (arith, fits, ap length parts), subst (λ (z : ℤ). IsPut (lane_of z) (record { xid = z; op = op_of_ask ask; parts = ops_of_ask ask; frame = number }) w new) (sym id) two)
 
-  pub has_none : of.op ≢ ops.Multi → (f : ClientFrame) → asking_of f ≡ Some of → HasParts [] f
-  has_none other (Connect hello read_only) e = tt
-  has_none other (Ask xid ask) e = others_have_none ask (λ m. other (sym (ap (λ (o : Outline). o.op) (outline_is xid ask e)) ∙ m))
-
   module _ (p : List ℕ) where
-    pub may_ask : (f : ClientFrame) → IsAsking (Some of) p f → IsAllowed of.xid of.op
-    may_ask (Connect hello read_only) k = let e = k.0 in absurd cc
-    may_ask (Ask xid ask) k =
-        let same = outline_is xid ask k.0 in
-        subst (λ (z : ℤ). IsAllowed z of.op) (ap (λ (o : Outline). o.xid) same) (subst (λ (o : Op). IsAllowed xid o) (ap (λ (o : Outline). o.op) same) k.1.0)
-
     pub fits_asked : (f : ClientFrame) → IsAsking (Some of) p f → FitsSigned w32 of.xid
     fits_asked f k = judged_xid p of f (judged_as (Some of) p f k)
 
     pub few_asked : (f : ClientFrame) → IsAsking (Some of) p f → length p < 2 ^ 32 → of.parts < 2 ^ 32
     few_asked (Connect hello read_only) k small = let e = k.0 in absurd cc
-    few_asked (Ask xid ask) k small = omega (arith, small, few_parts xid ask, ap length k.2, ap (λ (o : Outline). o.parts) (outline_is xid ask k.0))
+    few_asked (Ask xid ask) k small = omega (arith, small, few_parts xid ask, ap length k.2, ap (λ (o : Outline). o.parts) (outline_is of xid ask k.0))
 
     module _ (multi : of.op ≡ ops.Multi) where
       pub multi_asked : (f : ClientFrame) → IsAsking (Some of) p f → (xid : ℤ) × (ds : List A.Part) × IsMultiOf xid ds p × (length ds ≡ of.parts)

@@ -20,7 +20,7 @@ use Rattle.zk_talk.specs.Said.{Heard}
 
 -- ---- a client's frame
 
--- this is the client's frame of the payload, and what it asks
+-- the client's frame with this payload asks this
 abbrev pub IsAsking : Option Outline → List ℕ → ClientFrame → Type 0
 IsAsking asked p f = (asking_of f ≡ asked) × asks.IsSent f × (client_payload f ≡ p)
 
@@ -49,7 +49,7 @@ pub record IsDueReply (number : ℤ) (p : List ℕ) (asked : Replied) (waiting :
   pub is : server_payload (Answered r) ≡ p
   pub may : (n m : ℕ) (v : Conversation) → (m ≡ 0 → ⊥) → Describes n m waiting v → ServerMay v.client v.server (Answered r)
 
--- the request that is told with its lane
+-- the request that is replied to, without its lane
 abbrev pub replied_of : Option (Lane × Replied) → Option Replied
 replied_of None = None
 replied_of (Some (lane, told)) = Some told

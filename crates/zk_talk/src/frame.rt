@@ -1,5 +1,5 @@
 //! What is done with a side's whole frame: it is judged, and then kept or passed.
-ghost use Rattle.std.specs.Prelude.{◌≡◌, ◌≢◌, ◌<◌, ◌≤◌, ◌↔◌, ℕ, [], length, take, drop, IfOk, IfErr, OnOk, OnErr, IsTrue};
+ghost use Rattle.std.specs.Prelude.{◌≡◌, ◌≢◌, ◌<◌, ◌≤◌, ◌↔◌, [], length, take, drop, IfOk, IfErr, OnOk, OnErr, IsTrue};
 ghost use Rattle.zk_jute.specs.declared.fault.Reason.TheVariants.{NoMemory};
 ghost use Rattle.zk_jute.specs.Verdict.{Says};
 ghost use Rattle.zk_asks.specs.Held as asks;

@@ -14,7 +14,7 @@ ghost use Rattle.zk_answers.specs.Held as answered;
 ghost use Rattle.zk_answers.specs.Frames as answers;
 ghost use Rattle.zk_talk.specs.Payloads.{client_payload};
 ghost use Rattle.zk_talk.specs.Settled.{IsAsking, IsComing, IsAwaited, IsDueReply, IsHeard, IsExpected, IsSettled, Answers, replied_of};
-ghost use Rattle.zk_talk.specs.Judged.{TellsLater, TellsClient, TellsServer, IsTurnFault, IsPutRefusal, HasRoomFor, IsNumbered, IsRemembered, HasAsk, IsForgotten, TellsReplied};
+ghost use Rattle.zk_talk.specs.Judged.{TellsLater, TellsClient, TellsServer, IsTurnFault, IsPutRefusal, HasRoomFor, IsNumbered, IsRemembered, HasAsk, IsForgotten};
 ghost use Rattle.zk_talk.specs.SaidPayload.{HearsFault};
 
 use crate::replied::Replied;

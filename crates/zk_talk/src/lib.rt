@@ -28,9 +28,9 @@
 //!
 //! # Choices
 //!
-//! **`take` decides as `step` does, and then makes the message.** Both judge the whole frame borrowed, so each fault is
-//! decided in one place, before anything changes. `step` then changes the queue and keeps the frame. `take` copies the
-//! frame first, so if memory runs out, neither the queue nor the counts have changed, and the piece's bytes are taken
+//! **`take` decides as `step` does, and then makes the message.** Both ask one judge, which makes no frame, so each fault
+//! is decided in one place, before anything changes. `step` then changes the queue and keeps the frame. `take` makes the
+//! message first, so if memory runs out, neither the queue nor the counts have changed, and the piece's bytes are taken
 //! back.
 //!
 //! **A kept frame is no part of the history.** `TalkState` has it beside what is held, so dropping it changes nothing

@@ -16,7 +16,7 @@ use zk_jute::Undecided;
 use zk_records::Op;
 use zk_waiting::{Awaited, Lane};
 
-/// Whether a client's message of this kind may come, by whether the client has spoken.
+/// Whether a client's message of this kind may come, by whether the client has spoken; false: undecided.
 fn is_next(asked: bool, kind: Kind) -> bool
     ensures { IsTrue result → MatchBool asked (kind ≡ Ask) (kind ≡ Connect) }
 {
@@ -58,7 +58,7 @@ fn is_same(a: Op, b: Op) -> bool
     a == b
 }
 
-/// Whether a server's message is of this kind, which replies to `answer`, by whether the server has spoken.
+/// Whether a server's message that replies to `answer` is of this kind, by whether the server has spoken; false: undecided.
 fn is_answer(welcomed: bool, kind: Kind, answer: Option<(Lane, Replied)>) -> bool
     ensures { IsTrue result → (s : ServerFrame) (w : Lanes) → IsTurn welcomed s → Answers s w answer → kind_of (Server s) ≡ kind }
 {

@@ -6,11 +6,10 @@ use Rattle.zk_jute.specs.Item.{AnInt}
 use Rattle.zk_jute.specs.Layout.{IsValueOf}
 use Rattle.zk_jute.specs.Told.{StandsAt, HasSureFault}
 use Rattle.zk_jute.specs.Wired.{int}
-use Rattle.zk_jute.proofs.Judged.{says_more, says_told, says_one}
+use Rattle.zk_jute.proofs.Judged.{says_more, errs_more, says_told, says_one}
 use Rattle.zk_records.specs.Records.{multi_header}
 use Rattle.zk_asks.specs.Parts.{marked}
 use Rattle.zk_asks.proofs.Knowing.{of_answer}
-use Rattle.zk_answers.proofs.Ends.{errs_more}
 use Rattle.zk_answers.proofs.Outcomes.{result_mark, result_bad, error_inside, error_differs}
 use Rattle.zk_answers.proofs.Lying.{own_found, own_fault, error_found}
 use Rattle.zk_answers.proofs.done_list.done_end.Goals as goal

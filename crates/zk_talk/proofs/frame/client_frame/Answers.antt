@@ -1,12 +1,13 @@
 use Rattle.std.proofs.Common.{◌≡◌, ◌≢◌, ℕ, true, false, sym, subst, ◌∙◌}
 use Rattle.std.proofs.lemmas.Result.{err_from_is_err_and}
+use Rattle.std.proofs.lemmas.Bool.{true_from_ne_false}
 use Rattle.zk_jute.specs.declared.fault.ItemFault.{ItemFault}
 use Rattle.zk_jute.specs.declared.fault.Reason.TheVariants.{NoMemory}
 use Rattle.zk_talk.specs.Judged.{TellsClient, HasRoomFor, IsNumbered}
 use Rattle.zk_talk.specs.Settled.{IsAsking}
 use Rattle.zk_talk.proofs.Viewing.{one_payload}
 use Rattle.zk_talk.proofs.Seen.{payload_small, client_seen, client_told}
-use Rattle.zk_talk.proofs.Settling.{full_told, not_false, bytes_of_it}
+use Rattle.zk_talk.proofs.Settling.{full_told, bytes_of_it}
 use Rattle.zk_talk.proofs.SayingPayloads.{not_true}
 use Rattle.zk_talk.proofs.Telling.{told_client}
 use Rattle.zk_talk.proofs.frame.client_frame.Goals as goal
@@ -67,7 +68,7 @@ returns-in-Ok-clause-found c =
     let same : c.judged_ref-seen.result ≡ f = c.judged_ref-seen.ensures f asks-3.0 asks-3.1 (bytes_of_it f c.payload-3.result.now asks-3.2) in
     let on : c.has_room.result ≡ true = cc in
     let room = (c.has_room.ensures f asks-2).0 on in
-    let put = c.put_asked.ensures.put (not_false c.put_asked.result (λ no. c.put_asked.ensures.full no f asks-4 room)) f asks-4 in
+    let put = c.put_asked.ensures.put (true_from_ne_false c.put_asked.result (λ no. c.put_asked.ensures.full no f asks-4 room)) f asks-4 in
     let next = client_seen c.args.stream.now c.args.used c.count-count.result c.requires p c.payload.ensures c.count-count.ensures w c.args.profile f k.1.turn k.1.sent k.1.is room in
     let copy : c.in-Ok.frame ≡ f = c.in-Ok.ensures ∙ same in
     rw copy (next, subst (λ (n : ℕ). IsNumbered n f w c.put_asked.new.waiting) c.count-count.ensures put)

@@ -1,6 +1,7 @@
 use Rattle.std.proofs.lemmas.Result.{IfOk-weaker}
 use Rattle.zk_talk.proofs.Hearing.{hears}
-use Rattle.zk_talk.proofs.Settling.{expected, errs_more}
+use Rattle.zk_jute.proofs.Judged.{errs_more}
+use Rattle.zk_talk.proofs.Settling.{expected}
 use Rattle.zk_talk.proofs.judge.next_server.Goals as goal
 
 pub returns-clause-found : goal.returns-clause-found

@@ -1,8 +1,8 @@
 use Rattle.std.proofs.Common.{◌≡◌, ◌≤◌, ◌<◌, length, arith, true, false, subst, inr}
+use Rattle.std.proofs.lemmas.Bool.{true_from_ne_false}
 use Rattle.zk_records.specs.declared.profile.Profile.{Profile}
 use Rattle.zk_talk.specs.Judged.{IsInTurn, IsTurnFault, HasRoomFor}
 use Rattle.zk_talk.specs.Settled.{IsAsking}
-use Rattle.zk_talk.proofs.Settling.{not_false}
 use Rattle.zk_talk.proofs.SayingPayloads.{client_payload_said, client_payload_stands, client_payload_long, client_payload_full, client_payload_item, not_true, spoken_frames}
 use Rattle.zk_talk.proofs.payload.say_client_payload.Goals as goal
 
@@ -55,5 +55,5 @@ returns-clause-said c =
     let asks : IsAsking c.in-Ok.ask p k.0 = (k.1.asks, k.1.sent, k.1.is) in
     let on : c.has_room.result ≡ true = cc in
     let room = (c.has_room.ensures k.0 asks).0 on in
-    let put = c.put_asked.ensures.put (not_false c.put_asked.result (λ no. c.put_asked.ensures.full no k.0 asks room)) k.0 asks in
+    let put = c.put_asked.ensures.put (true_from_ne_false c.put_asked.result (λ no. c.put_asked.ensures.full no k.0 asks room)) k.0 asks in
     client_payload_said c.args.limits c.args.asked n (spoken_frames c.args.asked n c.from-count.ensures) w p k.0 turn k.1.sent k.1.is c.put_asked.new.waiting c.requires.room small put

@@ -1,7 +1,3 @@
-use Rattle.std.proofs.Common.{◌≡◌, [], subst, sym}
-use Rattle.zk_talk.specs.declared.message.Side.{Side}
-use Rattle.zk_talk.specs.Stands.{TalkState, kept_on}
-use Rattle.zk_c.specs.Handle.{AnswersOn}
 use Rattle.zk_c.proofs.conversation.Conversation.answered.Goals as goal
 
 pub returns-in-Server : goal.returns-in-Server
