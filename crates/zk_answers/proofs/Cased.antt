@@ -17,7 +17,8 @@ use Rattle.zk_asks.proofs.Openings.{cut, goes_on}
 use Rattle.zk_asks.proofs.Opened.{mark_shape, kinds_same, first_kind}
 use Rattle.zk_answers.specs.Results.{result_header, error_header, result_layout, IsDoneFault, in_mark, bad_mark, in_result, in_error, other_error, behind_result, behind_error}
 use Rattle.zk_answers.specs.Openings.{number_items, AreResults, no_result, a_result, an_error, Ends, AreMarked, last, result_before, error_before, IsBadMark, no_mark, no_number, IsBadPart, bad_part}
-use Rattle.zk_answers.proofs.Dones.{mark_is, result_bytes, an_int}
+use Rattle.zk_asks.proofs.Parts.{mark_is}
+use Rattle.zk_answers.proofs.Dones.{result_bytes, an_int}
 use Rattle.zk_answers.proofs.Opened.{ending}
 
 -- within a header, whatever its numbers are

@@ -20,28 +20,17 @@ use Rattle.zk_records.specs.Records.{multi_header, stat}
 use Rattle.zk_answers.specs.Held.{PartDone}
 use Rattle.zk_answers.specs.declared.frame.PartDoneOf.TheVariants as done
 use Rattle.zk_asks.specs.Parts.{end_header, marked}
+use Rattle.zk_asks.proofs.Parts.{mark_is}
 use Rattle.zk_answers.specs.Results.{result_header, error_header, done_items, multi_items, result_layout, result_of, Own, Answers}
 
 -- ---- headers
-
-pub mark_is : (h : MultiHeader) → HaveBytes (marked h) → IsValueOf multi_header.layout (marked h)
-mark_is h have = (multi_header.unfolds h, have)
-
-pub mark_same : (a b : MultiHeader) → marked a ≡ marked b → a ≡ b
-mark_same a b e = multi_header.tells_apart a b e
 
 pub result_bytes : (op : PartOp) → HaveBytes (marked (result_header op))
 result_bytes parts.Create = (omega (arith, ints), (tt, (omega (arith, ints), tt)))
 result_bytes _ = (omega (arith, ints), (tt, (omega (arith, ints), tt)))
 
-pub end_bytes : HaveBytes (marked end_header)
-end_bytes = (omega (arith, ints), (tt, (omega (arith, ints), tt)))
-
 pub result_mark : (op : PartOp) → IsValueOf multi_header.layout (marked (result_header op))
 result_mark op = mark_is (result_header op) (result_bytes op)
-
-pub end_mark : IsValueOf multi_header.layout (marked end_header)
-end_mark = mark_is end_header end_bytes
 
 pub not_failed : (op : PartOp) → negsuc 0 ≡ part_number op → ⊥
 not_failed parts.Create e = absurd cc

@@ -60,9 +60,6 @@ module _ (Judged : ReplyHeader → List ℕ → ℕ → Reason → Type 0) where
 pub xid_of : (src : List ℕ) (P : ℤ → Type 0) → (head : (header : ReplyHeader) × (rest : List ℕ) × IsHead src header rest) → P head.0.xid → (header : ReplyHeader) (rest : List ℕ) → IsHead src header rest → P header.xid
 xid_of src P head is header rest h = subst (λ (x : ReplyHeader). P x.xid) (head_unique src head.0 header head.1 rest head.2 h).0 is
 
-pub short_of : (src : List ℕ) (P : ℤ → Type 0) (place : ℕ) (reason : Reason) → IsHeadFault src place reason → (header : ReplyHeader) (rest : List ℕ) → IsHead src header rest → P header.xid
-short_of src P place reason f header rest h = absurd (head_excludes src header rest place reason h f)
-
 -- bytes have one fault of a header at most
 pub head_fault_unique : (bytes : List ℕ) (p q : ℕ) (r s : Reason) → IsHeadFault bytes p r → IsHeadFault bytes q s → Same p r q s
 head_fault_unique bytes p q r s f g = one_fault reply_header.layout bytes p q r s f g

@@ -17,7 +17,6 @@ pub mod Opened
 pub mod Cased
 pub mod Covered
 pub mod Lying
-pub mod Passing
 pub mod Knowing
 mod Ends
 pub mod Deciding

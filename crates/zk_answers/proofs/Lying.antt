@@ -1,22 +1,22 @@
 -- Results that lie in a payload: what stands there is their value, and what reads them.
-use Rattle.std.proofs.Common.{◌≡◌, ℕ, ◌+◌, ◌≤◌, List, [], ◌∷◌, ◌++◌, length, drop, None, Ok, Err, inr, refl, sym, ap, subst, ◌∙◌, arith}
+use Rattle.std.proofs.Common.{◌≡◌, ℕ, ◌+◌, ◌≤◌, List, [], ◌∷◌, ◌++◌, length, drop, true, false, None, Ok, Err, inr, refl, sym, ap, subst, ◌∙◌, arith}
 use Rattle.std.specs.Prelude.{ℤ, Result, IfOk, ◌≢◌}
 use Rattle.std.specs.List.{flat_map}
 use Rattle.std.proofs.lemmas.List.{append-nil}
 use Rattle.zk_jute.specs.declared.fault.ItemFault.{ItemFault}
 use Rattle.zk_jute.specs.Item.{Item, AnInt, bytes_of, HaveBytes}
 use Rattle.zk_jute.specs.Layout.{IsValueOf, Unfolds}
-use Rattle.zk_jute.specs.Reading.{Read, ◌>>=◌, read_map, int_at, long_at, items_at}
+use Rattle.zk_jute.specs.Reading.{Read, ◌>>=◌, read_map, int_at, long_at}
 use Rattle.zk_jute.specs.Told.{StandsAt, HasSureFault}
 use Rattle.zk_jute.specs.Values.{text_items, text_unfolds}
 use Rattle.zk_jute.specs.Held.{Text}
 use Rattle.zk_jute.specs.Standing.{OneStands}
 use Rattle.zk_jute.specs.Wired.{Wired, int, long, ustring, ◌and◌}
-use Rattle.zk_jute.specs.Shown.{text_value, both_at, text_is_value, Stretch, Begins}
-use Rattle.zk_jute.proofs.Layouts.{items_again, bytes_only, have_both, have_parts}
+use Rattle.zk_jute.specs.Shown.{text_value, both_at, text_is_value, Stretch}
+use Rattle.zk_jute.proofs.Layouts.{bytes_only, have_both, have_parts}
 use Rattle.zk_jute.proofs.Sequels.{stands_then}
-use Rattle.zk_jute.proofs.Stretches.{stands_split, values_counted}
-use Rattle.zk_jute.proofs.Valued.{IsValued, int_valued, long_valued, both_valued, value_read, recast}
+use Rattle.zk_jute.proofs.Stretches.{stands_split}
+use Rattle.zk_jute.proofs.Valued.{IsValued, int_valued, long_valued, both_valued, recast, stands_told}
 use Rattle.zk_records.specs.Records.{multi_header, stat}
 use Rattle.zk_records.specs.Codes.{part_number}
 use Rattle.zk_records.specs.declared.header.MultiHeader.{MultiHeader}
@@ -24,14 +24,17 @@ use Rattle.zk_records.specs.declared.stat.Stat.{Stat}
 use Rattle.zk_records.specs.declared.op.PartOp.{PartOp}
 use Rattle.zk_records.specs.declared.op.PartOp.TheVariants as parts
 use Rattle.zk_records.proofs.Numbers.{part_number_apart}
+use Rattle.zk_asks.specs.Multi.{AreHeaded}
 use Rattle.zk_asks.specs.Parts.{marked, end_header}
 use Rattle.zk_asks.specs.Shown.{part_numbered}
 use Rattle.zk_answers.specs.Fronts.{AreDonesAt, IsResultAt, IsDoneAt, IsDoneFaultAt}
 use Rattle.zk_answers.specs.Held.{PartDone}
 use Rattle.zk_answers.specs.declared.frame.PartDoneOf.TheVariants as done
 use Rattle.zk_answers.specs.Results.{error_header, result_header, done_items, mark_before, result_of, result_layout, Answers, AnswerAll, Own}
-use Rattle.zk_answers.specs.Shown.{stat_of, counts_value, stat_value, result_value, done_value, dones_at}
-use Rattle.zk_answers.proofs.Dones.{mark_is, mark_same, not_failed}
+use Rattle.zk_answers.specs.Shown.{stat_of, counts_value, stat_value, result_value, done_value}
+use Rattle.zk_asks.proofs.Parted.{nine, mark_same}
+use Rattle.zk_asks.proofs.Parts.{mark_is}
+use Rattle.zk_answers.proofs.Dones.{not_failed}
 use Rattle.zk_answers.proofs.Outcomes.{result_inside}
 
 -- ---- the records
@@ -68,16 +71,6 @@ items_are done.Deleted = sym (append-nil (marked (result_header parts.Delete)))
 items_are done.Checked = sym (append-nil (marked (result_header parts.Check)))
 items_are _ = refl
 
-nine : (d : PartDone) → length (bytes_of (marked (mark_before d))) ≡ 9
-nine (done.Created path) = refl
-nine _ = refl
-
--- a value that stands is told
-stands_told : {X : Type 0} (w : Wired X) (src : List ℕ) (v : ℕ → Read X) → IsValued w src v → (x : X) (place end : ℕ) → HaveBytes (w.items x) → place ≤ length src → StandsAt (w.items x) src place end → v place ≡ Ok (x, end)
-stands_told w src v is x place end have le s =
-    let read = items_again w.layout src (w.items x) (drop end src) place (w.unfolds x) have le s.0 in
-    value_read w (v place) (items_at w.layout src place) x end (is place) (read ∙ ap (λ (n : ℕ). Ok (w.items x, n)) (sym s.1))
-
 behind_told : (src : List ℕ) (d : PartDone) (place end : ℕ) → place ≤ length src → HaveBytes (result_of d) → StandsAt (result_of d) src place end → result_value (part_numbered (mark_before d).kind) src place ≡ Ok (d, end)
 behind_told src (done.Created path) place end le have s = ap (read_map done.Created) (stands_told ustring src (text_value src) (text_is_value src) path place end have le s)
 behind_told src (done.DataSet x) place end le have s = ap (read_map done.DataSet) (stands_told stat src (stat_value src) (stat_valued src) x place end have le s)
@@ -94,12 +87,12 @@ module _ (src : List ℕ) (d : PartDone) (place end : ℕ) (le : place ≤ lengt
   pub header_there : HaveBytes mark × StandsAt mark src place (place + 9)
   header_there =
       let s = stands_split mark (result_of d) src place end le both.1 in
-      ((have_parts mark (result_of d) both.0).0, subst (λ (n : ℕ). StandsAt mark src place (place + n)) (nine d) s.0)
+      ((have_parts mark (result_of d) both.0).0, subst (λ (n : ℕ). StandsAt mark src place (place + n)) (nine (mark_before d)) s.0)
 
-  pub behind_there : HaveBytes (result_of d) × StandsAt (result_of d) src (place + 9) end × (place + 9 ≤ length src)
+  behind_there : HaveBytes (result_of d) × StandsAt (result_of d) src (place + 9) end × (place + 9 ≤ length src)
   behind_there =
       let s = stands_split mark (result_of d) src place end le both.1 in
-      ((have_parts mark (result_of d) both.0).1, subst (λ (n : ℕ). StandsAt (result_of d) src (place + n) end) (nine d) s.1, subst (λ (n : ℕ). place + n ≤ length src) (nine d) s.2)
+      ((have_parts mark (result_of d) both.0).1, subst (λ (n : ℕ). StandsAt (result_of d) src (place + n) end) (nine (mark_before d)) s.1, subst (λ (n : ℕ). place + n ≤ length src) (nine (mark_before d)) s.2)
 
   -- the number in front
   number_there : (after : ℕ) × (int_at src place ≡ Ok ((mark_before d).kind, after))
@@ -112,7 +105,7 @@ module _ (src : List ℕ) (d : PartDone) (place end : ℕ) (le : place ≤ lengt
       (place + length (bytes_of one), stands_told int src (int_at src) (int_valued src) h.kind place (place + length (bytes_of one)) p.0 le s.0)
 
   -- a header that was read here is the result's own
-  pub header_read : (header : MultiHeader) (after : ℕ) → IsValueOf multi_header.layout (marked header) → StandsAt (marked header) src place after → (header ≡ mark_before d) × (after ≡ place + 9)
+  header_read : (header : MultiHeader) (after : ℕ) → IsValueOf multi_header.layout (marked header) → StandsAt (marked header) src place after → (header ≡ mark_before d) × (after ≡ place + 9)
   header_read header after v s =
       let t = header_there in
       let same = bytes_only multi_header.layout (marked header) mark (drop after src) (drop (place + 9) src) v (mark_is (mark_before d) t.0) (sym s.0 ∙ t.1.0) in
@@ -231,8 +224,14 @@ module _ (src : List ℕ) (d : PartDone) (place end : ℕ) (le : place ≤ lengt
         let same = one_value (result_value None src after) (done.PartFailed n, at) (done.PartFailed failed.0, end) (told_of n at has t) (told_of failed.0 end number.0 number.1) in
         same ∙ ap (λ (x : PartDone). (x, end)) (sym failed.1)
 
-pub dones_counted : (src : List ℕ) (count place : ℕ) → Begins done_items src count place → length (dones_at src count place) ≡ count
-dones_counted src = values_counted done_items src (done_value src) (done_read src)
+-- ---- what is known of each result
+
+pub not_end : (d : PartDone) → mark_before d ≡ end_header → ⊥
+not_end (done.Created path) e = let k : false ≡ true = ap (λ (h : MultiHeader). h.done) e in absurd cc
+not_end _ e = let k : false ≡ true = ap (λ (h : MultiHeader). h.done) e in absurd cc
+
+pub dones_headed : AreHeaded done_items
+dones_headed d = (mark_before d, result_of d, items_are d, not_end d)
 
 -- ---- a part's own result behind its header
 

@@ -18,7 +18,9 @@ use Rattle.zk_asks.proofs.Openings.{NextIs, next_follows, behind_front}
 use Rattle.zk_asks.proofs.Opened.{mark_shape}
 use Rattle.zk_answers.specs.Results.{result_header, error_header, result_layout, IsDoneFault, in_mark, bad_mark, in_result, in_error, other_error, behind_result, behind_error}
 use Rattle.zk_answers.specs.Openings.{number_items, AreResults, no_result, a_result, an_error, Ends, AreMarked, last, result_before, error_before, no_mark, no_number, IsBadPart, bad_part}
-use Rattle.zk_answers.proofs.Dones.{mark_is, mark_same, result_mark, end_bytes, not_error, error_same}
+use Rattle.zk_asks.proofs.Parts.{mark_is}
+use Rattle.zk_asks.proofs.Parted.{mark_same, end_bytes}
+use Rattle.zk_answers.proofs.Dones.{result_mark, not_error, error_same}
 
 -- ---- headers
 

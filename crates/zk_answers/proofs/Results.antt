@@ -17,7 +17,9 @@ use Rattle.zk_answers.specs.declared.frame.PartDoneOf.TheVariants as done
 use Rattle.zk_asks.specs.Parts.{end_header, marked}
 use Rattle.zk_answers.specs.Results.{result_header, error_header, done_items, multi_items, result_layout, Answers, AnswerAll, MayAnswer, IsDoneFault, in_mark, bad_mark, in_result, in_error, other_error, behind_result, behind_error}
 use Rattle.zk_answers.proofs.Placed.{Placed, placed_same, placed_not}
-use Rattle.zk_answers.proofs.Dones.{mark_is, mark_same, result_mark, end_mark, not_error, error_same, done_of, result_items, result_is, result_apart, items_of, done_is, multi_more, split_items, an_int}
+use Rattle.zk_asks.proofs.Parts.{mark_is}
+use Rattle.zk_asks.proofs.Parted.{mark_same, end_mark}
+use Rattle.zk_answers.proofs.Dones.{result_mark, not_error, error_same, done_of, result_items, result_is, result_apart, items_of, done_is, multi_more, split_items, an_int}
 
 -- ---- a fault by its header
 

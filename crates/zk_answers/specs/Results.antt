@@ -12,7 +12,7 @@ use Rattle.zk_records.specs.declared.op.PartOp.{PartOp}
 use Rattle.zk_records.specs.declared.op.PartOp.TheVariants as parts
 use Rattle.zk_records.specs.Codes.{part_number}
 use Rattle.zk_records.specs.Records.{multi_header, stat}
-use Rattle.zk_asks.specs.Parts.{end_header, marked}
+use Rattle.zk_asks.specs.Parts.{end_header, marked, ended}
 use Rattle.zk_answers.specs.Held.{PartDone}
 use Rattle.zk_answers.specs.declared.frame.PartDoneOf.TheVariants as done
 use Rattle.zk_answers.specs.declared.multi.ResultMark.{ResultMark}
@@ -43,7 +43,7 @@ done_items done.Checked = marked (result_header parts.Check)
 done_items (done.PartFailed e) = marked (error_header e) ++ (AnInt e ∷ [])
 
 abbrev pub multi_items : List PartDone → List Item
-multi_items ds = flat_map done_items ds ++ marked end_header
+multi_items = ended done_items
 
 -- a part's own result, or an error
 abbrev pub Answers : PartOp → PartDone → Type 0

@@ -1,7 +1,7 @@
 -- Borrowed results, as values of their payload's bytes.
 use Rattle.std.specs.Prelude.{ℕ, ◌+◌, ℤ, List, Option, Some, None, Ok}
 use Rattle.zk_jute.specs.Reading.{Read, ◌>>=◌, read_map, int_at, long_at}
-use Rattle.zk_jute.specs.Shown.{text_value, both_at, values_at}
+use Rattle.zk_jute.specs.Shown.{text_value, both_at}
 use Rattle.zk_records.specs.declared.stat.Stat.{Stat}
 use Rattle.zk_records.specs.declared.op.PartOp.{PartOp}
 use Rattle.zk_records.specs.declared.op.PartOp.TheVariants as parts
@@ -49,7 +49,3 @@ result_value (Some parts.Check) src place = Ok (done.Checked, place)
 -- the result at a place, after the nine bytes of its header
 abbrev pub done_value : List ℕ → ℕ → Read PartDone
 done_value src place = int_at src place >>= λ kind. result_value (part_numbered kind.0) src (place + 9)
-
--- `count` of them
-abbrev pub dones_at : List ℕ → ℕ → ℕ → List PartDone
-dones_at src count place = values_at (done_value src) count place

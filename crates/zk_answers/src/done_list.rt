@@ -1,123 +1,57 @@
-//! `DoneList`: the results of a multi, borrowed from its payload, and the iterator over them.
-ghost use Rattle.std.specs.Prelude.{List, ◌≡◌, ◌≤◌, ℕ, Ok, Some, length, IfOk, IfErr, IfSome};
-ghost use Rattle.std.specs.Iterator.{YieldsFirst, UpTo, item_count};
-ghost use Rattle.std.specs.Iterator.SizeHint.{IsWithinCount};
+//! `DoneList`: the results of a multi, borrowed from its payload.
+ghost use Rattle.std.specs.Prelude.{◌≡◌, ◌≤◌, ℕ, length, Ok, IfOk, IfErr};
 ghost use Rattle.zk_jute.specs.Item.{HaveBytes};
-ghost use Rattle.zk_jute.specs.Standing.{OneStands};
-ghost use Rattle.zk_jute.specs.Shown.{Begins};
 ghost use Rattle.zk_jute.specs.Layout.{IsValueOf};
+ghost use Rattle.zk_jute.specs.Standing.{OneStands};
 ghost use Rattle.zk_jute.specs.Told.{StandsAt, HasSureFault, IsSurelyToldAt};
 ghost use Rattle.zk_jute.specs.Verdict.{Says};
 ghost use Rattle.zk_answers.specs.Held.{PartDone};
 ghost use Rattle.zk_answers.specs.Results.{done_items, result_layout, result_of, IsDoneFault, Own};
 ghost use Rattle.zk_answers.specs.Fronts.{AreDonesAt, IsResultAt, IsDoneAt, IsDoneFaultAt};
-ghost use Rattle.zk_answers.specs.Shown.{dones_at};
+ghost use Rattle.zk_answers.specs.Shown.{done_value};
 
 use crate::frame::{PartDoneOf, PartDoneRef};
-use crate::multi::{ResultMark, is_end, result_mark_of};
-use std::marker::Model;
-use zk_asks::Asked;
-use zk_jute::{Ends, Left, Payload, Reason, TextRef, Verdict, known_at, read_ref};
+use crate::multi::{ResultMark, result_mark_of};
+use zk_asks::{Asked, is_end};
+use zk_jute::{
+    Ends, KnownIn, Member, Payload, Reason, Sequence, TextRef, Verdict, known_at, read_ref,
+};
 use zk_records::{MultiHeader, PartOp, Stat, part_of};
 
 /// The results of a multi's parts, borrowed.
-#[derive(Drop)]
-pub struct DoneList<'a> {
-    payload: &'a [u8],
-    count: usize,
-    place: usize,
-}
+pub type DoneList<'a> = Sequence<'a, PartDoneRef<'a>>;
 
-impl<'a> Model for DoneList<'a> {
-    ghost use Rattle.std.specs.Prelude.{List};
-    ghost use Rattle.zk_jute.specs.Shown.{Begins};
-    ghost use Rattle.zk_answers.specs.Held.{PartDone};
-    ghost use Rattle.zk_answers.specs.Results.{done_items};
-    ghost use Rattle.zk_answers.specs.Shown.{dones_at};
+impl<'a> Member for PartDoneRef<'a> {
+    type Mark = ();
 
-    ghost Value = { List PartDone };
+    ghost items = { done_items };
 
-    ghost view = { λ l. dones_at l.payload.now l.count l.place };
+    ghost value = { done_value };
 
-    ghost invariant = { λ l. Begins done_items l.payload.now l.count l.place };
-}
+    ghost mark = { λ _. tt };
 
-#[tactic(auto, using(crate::proofs::Lying::dones_counted))]
-impl<'a> DoneList<'a> {
-    /// The number of results.
-    pub fn count(&self) -> usize
-        ensures { result ≡ length self.now }
+    fn pass(payload: &[u8], place: usize) -> ((), usize)
+        requires place { place ≤ length payload.now }
+        requires known { OneStands done_items payload.now place }
+        ensures value { (d : PartDone) × (done_value payload.now place ≡ Ok (d, result.1)) × (tt ≡ result.0) }
+        ensures only { (d : PartDone) (end : ℕ) → HaveBytes (done_items d) → StandsAt (done_items d) payload.now place end → result.1 ≡ end }
     {
-        self.count
+        let (_, end) = PartDoneRef::known_in(payload, place);
+        ((), end)
     }
+}
 
-    /// The results, in the order of the parts.
-    pub fn items(&self) -> DoneItems<'a>
-        ensures { result ≡ self.now }
-    {
-        DoneItems {
-            payload: self.payload,
-            left: self.count,
-            place: self.place,
+/// A result is of the operation in its own header.
+impl<'a> KnownIn<'a> for PartDoneRef<'a> {
+    fn known_in(payload: &'a [u8], place: usize) -> (Self, usize) {
+        let (header, after) = known_at::<MultiHeader>(payload, place);
+        match part_of(header.kind) {
+            Some(op) => result_in(payload, after, op),
+            None => {
+                let (number, end) = known_at(payload, after);
+                (PartDoneOf::PartFailed(number), end)
+            }
         }
-    }
-}
-
-/// The iterator over a multi's results: those that are left.
-#[derive(Drop)]
-pub struct DoneItems<'a> {
-    payload: &'a [u8],
-    left: usize,
-    place: usize,
-}
-
-impl<'a> Model for DoneItems<'a> {
-    ghost use Rattle.std.specs.Prelude.{List};
-    ghost use Rattle.zk_jute.specs.Shown.{Begins};
-    ghost use Rattle.zk_answers.specs.Held.{PartDone};
-    ghost use Rattle.zk_answers.specs.Results.{done_items};
-    ghost use Rattle.zk_answers.specs.Shown.{dones_at};
-
-    ghost Value = { List PartDone };
-
-    ghost view = { λ l. dones_at l.payload.now l.left l.place };
-
-    ghost invariant = { λ l. Begins done_items l.payload.now l.left l.place };
-}
-
-impl<'a> Iterator for DoneItems<'a> {
-    type Item = PartDoneRef<'a>;
-
-    ghost next_gives = { YieldsFirst (λ s. s) };
-
-    ghost remaining = { item_count (λ s. s) };
-
-    fn next(&mut self) -> Option<PartDoneRef<'a>> {
-        if self.left == 0 {
-            return None;
-        }
-        // All results that are left are known to be there.
-        let (done, place) = done_in(self.payload, self.place);
-        self.place = place;
-        self.left -= 1;
-        Some(done)
-    }
-
-    fn size_hint(&self) -> (usize, Option<usize>)
-        ensures lower { IsWithinCount result.0 (item_count (λ s. s) self.now) }
-        ensures upper { IfSome result.1 (UpTo (item_count (λ s. s) self.now)) }
-        ensures exact { (result.0 ≡ length self.now) × (result.1 ≡ Some (length self.now)) }
-    {
-        let left = self.len();
-        (left, Some(left))
-    }
-}
-
-impl<'a> ExactSizeIterator for DoneItems<'a> {
-    #[tactic(auto, using(crate::proofs::Lying::dones_counted))]
-    fn len(&self) -> usize {
-        let DoneItems { left, .. } = self;
-        *left
     }
 }
 
@@ -177,34 +111,6 @@ fn done_end<V: Verdict>(payload: &[u8], place: usize, op: PartOp) -> Result<usiz
     }
 }
 
-/// The result that is known to be at `place`, of the operation in its own header, and the place after it.
-pub(crate) fn done_in<'a>(payload: &'a [u8], place: usize) -> (PartDoneRef<'a>, usize)
-    requires place { place ≤ length payload.now }
-    requires known { OneStands done_items payload.now place }
-    ensures { (d : PartDone) (end : ℕ) → HaveBytes (done_items d) → StandsAt (done_items d) payload.now place end → result ≡ (d, end) }
-{
-    let (header, after) = known_at::<MultiHeader>(payload, place);
-    match part_of(header.kind) {
-        Some(op) => result_in(payload, after, op),
-        None => {
-            let (number, end) = known_at(payload, after);
-            (PartDoneOf::PartFailed(number), end)
-        }
-    }
-}
-
-/// The list of `count` results that are known to be in `payload` from `place` on.
-pub(crate) fn lying<'a>(payload: &'a [u8], count: usize, place: usize) -> DoneList<'a>
-    requires { Begins done_items payload.now count place }
-    ensures { result ≡ dones_at payload.now count place }
-{
-    DoneList {
-        payload,
-        count,
-        place,
-    }
-}
-
 /// The place after the results at `place` of the parts of `form`, and the end marker.
 pub(crate) fn results_end<F: Asked, V: Verdict>(
     form: &F,
@@ -227,14 +133,4 @@ pub(crate) fn results_end<F: Asked, V: Verdict>(
         return Err(V::at(at, Reason::BadPart));
     }
     Ok(end)
-}
-
-impl<'a> Left for DoneItems<'a> {
-    type One = PartDoneRef<'a>;
-
-    ghost left = { λ dones. dones };
-
-    fn take(&mut self) -> Option<PartDoneRef<'a>> {
-        self.next()
-    }
 }

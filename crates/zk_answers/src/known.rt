@@ -3,20 +3,17 @@ ghost use Rattle.std.specs.Prelude.{◌≡◌, ◌≤◌, ℕ, List, length};
 ghost use Rattle.zk_jute.specs.Item.{HaveBytes};
 ghost use Rattle.zk_jute.specs.Told.{StandsAt};
 ghost use Rattle.zk_records.specs.declared.op.PartOp as codes;
-ghost use Rattle.zk_answers.specs.Held.{Body, PartDone, ServerFrame};
-ghost use Rattle.zk_answers.specs.Results.{multi_items};
+ghost use Rattle.zk_answers.specs.Held.{Body, ServerFrame};
 ghost use Rattle.zk_answers.specs.Rows.{body_items, op_of_body};
 ghost use Rattle.zk_answers.specs.Frames.{IsConnected, IsEvent, IsReplyTo, IsSent};
 ghost use Rattle.zk_answers.specs.Frames as sent;
-ghost use Rattle.zk_jute.specs.Standing.{OneStands};
-ghost use Rattle.zk_answers.specs.Known.{ABodyStands, IsBehindFirst};
+ghost use Rattle.zk_answers.specs.Known.{ABodyStands};
 
 use crate::body_rows;
-use crate::done_list::{DoneList, done_in, lying};
 use crate::frame::{BodyOf, BodyRef, Failure, OutcomeOf, ReplyOf, ServerFrameOf, ServerRef};
-use crate::multi::is_end;
+use zk_asks::known_multi;
 use zk_jute::{known_at, known_flagged, known_list};
-use zk_records::{MultiHeader, Op, ReplyHeader, Stat, borrowed};
+use zk_records::{Op, ReplyHeader, Stat, borrowed};
 
 /// The reply to the connect request that `payload` is known to be, borrowed. Nothing is allocated, and nothing is judged
 /// again.
@@ -41,35 +38,6 @@ pub fn event_ref(payload: &[u8]) -> ServerRef<'_>
     }
 }
 
-/// The place after the result at `place`, where results and the end marker are known to be; `None` at the end marker.
-fn behind_result(payload: &[u8], place: usize) -> Option<usize>
-    requires within { place ≤ length payload.now }
-    requires stands { OneStands multi_items payload.now place }
-    ensures { IsBehindFirst payload.now place result }
-{
-    let (header, _) = known_at::<MultiHeader>(payload, place);
-    if is_end(&header) {
-        return None;
-    }
-    let (_, next) = done_in(payload, place);
-    Some(next)
-}
-
-/// The results of a multi that are known to be at `place`.
-fn results_there<'a>(payload: &'a [u8], place: usize) -> DoneList<'a>
-    requires within { place ≤ length payload.now }
-    requires stands { OneStands multi_items payload.now place }
-    ensures { (ds : List PartDone) (end : ℕ) → HaveBytes (multi_items ds) → StandsAt (multi_items ds) payload.now place end → result ≡ ds }
-{
-    let mut count = 0;
-    let mut at = place;
-    while let Some(next) = behind_result(payload, at) {
-        at = next;
-        count += 1;
-    }
-    lying(payload, count, place)
-}
-
 /// The body that is known to be at `place`, of a reply to `op`.
 fn known_body<'a, const JUDGED: bool>(payload: &'a [u8], place: usize, op: Op) -> BodyRef<'a>
     requires within { place ≤ length payload.now }
@@ -87,7 +55,7 @@ fn known_body<'a, const JUDGED: bool>(payload: &'a [u8], place: usize, op: Op) -
                     BodyOf::$both { $first, stat }
                 })+
                 $(Op::$bare => BodyOf::$bare,)+
-                Op::Multi => BodyOf::Multi(results_there(payload, place)),
+                Op::Multi => BodyOf::Multi(known_multi(payload, place)),
             }
         };
     }

@@ -48,7 +48,7 @@ mod write;
 pub use borrow::{
     borrow_connected, borrow_event, borrow_event_under, borrow_reply, borrow_reply_under,
 };
-pub use done_list::{DoneItems, DoneList};
+pub use done_list::DoneList;
 pub use fit::fits;
 pub use form::{Form, form_of};
 pub use frame::{

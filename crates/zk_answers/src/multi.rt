@@ -1,6 +1,4 @@
 //! `ResultMark`: what comes after a header within a multi's results (`MultiResponse`).
-ghost use Rattle.std.specs.Prelude.{◌≡◌, ◌↔◌, IsTrue};
-ghost use Rattle.zk_asks.specs.Parts.{end_header};
 ghost use Rattle.zk_answers.specs.Results.{ItsPlace};
 
 use zk_records::{MultiHeader, PartOp, part_number};
@@ -25,10 +23,4 @@ pub(crate) fn result_mark_of(header: &MultiHeader, op: PartOp) -> ResultMark
     } else {
         ResultMark::Bad
     }
-}
-
-pub(crate) fn is_end(header: &MultiHeader) -> bool
-    ensures { IsTrue result ↔ (header.now ≡ end_header) }
-{
-    header.done && header.kind == -1 && header.err == -1
 }

@@ -2,14 +2,12 @@
 ghost use Rattle.std.specs.Prelude.{◌≡◌};
 
 use crate::body_rows;
-use crate::done_list::DoneList;
 use crate::frame::{
     Body, BodyOf, BodyRef, Outcome, OutcomeOf, OutcomeRef, PartDone, PartDoneOf, PartDoneRef,
     Reply, ReplyOf, ReplyRef, ServerFrame, ServerFrameOf, ServerRef,
 };
 use std::alloc::{AllocError, Global};
-use zk_jute::Items;
-use zk_records::{Own, own_all};
+use zk_records::Own;
 
 impl<'a> Own for PartDoneRef<'a> {
     type Owned = PartDone;
@@ -27,21 +25,12 @@ impl<'a> Own for PartDoneRef<'a> {
     }
 }
 
-impl<'a> Own for DoneList<'a> {
-    type Owned = Items<PartDone>;
-
-    ghost same = { λ x. x };
-
-    fn own(&self, alloc: Global) -> Result<Items<PartDone>, AllocError> {
-        Ok(Items::new(own_all(self.items(), alloc)?))
-    }
-}
-
 impl<'a> Own for BodyRef<'a> {
     type Owned = Body;
 
     ghost same = { λ x. x };
 
+    #[tactic(auto, using(zk_records::proofs::Owned::all_same))]
     fn own(&self, alloc: Global) -> Result<Body, AllocError> {
         macro_rules! row {
             ($body:ident: $($($one:ident)|+: $only:ident $name:ident $kind:ident),+;

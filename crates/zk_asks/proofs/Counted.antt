@@ -15,7 +15,7 @@ use Rattle.zk_asks.specs.Rows.{body_items, op_of_ask}
 use Rattle.zk_asks.specs.Frames.{parts_of_ask, ops_of_ask, payload}
 
 -- each part has a byte
-parts_long : (ps : List Part) (more : List Item) → length ps ≤ length (bytes_of (flat_map part_items ps ++ more))
+pub parts_long : (ps : List Part) (more : List Item) → length ps ≤ length (bytes_of (flat_map part_items ps ++ more))
 parts_long [] more = omega arith
 parts_long (p ∷ ps) more =
     let mark = marked (part_header (op_of_part p)) in

@@ -6,7 +6,7 @@ use Rattle.std.proofs.lemmas.List.{length-map}
 use Rattle.zk_jute.specs.Item.{Item, bytes_of, HaveBytes}
 use Rattle.zk_jute.specs.Told.{StandsAt}
 use Rattle.zk_jute.specs.Standing.{OneStands}
-use Rattle.zk_jute.specs.Shown.{Stretch, Begins}
+use Rattle.zk_jute.specs.Shown.{Stretch, Begins, values_at}
 use Rattle.zk_jute.proofs.Layouts.{have_parts}
 use Rattle.zk_jute.proofs.Known.{stands_last}
 use Rattle.zk_jute.proofs.Stretches.{stands_split, values_told}
@@ -21,7 +21,7 @@ use Rattle.zk_asks.specs.Forms.{header_items, IsBody}
 use Rattle.zk_asks.specs.Fronts.{outline_of, asking_of, IsMultiOf}
 use Rattle.zk_asks.specs.Parts.{op_of_part, part_items, end_header, marked}
 use Rattle.zk_asks.specs.Rows.{row_of, Content, remake, items_in, op_of_ask, body_items}
-use Rattle.zk_asks.specs.Shown.{part_value, parts_at}
+use Rattle.zk_asks.specs.Shown.{part_value}
 use Rattle.zk_asks.specs.Frames.{IsSent, ops_of_ask, payload}
 use Rattle.zk_asks.proofs.Made.{IsMade, is_made}
 use Rattle.zk_asks.proofs.Asks.{body_is}
@@ -80,12 +80,12 @@ module _ (xid : ℤ) (ds : List Part) (src : List ℕ) (m : IsMultiOf xid ds src
   pub parts_begin : Begins part_items src count 8
   parts_begin = parts_behind
 
-  pub parts_are : parts_at src count 8 ≡ ds
+  pub parts_are : values_at (part_value src) count 8 ≡ ds
   unfolding parts_behind
   parts_are = let p = parts_behind in values_told part_items src (part_value src) (part_read src) 8 p.1 count p.0 p.2
 
   -- and those of any multi that the payload is
-  pub parts_alike : (id : ℤ) (es : List Part) → IsMultiOf id es src → parts_at src count 8 ≡ es
+  pub parts_alike : (id : ℤ) (es : List Part) → IsMultiOf id es src → values_at (part_value src) count 8 ≡ es
   parts_alike id es n =
       let same = ask_injective (frame.Ask xid (ask.Multi ds)) (frame.Ask id (ask.Multi es)) tt tt m.0 n.0 (sym m.1 ∙ n.1) in
       let one : ds ≡ es = cc in
@@ -144,5 +144,5 @@ module _ (src : List ℕ) (o : Outline) where
     pub judged_begins : (f : ClientFrame) → AsksFor (Some o) src f → Begins part_items src o.parts 8
     judged_begins f k = let m = a_multi f k in parts_begin o.xid m.0 src m.2 o.parts m.3
 
-    pub judged_parts : (f : ClientFrame) → AsksFor (Some o) src f → frame.Ask o.xid (ask.Multi (parts_at src o.parts 8)) ≡ f
+    pub judged_parts : (f : ClientFrame) → AsksFor (Some o) src f → frame.Ask o.xid (ask.Multi (values_at (part_value src) o.parts 8)) ≡ f
     judged_parts f k = let m = a_multi f k in ap (λ (z : List Part). frame.Ask o.xid (ask.Multi z)) (parts_are o.xid m.0 src m.2 o.parts m.3) ∙ sym m.1

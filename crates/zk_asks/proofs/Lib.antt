@@ -7,7 +7,7 @@ mod Copied
 pub mod Counted
 pub mod Asks
 pub mod Later
-pub mod Left
+pub mod Ended
 pub mod Knowing
 pub mod Judged
 pub mod Openings

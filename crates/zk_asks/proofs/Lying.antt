@@ -14,10 +14,10 @@ use Rattle.zk_jute.specs.Reading.{Read, ◌>>=◌, read_map, int_at, items_at}
 use Rattle.zk_jute.specs.Told.{StandsAt}
 use Rattle.zk_jute.specs.Wired.{int, ustring, buffer, vector, ◌and◌}
 use Rattle.zk_jute.specs.Standing.{OneStands}
-use Rattle.zk_jute.specs.Shown.{text_value, blob_value, list_value, both_at, text_is_value, Stretch, Begins}
+use Rattle.zk_jute.specs.Shown.{text_value, blob_value, list_value, both_at, text_is_value, Stretch, Begins, AreThere, values_at}
 use Rattle.zk_jute.proofs.Layouts.{items_again, have_both, have_parts}
 use Rattle.zk_jute.proofs.Sequels.{stands_then, none_left}
-use Rattle.zk_jute.proofs.Stretches.{stands_split, values_told, values_counted, one_passed}
+use Rattle.zk_jute.proofs.Stretches.{stands_split, values_counted, one_passed}
 use Rattle.zk_jute.proofs.Valued.{IsValued, int_valued, blob_valued, both_valued, list_valued, value_read, recast}
 use Rattle.zk_records.specs.Records.{multi_header, acl, create_ask, delete_ask, set_data_ask, check_ask}
 use Rattle.zk_records.specs.Shown.{acl_value, acl_is_value}
@@ -35,9 +35,11 @@ use Rattle.zk_asks.specs.Frames.{IsSent, payload}
 use Rattle.zk_asks.specs.declared.frame.PartOf.TheVariants as part
 use Rattle.zk_asks.specs.Parts.{part_row, part_layout, part_header, end_header, marked, op_of_part, record_of, part_items, multi_items}
 use Rattle.zk_records.specs.Made as made
-use Rattle.zk_asks.specs.Shown.{create_value, delete_value, set_data_value, check_value, part_numbered, record_value, part_value, parts_at}
+use Rattle.zk_asks.specs.Shown.{create_value, delete_value, set_data_value, check_value, part_numbered, record_value, part_value}
 use Rattle.zk_asks.proofs.Knowing.{IsThe}
+use Rattle.zk_asks.specs.Multi.{AreHeaded}
 use Rattle.zk_asks.proofs.Parts.{IsMade, part_made, record_is}
+use Rattle.zk_asks.proofs.Parted.{not_end, nine}
 
 -- ---- the records
 
@@ -73,7 +75,7 @@ module _ (src : List ℕ) where
 -- ---- a record that is known to be there
 
 -- which operation's part this kind is the number of, if it is one's
-abbrev pub IsOpOf : ℤ → Option PartOp → Type 0
+abbrev IsOpOf : ℤ → Option PartOp → Type 0
 IsOpOf kind o = MatchOption o ((op : PartOp) → to_z w32 (of_z w32 kind) ≢ part_number op) (λ op. to_z w32 (of_z w32 kind) ≡ part_number op)
 
 module _ (src : List ℕ) (place : ℕ) where
@@ -88,10 +90,6 @@ module _ (src : List ℕ) (place : ℕ) where
       ap (λ (z : (part_row op).Content × ℕ). ((part_row op).make z.0, z.1)) same ∙ ap (λ (q : Part). (q, end)) m.1
 
 -- ---- a part
-
-pub nine : (op : PartOp) → length (bytes_of (marked (part_header op))) ≡ 9
-nine parts.Create = refl
-nine _ = refl
 
 numbered : (op : PartOp) → part_numbered (part_number op) ≡ Some op
 numbered parts.Create = refl
@@ -113,12 +111,12 @@ module _ (p : Part) (src : List ℕ) (place end : ℕ) (le : place ≤ length sr
   pub header_there : StandsAt (marked (part_header op)) src place (place + 9)
   header_there =
       let s = stands_split (marked (part_header op)) (record_of p) src place end le stands in
-      subst (λ (n : ℕ). StandsAt (marked (part_header op)) src place (place + n)) (nine op) s.0
+      subst (λ (n : ℕ). StandsAt (marked (part_header op)) src place (place + n)) (nine (part_header op)) s.0
 
   pub behind_header : StandsAt (record_of p) src (place + 9) end
   behind_header =
       let s = stands_split (marked (part_header op)) (record_of p) src place end le stands in
-      subst (λ (n : ℕ). StandsAt (record_of p) src (place + n) end) (nine op) s.1
+      subst (λ (n : ℕ). StandsAt (record_of p) src (place + n) end) (nine (part_header op)) s.1
 
   record_has : HaveBytes (record_of p)
   record_has = (have_parts (marked (part_header op)) (record_of p) have).1
@@ -144,20 +142,20 @@ module _ (p : Part) (src : List ℕ) (place end : ℕ) (le : place ≤ length sr
         let after : x.1 ≡ place + 9 = ap (λ (z : MultiHeader × ℕ). z.1) header_is in
         let m = part_made p in
         let there : StandsAt (record_of p) src x.1 end = subst (λ (n : ℕ). StandsAt (record_of p) src n end) (sym after) behind_header in
-        (omega (arith, s.2, nine op, after), (m.0, end, subst HaveBytes (sym m.2) record_has, subst (λ (i : List Item). StandsAt i src x.1 end) (sym m.2) there))
+        (omega (arith, s.2, nine (part_header op), after), (m.0, end, subst HaveBytes (sym m.2) record_has, subst (λ (i : List Item). StandsAt i src x.1 end) (sym m.2) there))
 
-    pub part_is : (o : PartOp) → op ≡ o → (y : Part × ℕ)
-        → ((q : Part) (after : ℕ) → op_of_part q ≡ o → HaveBytes (record_of q) → StandsAt (record_of q) src x.1 after → y ≡ (q, after)) → y ≡ (p, end)
-    part_is o same y only =
+    -- what is so of each record that stands behind the header is so of the part's own
+    pub of_its_own : (o : PartOp) → op ≡ o → (P : Part → ℕ → Type 0) → ((q : Part) (after : ℕ) → op_of_part q ≡ o → HaveBytes (record_of q) → StandsAt (record_of q) src x.1 after → P q after) → P p end
+    of_its_own o same P each =
         let after : x.1 ≡ place + 9 = ap (λ (z : MultiHeader × ℕ). z.1) header_is in
-        only p end same record_has (subst (λ (n : ℕ). StandsAt (record_of p) src n end) (sym after) behind_header)
+        each p end same record_has (subst (λ (n : ℕ). StandsAt (record_of p) src n end) (sym after) behind_header)
 
   part_there : part_value src place ≡ Ok (p, end)
   part_there =
       let s = stands_split (marked (part_header op)) (record_of p) src place end le stands in
       let h = have_parts (marked (part_header op)) (record_of p) have in
       let b = behind_header in
-      let within : place + 9 ≤ length src = omega (arith, s.2, nine op) in
+      let within : place + 9 ≤ length src = omega (arith, s.2, nine (part_header op)) in
       let read = items_again (part_layout op) src (record_of p) (drop end src) (place + 9) (record_is p) h.1 within b.0 in
       let there : items_at (part_layout op) src (place + 9) ≡ Ok (record_of p, end) = read ∙ ap (λ (n : ℕ). Ok (record_of p, n)) (sym b.1) in
       ap (λ (r : Read ℤ). r >>= λ kind. record_value (part_numbered kind.0) src (place + 9)) number_there
@@ -167,8 +165,11 @@ module _ (p : Part) (src : List ℕ) (place end : ℕ) (le : place ≤ length sr
 pub part_read : (src : List ℕ) (p : Part) (place end : ℕ) → place ≤ length src → HaveBytes (part_items p) → StandsAt (part_items p) src place end → part_value src place ≡ Ok (p, end)
 part_read src p place end le have stands = part_there p src place end le have stands
 
-pub parts_counted : (src : List ℕ) (count place : ℕ) → Begins part_items src count place → length (parts_at src count place) ≡ count
+pub parts_counted : (src : List ℕ) (count place : ℕ) → Begins part_items src count place → length (values_at (part_value src) count place) ≡ count
 parts_counted src = values_counted part_items src (part_value src) (part_read src)
+
+pub parts_there : (src : List ℕ) (count place : ℕ) → Begins part_items src count place → AreThere part_items (part_value src) src count place
+parts_there src count place all = (all, parts_counted src count place all)
 
 -- ---- parts that were passed
 
@@ -188,14 +189,6 @@ module _ (src : List ℕ) (place at count : ℕ) (so_far : Stretch part_items sr
       let have = have_both (flat_map part_items ps) (marked end_header) so_far.have (subst (λ (h : MultiHeader). HaveBytes (marked h)) is v.1) in
       let stands = stands_then (flat_map part_items ps) (marked end_header) src place at after so_far.stands (subst (λ (h : MultiHeader). StandsAt (marked h) src at after) is s) in
       (ps, sym so_far.count_is, have, stands)
-
-  -- what is told of the list then
-  pub all_passed : place ≤ length src → header ≡ end_header → HaveBytes (multi_items (parts_at src count place)) × StandsAt (multi_items (parts_at src count place)) src place after
-  unfolding all_found
-  all_passed le is =
-      let f = all_found is in
-      let told = values_told part_items src (part_value src) (part_read src) place at count le so_far in
-      (subst (λ (qs : List Part). HaveBytes (multi_items qs)) (sym told) f.2, subst (λ (qs : List Part). StandsAt (multi_items qs) src place after) (sym told) f.3)
 
 -- a header, a body and nothing else
 pub ask_sent : (src : List ℕ) (xid kind : ℤ) (after end : ℕ) (a : Ask) → HaveBytes (header_items xid kind) → StandsAt (header_items xid kind) src 0 after → kind ≡ op_number (op_of_ask a) → IsAllowed xid (op_of_ask a)
@@ -222,3 +215,8 @@ module _ (ps : List Part) (k : ℕ) where
       let none : k + 0 ≡ k = omega arith in
       let first : get_or ps k p ≡ p = sym (get_or-drop k ps 0 p ∙ ap (λ (n : ℕ). get_or ps n p) none) ∙ ap (λ (z : List Part). get_or z 0 p) e in
       sym (slice_get-map op_of_part ps k ∙ ap (option_map op_of_part) (slice_get-get_or ps k p ahead ∙ ap Some first))
+
+-- ---- what is known of each part
+
+pub parts_headed : AreHeaded part_items
+parts_headed p = (part_header (op_of_part p), record_of p, refl, not_end (op_of_part p))

@@ -28,11 +28,11 @@ use Rattle.zk_asks.proofs.Parted.{op_same, not_end, end_bytes, mark_bytes, part_
 
 -- ---- a multi's header
 
-int_is : (i : Item) → kind_of i ≡ Int → (n : ℤ) × (i ≡ AnInt n)
+pub int_is : (i : Item) → kind_of i ≡ Int → (n : ℤ) × (i ≡ AnInt n)
 int_is (AnInt n) e = (n, refl)
 int_is _ e = absurd cc
 
-boolean_is : (i : Item) → kind_of i ≡ Boolean → (b : Bool) × (i ≡ ABoolean b)
+pub boolean_is : (i : Item) → kind_of i ≡ Boolean → (b : Bool) × (i ≡ ABoolean b)
 boolean_is (ABoolean b) e = (b, refl)
 boolean_is _ e = absurd cc
 
@@ -56,10 +56,10 @@ mark_shape items v =
     (h, cc)
 
 -- a header of the same first numbers that stands before no part
-pub loose : MultiHeader → MultiHeader
+loose : MultiHeader → MultiHeader
 loose h = record { kind = h.kind; done = h.done; err = pos 0 }
 
-pub loose_begins : (o : List Item) (i : Item) (m : List Item) (h : MultiHeader) → o ++ (i ∷ m) ≡ marked h → (more : List Item) × (marked (loose h) ≡ o ++ more)
+loose_begins : (o : List Item) (i : Item) (m : List Item) (h : MultiHeader) → o ++ (i ∷ m) ≡ marked h → (more : List Item) × (marked (loose h) ≡ o ++ more)
 unfolding loose
 loose_begins [] i m h e = (marked (loose h), refl)
 loose_begins (x ∷ []) i m h e = let same : AnInt h.kind ≡ x = cc in (ABoolean h.done ∷ AnInt (pos 0) ∷ [], ap (λ (z : Item). z ∷ ABoolean h.done ∷ AnInt (pos 0) ∷ []) same)

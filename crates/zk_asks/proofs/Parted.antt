@@ -1,5 +1,6 @@
 -- Multi: its fault is unique, excludes each form, and its forms tell their bytes apart.
 use Rattle.std.proofs.Common.{◌≡◌, ℕ, zero, suc, ◌+◌, ◌<◌, ◌⊎◌, inl, inr, true, false, Bool, List, [], ◌∷◌, ◌++◌, length, refl, sym, ap, subst, ◌∙◌, append_assoc, arith}
+use Rattle.std.specs.Prelude.{ℤ}
 use Rattle.std.specs.List.{flat_map}
 use Rattle.std.proofs.lemmas.Int.{ints}
 use Rattle.std.proofs.lemmas.List.{append-nil, length-append}
@@ -44,6 +45,13 @@ end_mark = mark_is end_header end_bytes
 
 pub mark_same : (a b : MultiHeader) → marked a ≡ marked b → a ≡ b
 mark_same a b e = multi_header.tells_apart a b e
+
+nine_of : (kind err : ℤ) (done : Bool) → length (bytes_of (marked (record { kind = kind; done = done; err = err }))) ≡ 9
+nine_of kind err false = refl
+nine_of kind err true = refl
+
+pub nine : (h : MultiHeader) → length (bytes_of (marked h)) ≡ 9
+nine h = nine_of h.kind h.err h.done
 
 -- ---- a fault by its header
 

@@ -70,5 +70,9 @@ pub data IsMulti : List Item → Type 0 where
 abbrev pub part_items : Part → List Item
 part_items p = marked (part_header (op_of_part p)) ++ record_of p
 
+-- values, and the end marker after them
+abbrev pub ended : {X : Type 0} → (X → List Item) → List X → List Item
+ended items xs = flat_map items xs ++ marked end_header
+
 abbrev pub multi_items : List Part → List Item
-multi_items ps = flat_map part_items ps ++ marked end_header
+multi_items = ended part_items

@@ -4,7 +4,7 @@ use Rattle.std.specs.Map.{lookup}
 use Rattle.std.specs.Ordering.{int_eq}
 use Rattle.zk_jute.specs.declared.fault.Reason.TheVariants.{BadPart}
 use Rattle.zk_jute.specs.Reading.{Read, fault, ◌>>=◌, read_map, int_at}
-use Rattle.zk_jute.specs.Shown.{text_value, blob_value, list_value, both_at, values_at}
+use Rattle.zk_jute.specs.Shown.{text_value, blob_value, list_value, both_at}
 use Rattle.zk_records.specs.Held.{CreateAsk, DeleteAsk, SetDataAsk, CheckAsk}
 use Rattle.zk_records.specs.Made as made
 use Rattle.zk_records.specs.Shown.{acl_value}
@@ -49,7 +49,3 @@ record_value (Some parts.Check) src place = read_map part.Check (check_value src
 -- the part at a place, after the nine bytes of its header
 abbrev pub part_value : List ℕ → ℕ → Read Part
 part_value src place = int_at src place >>= λ kind. record_value (part_numbered kind.0) src (place + 9)
-
--- `count` of them
-abbrev pub parts_at : List ℕ → ℕ → ℕ → List Part
-parts_at src count place = values_at (part_value src) count place

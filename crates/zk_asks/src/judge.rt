@@ -8,9 +8,9 @@ ghost use Rattle.zk_asks.specs.Fronts.{IsHeadAt, IsOutlined, IsBodyWith, IsMulti
 
 use crate::ask_rows;
 use crate::codes::allowed;
-use crate::part_list::{lying, multi_end};
+use crate::part_list::multi_end;
 use crate::request::MultiRef;
-use zk_jute::{Ends, Payload, Reason, Verdict, read_ref};
+use zk_jute::{Ends, Payload, Reason, Sequence, Verdict, read_ref};
 use zk_records::{
     AuthAskRef, CreateAskRef, DeleteAskRef, Op, PathAskRef, Profile, RequestHeader, SetAclAskRef,
     SetDataAskRef, SetWatchesAskRef, WatchAskRef, op_of,
@@ -96,6 +96,6 @@ pub fn judged_multi(payload: &[u8], count: usize) -> MultiRef<'_>
     ensures { (xid : ℤ) (ds : List Part) → IsMultiOf xid ds payload.now → result.list ≡ ds }
 {
     MultiRef {
-        list: lying(payload, count, HEADER),
+        list: Sequence::known(payload, count, HEADER),
     }
 }

@@ -12,8 +12,8 @@ ghost use Rattle.zk_asks.specs.Fronts.{asking_of};
 use crate::ask_rows;
 use crate::frame::{AskOf, AskRef, ClientFrameOf, ClientRef};
 use crate::judge::{HEADER, Outline};
-use crate::part_list::{lying, parts_in};
-use zk_jute::{known_at, known_flagged};
+use crate::multi::known_multi;
+use zk_jute::{Sequence, known_at, known_flagged};
 use zk_records::{
     AuthAskRef, CreateAskRef, DeleteAskRef, Op, PathAskRef, Profile, RequestHeader, SetAclAskRef,
     SetDataAskRef, SetWatchesAskRef, WatchAskRef, op_of,
@@ -31,7 +31,7 @@ fn body_there<'a, const JUDGED: bool>(payload: &'a [u8], place: usize, op: Op) -
             match $op {
                 $($(Op::$held => AskOf::$held(known_at::<$borrowed>(payload, place).0),)+)+
                 $(Op::$bare => AskOf::$bare,)+
-                Op::Multi => AskOf::Multi(parts_in(payload, place)),
+                Op::Multi => AskOf::Multi(known_multi(payload, place)),
             }
         };
     }
@@ -75,7 +75,7 @@ pub(crate) fn judged_request<'a>(payload: &'a [u8], outline: Outline) -> ClientR
     match outline.op {
         Op::Multi => ClientFrameOf::Ask {
             xid: outline.xid,
-            ask: AskOf::Multi(lying(payload, outline.parts, HEADER)),
+            ask: AskOf::Multi(Sequence::known(payload, outline.parts, HEADER)),
         },
         op => ClientFrameOf::Ask {
             xid: outline.xid,

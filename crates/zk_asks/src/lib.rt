@@ -25,9 +25,8 @@
 //! **Two languages of items for payloads.** A body is the fields of a layout, or a multi's parts, whose headers decide
 //! what follows. What may come next is one definition for both.
 //!
-//! **A borrowed multi is read by its own headers.** `PartList` is a place and a count; each part is chosen by the
-//! number before it. The invariant says that as many parts are there, so its iterator never meets a fault
-//! (`proofs/Stretches.antt` of `zk_jute`). `DoneList` of `zk_answers` is of the same form.
+//! **A borrowed multi is read by its own headers.** `PartList` is a `Sequence` of `zk_jute`; each part is chosen by the
+//! number before it. `known_multi` walks to the end marker, over parts here and over results in `zk_answers`.
 //!
 //! **A reply's reader takes what the request left as a trait** (`Asked`: the operation, the number of parts, each
 //! part), so the queue can answer it without a form. Requests don't implement it: their parts may be too many for 32
@@ -68,7 +67,8 @@ pub use frame::{Ask, AskOf, AskRef, ClientFrame, ClientFrameOf, ClientRef, Part,
 pub use judge::{Outline, judge_ask, judged_multi};
 pub use known::{client_ref, judged_ref};
 pub use laws::{ask_laws, first_laws, form_laws, opening_laws};
-pub use part_list::{PartItems, PartList};
+pub use multi::{is_end, known_multi};
+pub use part_list::PartList;
 pub use read::{read_ask, read_first};
 pub use request::{MultiRef, RequestRef};
 pub use scan::{Scan, scan_ask, scan_first};

@@ -4,11 +4,9 @@ ghost use Rattle.std.specs.Prelude.{◌≡◌};
 use crate::frame::{
     Ask, AskOf, AskRef, ClientFrame, ClientFrameOf, ClientRef, Part, PartOf, PartRef,
 };
-use crate::part_list::PartList;
 use crate::{ask_rows, part_rows};
 use std::alloc::{AllocError, Global};
-use zk_jute::Items;
-use zk_records::{Own, own_all};
+use zk_records::Own;
 
 impl<'a> Own for PartRef<'a> {
     type Owned = Part;
@@ -27,21 +25,12 @@ impl<'a> Own for PartRef<'a> {
     }
 }
 
-impl<'a> Own for PartList<'a> {
-    type Owned = Items<Part>;
-
-    ghost same = { λ x. x };
-
-    fn own(&self, alloc: Global) -> Result<Items<Part>, AllocError> {
-        Ok(Items::new(own_all(self.items(), alloc)?))
-    }
-}
-
 impl<'a> Own for AskRef<'a> {
     type Owned = Ask;
 
     ghost same = { λ x. x };
 
+    #[tactic(auto, using(zk_records::proofs::Owned::all_same))]
     fn own(&self, alloc: Global) -> Result<Ask, AllocError> {
         macro_rules! row {
             ($ask:ident: $($($held:ident)|+: $record:ident $borrowed:ident),+; $($bare:ident)|+) => {

@@ -7,8 +7,9 @@ ghost use Rattle.zk_asks.specs.Frames.{ops_of_ask, others_have_none};
 ghost use Rattle.zk_asks.specs.Rows.{op_of_ask};
 
 use crate::asked::{Asked, Room};
-use crate::frame::{AskOf, AskRef};
-use crate::part_list::{PartItems, PartList};
+use crate::frame::{AskOf, AskRef, PartRef};
+use crate::part_list::PartList;
+use zk_jute::Members;
 use zk_records::{Op, PartOp};
 
 /// The operation of the part `j`, counted from 0; `None` past the last one.
@@ -25,7 +26,7 @@ fn op_at(list: &PartList<'_>, j: u32) -> Option<PartOp>
 }
 
 /// Appends the operations of all parts that are left to `room`.
-fn put_all<'a, R: Room>(parts: PartItems<'a>, room: &mut R)
+fn put_all<R: Room>(parts: Members<'_, PartRef<'_>>, room: &mut R)
     requires { length (R.ops room.old) + length (map op_of_part parts) ≤ R.room room.old }
     ensures put { R.ops room.new ≡ R.ops room.old ++ map op_of_part parts.entry }
     ensures room { R.room room.new ≡ R.room room.old }

@@ -1,6 +1,6 @@
 mod Copied
 mod Cutting
-mod Handles
+pub mod Handles
 mod Keeping
 mod Opening
 mod Parts

@@ -1,8 +1,6 @@
 -- The numbers of parts.
 use Rattle.std.proofs.Common.{◌≡◌, ℕ, ◌+◌, ◌<◌, ℤ, List, [], ◌∷◌, ◌++◌, length, take, map, get_or, refl, sym, ap, ◌∙◌, arith, Some}
-use Rattle.std.specs.List.{slice_get}
 use Rattle.std.proofs.lemmas.List.{map-append, get_or-map, length-map, take_more}
-use Rattle.std.proofs.lemmas.Option.{slice_get_within, get_or_from_slice_get}
 use Rattle.zk_records.specs.Codes.{part_number}
 use Rattle.zk_records.specs.declared.op.PartOp.{PartOp}
 use Rattle.zk_records.specs.declared.op.PartOp.TheVariants.{Create, Delete, SetData, Check}
@@ -41,9 +39,3 @@ as_many numbers parts are = ap length are ∙ length-map parts part_number
 pub no_parts : (parts : List PartOp) → length parts ≡ 0 → parts ≡ []
 no_parts [] e = refl
 no_parts (op ∷ parts) e = absurd (omega arith)
-
--- the parts that were copied so far, and the next one
-pub copied_next : (xs done : List PartOp) (j : ℕ) (x : PartOp) → done ≡ take j xs → slice_get xs j ≡ Some x → done ++ x ∷ [] ≡ take (j + 1) xs
-copied_next xs done j x e got =
-    let within = slice_get_within xs j x got in
-    ap (λ z. z ++ x ∷ []) e ∙ ap (λ z. take j xs ++ z ∷ []) (sym (get_or_from_slice_get xs j x x got)) ∙ sym (take_more xs j x within)

@@ -1,6 +1,6 @@
 -- Lines, one behind the other.
 use Rattle.std.proofs.Common.{◌≡◌, ℕ, ◌+◌, ◌<◌, ◌≤◌, List, [], ◌∷◌, ◌++◌, length, take, get_or, sym, ap, ◌∙◌, subst, append_assoc, Option, Some, None}
-use Rattle.std.specs.Prelude.{MatchOption, unwrap_or}
+use Rattle.std.specs.Prelude.{MatchOption}
 use Rattle.std.proofs.lemmas.List.{append-nil, take_more, take_all}
 use Rattle.std.proofs.lemmas.Grind.{flat_map-append}
 use Rattle.std.specs.List.{flat_map}
@@ -8,6 +8,7 @@ use Rattle.zk_talk.specs.Held.{Message}
 use Rattle.zk_talk.specs.declared.message.Ending.{Ending}
 use Rattle.zk_lines.specs.Endings.{ending_text}
 use Rattle.zk_c.specs.Listing.{message_line, listing}
+use Rattle.zk_c.proofs.Handles.{same_value}
 
 -- the line of one more message
 pub next_line : (messages : List Message) (i : ℕ) (m : Message) (before text : List ℕ) → i < length messages → m ≡ get_or messages i m → before ≡ flat_map message_line (take i messages) → text ≡ before ++ message_line m
@@ -24,10 +25,7 @@ with_ending messages i ending before text last past so_far is ends =
     ends ∙ ap (λ (xs : List ℕ). xs ++ 10 ∷ []) is ∙ append_assoc before (ending_text ending) (10 ∷ [])
     ∙ ap (λ (xs : List ℕ). xs ++ (ending_text ending ++ 10 ∷ [])) (so_far ∙ ap (flat_map message_line) (take_all i messages past))
 
-some_is : {A : Type 0} {x y : A} → Some x ≡ Some y → x ≡ y
-some_is {x = x} e = ap (λ o. unwrap_or o x) e
-
 -- what is told of an option that has this value
 pub told_of : {A : Type 0} (P : Type 0) (Q : A → Type 0) (o : Option A) (x : A) → MatchOption o P Q → o ≡ Some x → Q x
-told_of P Q (Some y) x told e = subst Q (some_is e) told
+told_of P Q (Some y) x told e = subst Q (same_value e) told
 told_of P Q None x told e = absurd (cc)

@@ -1,6 +1,6 @@
 -- A multi request: headers, records and the header behind the last.
 use Rattle.std.proofs.Common.{◌≡◌, ℕ, zero, suc, ◌+◌, ◌-◌, ◌^◌, ◌<◌, ◌≤◌, ◌⊎◌, inl, inr, List, [], ◌∷◌, ◌++◌, length, get_or, take, drop, Some, None, Result, Ok, Err, refl, sym, ap, subst, ◌∙◌, arith}
-use Rattle.std.proofs.lemmas.List.{length-append, length-drop, take-append-drop, take-append-le, drop-drop, take_at, take_all, get_or_append_left}
+use Rattle.std.proofs.lemmas.List.{length-append, length-drop, take-append-drop, take-append-le, drop-drop, take_at, get_or_append_left}
 use Rattle.std.specs.Prelude.{pos}
 use Rattle.zk_jute.specs.Item.{Item, Int, Buffer, Ustring, bytes_of}
 use Rattle.zk_jute.specs.Layout.{End, One, Each, ◌then◌}
@@ -315,7 +315,3 @@ module _ (src : List ℕ) (place k : ℕ) (within : place ≤ length src) (few :
 -- not the header behind the last part alone
 pub more_than_end : (n : ℕ) → IsAmong multi_sizes n → (n ≡ 9 → ⊥) → 26 ≤ n
 more_than_end n a not = elim a [ inl e ↦ absurd (not e) | inr b ↦ omega arith ]
-
--- a whole mark
-pub same_mark : (i : ℕ) (a b : List ℕ) → take 9 a ≡ take 9 b → length b ≡ 9 → take 9 a ≡ b
-same_mark i a b e len = e ∙ take_all 9 b (omega arith)

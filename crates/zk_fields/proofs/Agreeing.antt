@@ -1,17 +1,16 @@
 -- A walk over a message's payload meets all of its fields.
 use Rattle.std.proofs.Common.{◌≡◌, ℤ, ℕ, zero, suc, ◌+◌, ◌-◌, ◌<◌, ◌≤◌, List, [], ◌∷◌, ◌++◌, length, take, drop, refl, sym, ap, subst, ◌∙◌, append_assoc, arith}
-use Rattle.std.specs.Prelude.{Option, Some, None, Bool, true, false, Ok, Err, nat_lt, nat_le, if◌then◌else◌}
+use Rattle.std.specs.Prelude.{Option, Some, None, Bool, true, Ok, Err, nat_lt, nat_le, if◌then◌else◌}
 use Rattle.std.specs.List.{flat_map}
 use Rattle.std.proofs.lemmas.List.{append-nil, length-append, take_all, drop_at}
 use Rattle.std.proofs.lemmas.Bool.Decides.{nat_tests}
-use Rattle.std.proofs.lemmas.Int.{ints}
 use Rattle.zk_jute.specs.Item.{Kind, Int, Long, Boolean, Ustring, Buffer, Count, Item, ABoolean, ACount, HaveBytes, bytes_of, item_bytes, int_bytes, kind_of}
 use Rattle.zk_jute.specs.declared.fault.Reason.TheVariants.{Short}
 use Rattle.zk_jute.specs.Layout.{One, End}
 use Rattle.zk_jute.specs.Reading.{Fault, int_at, size_at, item_at, items_at}
 use Rattle.zk_jute.proofs.Steps.{BytesAt-from}
 use Rattle.zk_jute.proofs.Runs.{int_again, size_again}
-use Rattle.zk_jute.proofs.Primitives.{bool_again}
+use Rattle.zk_jute.proofs.Primitives.{bool_again, bool_len}
 use Rattle.zk_jute.proofs.Layouts.{have_parts, bytes_both, items_again}
 use Rattle.zk_records.specs.declared.header.MultiHeader.{MultiHeader}
 use Rattle.zk_records.specs.Records.{multi_header}
@@ -39,6 +38,7 @@ use Rattle.zk_fields.specs.Walks.{Met, none_met, item_met, met_then, times_met, 
 use Rattle.zk_fields.proofs.Rows.{Formed, part_formed, done_formed, of_ask, of_body}
 use Rattle.zk_fields.proofs.Same.{client_is, server_is, entry_has}
 use Rattle.zk_fields.proofs.Saying.{some_is, longer, split}
+use Rattle.zk_asks.proofs.Parted.{end_bytes}
 
 abbrev size : List Entry → ℕ
 size es = length (bytes_of (items_of es))
@@ -138,10 +138,6 @@ content_end src (Heads f) place past = heads_end src f (length src) place past
 
 -- ---- the parts and the results of a multi
 
-flag_long : (b : Bool) → length (item_bytes (ABoolean b)) ≡ 1
-flag_long true = refl
-flag_long false = refl
-
 header_again : (src more : List ℕ) (h : MultiHeader) (place : ℕ) → HaveBytes (multi_header.items h) → place ≤ length src → drop place src ≡ bytes_of (multi_header.items h) ++ more → header_at src place ≡ Ok (h, place + 9)
 header_again src more h place have le e =
     let flag = item_bytes (ABoolean h.done) in
@@ -152,7 +148,7 @@ header_again src more h place have le e =
     let s = BytesAt-from (int_bytes h.kind) rest src place le split in
     let b = bool_again h.done src (err ++ more) (place + 4) s.1 in
     let t = BytesAt-from flag (err ++ more) src (place + 4) s.0.within s.1 in
-    let one : length flag ≡ 1 = flag_long h.done in
+    let one : length flag ≡ 1 = bool_len h.done in
     let after : drop (place + 4 + 1) src ≡ err ++ more = ap (λ (n : ℕ). drop (place + 4 + n) src) (sym one) ∙ t.1 in
     let d = int_again h.err src more (place + 4 + 1) have.1.1.0 after in
     rw (a, b, d) (ap (λ (n : ℕ). Ok (h, n)) (omega arith))
@@ -185,15 +181,12 @@ no_result : headed_result end_header ≡ None
 unfolding headed_result
 no_result = refl
 
-end_have : HaveBytes (marked end_header)
-end_have = (omega (arith, ints), (tt, (omega (arith, ints), tt)))
-
 module _ {X : Type 0} (src : List ℕ) (f : MultiHeader → Option Headed) (g : X → List Entry) (each : (x : X) → Meets src (head_met f src) (g x)) (none : f end_header ≡ None) where
   heads_meet : (xs : List X) (n place : ℕ) → length xs ≤ n → HaveBytes (items_of (flat_map g xs)) → place ≤ length src → drop place src ≡ bytes_of (items_of (flat_map g xs)) ++ bytes_of (marked end_header)
       → (times_met (head_met f src) n place).entries ≡ flat_map g xs
   heads_meet [] zero place few have le e = refl
   heads_meet [] (suc n) place few have le e =
-      let read = header_again src [] end_header place end_have le (e ∙ sym (append-nil (bytes_of (marked end_header)))) in
+      let read = header_again src [] end_header place end_bytes le (e ∙ sym (append-nil (bytes_of (marked end_header)))) in
       rw (read, none) refl
   heads_meet (x ∷ xs) zero place few have le e = absurd (omega (arith, few))
   heads_meet (x ∷ xs) (suc n) place few have le e =

@@ -8,11 +8,10 @@ use Rattle.zk_jute.specs.Item.{Item, AUstring, ABuffer, ACount, HaveBytes}
 use Rattle.std.specs.Prelude.{Option, Some, None}
 use Rattle.zk_jute.specs.Held.{Text, Blob}
 use Rattle.zk_jute.specs.Values.{text_items, blob_items}
-use Rattle.zk_jute.specs.Shown.{text_of, IsNull, count_of, elements_of}
+use Rattle.zk_jute.specs.Shown.{text_of}
 use Rattle.zk_jute.specs.declared.value.Nullable.TheVariants as nullable
 use Rattle.zk_records.specs.declared.header.MultiHeader.{MultiHeader}
-use Rattle.zk_fields.specs.Named.{Entries, items_both, list_entries}
-use Rattle.zk_jute.specs.Held.{Vector}
+use Rattle.zk_fields.specs.Named.{items_both}
 use Rattle.zk_fields.specs.declared.field.Field.{Field}
 use Rattle.zk_fields.specs.declared.field.At.{At}
 use Rattle.zk_fields.specs.Fields.{Entry, Under, Head, items_of, item_size, size_of, size_all, fields_from, field_of, named, run_field, run_size}
@@ -98,14 +97,6 @@ pub takes_count : (at : At) (room : List Field) (name n : ℕ) (number : ℤ) (n
     → Puts at room (record { place = at.place; length = 4; number = number; name = name; kind = 6; null = 0 }) 4 next new → Takes at room (Under name (ACount (Some n)) ∷ []) next new
 unfolding Takes
 takes_count at room name n number next new is puts fits = takes_one at room (Under name (ACount (Some n))) next new (subst (λ (m : ℤ). Puts at room (record { place = at.place; length = 4; number = m; name = name; kind = 6; null = 0 }) 4 next new) (is fits.2.0) puts) fits
-
-pub list_null : {X : Type 0} (f : Entries X) (name : ℕ) (v : Vector X) (a c : At) (r t : List Field) → IsNull v → Takes a r (Under name (ACount None) ∷ []) c t → Takes a r (list_entries f name v) c t
-list_null f name v a c r t null p = rw null p
-
-pub list_full : {X : Type 0} (f : Entries X) (name : ℕ) (v : Vector X) (a b c : At) (r s t : List Field) → (IsNull v → ⊥) → Takes a r (Under name (ACount (Some (count_of v))) ∷ []) b s → Takes b s (flat_map (f name) (elements_of v)) c t
-    → Takes a r (list_entries f name v) c t
-list_full f name nullable.Null a b c r s t some p q = elim (some refl) [ ]
-list_full f name (nullable.Full xs) a b c r s t some p q = takes_both a b c r s t (Under name (ACount (Some (length xs))) ∷ []) (flat_map (f name) xs) p q
 
 pub takes_headed : (a b c : At) (r s t : List Field) (h : MultiHeader) (es : List Entry) → Takes a r (Head h ∷ []) b s → Takes b s es c t → Takes a r (Head h ∷ es) c t
 takes_headed a b c r s t h es head others = takes_both a b c r s t (Head h ∷ []) es head others

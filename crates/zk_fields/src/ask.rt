@@ -1,6 +1,5 @@
 //! The fields of requests, and of a multi's parts.
 ghost use Rattle.std.specs.Prelude.{◌≡◌, ◌∷◌, []};
-ghost use Rattle.std.specs.List.{flat_map};
 ghost use Rattle.zk_asks.specs.Parts.{part_header};
 ghost use Rattle.zk_fields.specs.Fields.{Head};
 ghost use Rattle.zk_fields.specs.Asks.{record_entries, part_entries, ask_entries};
@@ -8,10 +7,9 @@ ghost use Rattle.zk_fields.specs.Room.{Takes};
 
 use crate::field::{At, Field, put};
 use crate::kind::PART;
-use crate::list::show_all;
 use crate::name::NONE;
 use crate::show::Show;
-use zk_asks::{AskOf, AskRef, PartList, PartOf, PartRef, ask_rows, part_rows};
+use zk_asks::{AskOf, AskRef, PartOf, PartRef, ask_rows, part_rows};
 use zk_records::{MultiHeader, PartOp, part_number};
 
 /// Writes the field of the header that begins a part or a result.
@@ -63,14 +61,6 @@ impl<'a> Show for PartRef<'a> {
     fn show(&self, _name: u16, room: &mut [Field], at: At) -> At {
         let at = show_part(self.op(), room, at);
         show_record(self, room, at)
-    }
-}
-
-impl<'a> Show for PartList<'a> {
-    ghost entries = { λ _ ps. flat_map part_entries ps };
-
-    fn show(&self, name: u16, room: &mut [Field], at: At) -> At {
-        show_all(self.items(), name, room, at)
     }
 }
 

@@ -1,16 +1,14 @@
 //! The fields of replies, and of a multi's results.
 ghost use Rattle.std.specs.Prelude.{◌≡◌};
-ghost use Rattle.std.specs.List.{flat_map};
 ghost use Rattle.zk_answers.specs.Results.{mark_before};
 ghost use Rattle.zk_fields.specs.Room.{Takes};
 ghost use Rattle.zk_fields.specs.Answers.{result_entries, done_entries, body_entries};
 
 use crate::ask::show_head;
 use crate::field::{At, Field};
-use crate::list::show_all;
 use crate::name::{ACL, CHILDREN, DATA, ERR, NONE, PATH};
 use crate::show::Show;
-use zk_answers::{BodyOf, BodyRef, DoneList, PartDoneOf, PartDoneRef, body_rows};
+use zk_answers::{BodyOf, BodyRef, PartDoneOf, PartDoneRef, body_rows};
 use zk_records::{MultiHeader, PartOp, part_number};
 
 /// The header that begins a result.
@@ -67,14 +65,6 @@ impl<'a> Show for PartDoneRef<'a> {
     fn show(&self, _name: u16, room: &mut [Field], at: At) -> At {
         let at = show_head(&mark_before(self), room, at);
         show_result(self, room, at)
-    }
-}
-
-impl<'a> Show for DoneList<'a> {
-    ghost entries = { λ _ ds. flat_map done_entries ds };
-
-    fn show(&self, name: u16, room: &mut [Field], at: At) -> At {
-        show_all(self.items(), name, room, at)
     }
 }
 

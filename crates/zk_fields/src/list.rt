@@ -9,10 +9,10 @@ ghost use Rattle.zk_fields.specs.Room.{Takes};
 use crate::field::{At, Field, put};
 use crate::kind::LIST;
 use crate::show::Show;
-use zk_jute::{Decode, Element, KnownPayload, Left, Series};
+use zk_jute::{KnownIn, Left, Sequence, Series};
 
 /// Writes the fields of each of `items`, one after the other.
-pub(crate) fn show_all<I: Left>(items: I, name: u16, room: &mut [Field], at: At) -> At
+fn show_all<I: Left>(items: I, name: u16, room: &mut [Field], at: At) -> At
 where
     I::One: Show,
     ensures { Takes at room.old (flat_map (I.One.entries name) (I.left items)) result room.new }
@@ -64,14 +64,24 @@ pub(crate) fn show_null(name: u16, room: &mut [Field], at: At) -> At
     put(field, 4, room, at)
 }
 
-impl<'a, R: Element + Decode<KnownPayload<'a>> + Show> Show for Series<'a, R> {
+impl<'a, M: KnownIn<'a> + Show> Show for Sequence<'a, M> {
+    ghost entries = { λ name ms. flat_map (M.entries name) ms };
+
+    fn show(&self, name: u16, room: &mut [Field], at: At) -> At {
+        show_all(self.items(), name, room, at)
+    }
+}
+
+impl<'a, R: KnownIn<'a> + Show> Show for Series<'a, R> {
     ghost entries = { list_entries R.entries };
 
     fn show(&self, name: u16, room: &mut [Field], at: At) -> At {
-        if self.is_null() {
-            return show_null(name, room, at);
+        match self {
+            Series::Null => show_null(name, room, at),
+            Series::Full(elements) => {
+                let at = show_count(name, elements.count(), room, at);
+                elements.show(name, room, at)
+            }
         }
-        let at = show_count(name, self.count(), room, at);
-        show_all(self.items(), name, room, at)
     }
 }

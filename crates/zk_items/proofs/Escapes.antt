@@ -1,6 +1,5 @@
 -- Escapes, made sixteen at a time.
 use Rattle.std.proofs.Common.{◌≡◌, ℕ, zero, suc, ◌+◌, ◌-◌, ◌*◌, ◌/◌, ◌%◌, ◌<◌, ◌≤◌, not, Bool, true, false, cond, eqb, List, [], ◌∷◌, ◌++◌, length, take, drop, get_or, replicate, refl, sym, ap, ap₂, subst, w8, ◌^◌, map, ◌∙◌, arith, append_assoc, Result, Ok, Err, OnOk}
-use Rattle.std.specs.Prelude.{if◌then◌else◌, is_ok}
 use Rattle.std.specs.List.{AllByRecursion, flat_map, prefix_len}
 use Rattle.std.proofs.lemmas.Bool.{agree_below_at, eqb-true}
 use Rattle.std.proofs.lemmas.Grind.{flat_map-append}
@@ -73,10 +72,6 @@ odd_front v more odd = front_escapes v more ∙ odd_spelled v odd
 pub one_spelled : (v : List ℕ) → 0 < length v → flat_map symbol_spell (take 1 v) ≡ symbol_spell (get_or v 0 0)
 one_spelled [] some = absurd (omega arith)
 one_spelled (b ∷ v) some = append-nil (symbol_spell b)
-
-pub then_piece : {A E : Type 0} (r : Result A E) (old new piece is : List ℕ) → piece ≡ is → new ≡ (if is_ok r then old ++ piece else old) → OnOk r (new ≡ old ++ is)
-then_piece (Ok x) old new piece is e f = f ∙ ap (λ (p : List ℕ). old ++ p) e
-then_piece (Err x) old new piece is e f = tt
 
 -- what is spelled of the bytes in front, and what is left of them
 pub goes_on : (old new ahead : List ℕ) (n : ℕ) (all : List ℕ) → new ≡ old ++ flat_map symbol_spell (take n ahead) → old ++ flat_map symbol_spell ahead ≡ all

@@ -52,10 +52,6 @@ front_of_first : {X : Type 0} (front : List X) (x : X) (read : Read (List X)) �
 front_of_first front x None = refl
 front_of_first front x (Some q) = ap (λ (xs : List _). Some (xs, q.1)) (sym (append_assoc front (x ∷ []) q.0))
 
-pub none_in_front : {X : Type 0} (front : List X) (read : Read (List X)) → with_front front read ≡ None → read ≡ None
-none_in_front front None e = refl
-none_in_front front (Some q) e = absurd cc
-
 pub no_front : {X : Type 0} (read : Read (List X)) → with_front [] read ≡ read
 no_front None = refl
 no_front (Some q) = refl

@@ -12,7 +12,7 @@ use Rattle.zk_items.specs.Many.{many_at, then_more, with_first, with_front}
 use Rattle.zk_items.specs.Leaf.{is_plain, hex_digit, hex_value, symbol_spell, text_spell, text_fits, symbol_at, text_at, text, checked, escape_at}
 use Rattle.zk_items.specs.Laws.{Lawful}
 use Rattle.zk_items.proofs.Forms.{bind_some, some_is, if_some, if_not}
-use Rattle.zk_items.proofs.Many.{many_again, many_sound, no_front, none_in_front, step_some, step_end}
+use Rattle.zk_items.proofs.Many.{many_again, many_sound, no_front, step_some}
 
 hex_back : (n : ℕ) → n < 16 → hex_value (hex_digit n) ≡ Some n
 hex_back n small = grind arith
@@ -247,17 +247,3 @@ pub past_run : (front seen d ahead v : List ℕ) (n : ℕ) → AllByRecursion (�
 past_run front seen d ahead v n small s e a =
     ap₂ (λ (l a : List ℕ). with_front l (many_at symbol_at (length a) a)) s a ∙ run_read (take n v) front (drop (3 * n) d) (bytes_front n v small)
     ∙ ap (λ (d : List ℕ). with_front front (many_at symbol_at (length d) d)) (ap (λ (l : List ℕ). l ++ drop (3 * n) d) (sym e) ∙ take-append-drop (3 * n) d)
-
--- at the sign behind a text
-pub inside_end : (front seen d rest : List ℕ) (read : Read (List ℕ)) → symbol_at d ≡ Some (None, rest) → with_front seen (many_at symbol_at (length d) d) ≡ with_front front read → with_front front read ≡ Some (seen, rest)
-unfolding symbol_at
-inside_end front seen [] rest read e same = absurd cc
-inside_end front seen (c ∷ d) rest read e same =
-    sym same ∙ step_end symbol_at seen (suc (length d)) (length d) (c ∷ d) rest refl e ∙ ap (λ (xs : List ℕ). Some (xs, rest)) (append-nil seen)
-
--- where no symbol follows
-pub inside_none : (front seen d : List ℕ) (read : Read (List ℕ)) → symbol_at d ≡ None → with_front seen (many_at symbol_at (length d) d) ≡ with_front front read → read ≡ None
-unfolding symbol_at
-inside_none front seen [] read e same = none_in_front front read (sym same)
-inside_none front seen (c ∷ d) read e same =
-    none_in_front front read (sym same ∙ ap (λ (r : Read (Option ℕ)). with_front seen (r >>= then_more (many_at symbol_at (length d)))) e)

@@ -1,6 +1,6 @@
 -- What is known to stand somewhere, for the parts of it.
-use Rattle.std.proofs.Common.{◌≡◌, ℕ, ◌+◌, ◌-◌, ◌<◌, ◌≤◌, suc, Bool, true, false, cond, eqb, List, [], ◌∷◌, ◌++◌, length, drop, Option, Some, None, Result, Ok, Err, refl, sym, ap, subst, ◌∙◌, arith}
-use Rattle.std.specs.Prelude.{IsOk, IfErr, IsUtf8}
+use Rattle.std.proofs.Common.{◌≡◌, ℕ, ◌+◌, ◌-◌, ◌<◌, ◌≤◌, Bool, true, false, cond, eqb, List, [], ◌∷◌, ◌++◌, length, drop, Option, Some, None, Result, Ok, Err, refl, sym, ap, subst, ◌∙◌, arith}
+use Rattle.std.specs.Prelude.{IsOk, IsUtf8}
 use Rattle.std.specs.Str.Lossy.{utf8_valid_len}
 use Rattle.std.proofs.lemmas.Bool.{eqb-true, ltb-false, lt-ltb}
 use Rattle.std.proofs.Common.{nat_lt}
@@ -9,14 +9,13 @@ use Rattle.zk_jute.specs.declared.fault.Reason.TheVariants.{BadText, Short}
 use Rattle.zk_jute.specs.declared.fault.ItemFault.{ItemFault}
 use Rattle.zk_jute.specs.Item.{Int, Long, Item, AnInt, ALong, ACount, bytes_of, HaveBytes}
 use Rattle.zk_jute.specs.Layout.{Layout, End, One, Each, ◌then◌, IsValueOf}
-use Rattle.zk_jute.specs.Reading.{Fault, Read, fault, Tells, Fails, ◌>>=◌, read_map, end_of, int_at, long_at, text_at, run_at, size_at, checked_text, times_at, elements_at, items_at}
+use Rattle.zk_jute.specs.Reading.{Fault, Read, fault, Tells, ◌>>=◌, read_map, end_of, int_at, long_at, text_at, run_at, size_at, checked_text, times_at, elements_at, items_at}
 use Rattle.zk_jute.specs.Told.{StandsAt}
 use Rattle.zk_jute.specs.Flagged.{flag_items, OneIsFlagged}
 use Rattle.zk_jute.specs.Wired.{Wired, boolean}
 use Rattle.zk_jute.specs.Standing.{Known, OneStands}
 use Rattle.zk_jute.proofs.Primitives.{utf8_if_valid}
 use Rattle.zk_jute.proofs.Fields.{read_then, int_is, long_is, each_is, list_some}
-use Rattle.zk_jute.specs.Shown.{next_value, values_at}
 use Rattle.zk_jute.proofs.Layouts.{items_again, bytes_only, bytes_both, have_parts}
 use Rattle.zk_jute.proofs.Sequels.{none_left}
 use Rattle.zk_jute.proofs.Loops.{IsScanning, next_times}
@@ -129,23 +128,6 @@ pub next_known : (k : Bool) (at : ℕ → Read (List Item)) (count i place : ℕ
 next_known k at count i place total lt so_far h =
     let left = subst (λ (r : Read (List Item)). Known k (IsOk r)) (next_times at count i place lt) (known_alike k (times_at at (count - i) place) total so_far h) in
     known_bind k (at place) (λ x. read_map (λ others. x.0 ++ others) (times_at at (count - (i + 1)) x.1)) left
-
--- the first of those that an iterator has left
-first_is : {X : Type 0} (items : X → List Item) (v : Read X) (given : Read (List Item)) (n : ℕ) (others : ℕ → List X) → given ≡ read_map items v → length (next_value v others) ≡ suc n → IsOk given
-first_is items (Ok y) given n others is l = rw is refl
-first_is items (Err f) given n others is l = absurd cc
-
-pub first_known : {X : Type 0} (items : X → List Item) (at : ℕ → Read X) (left place : ℕ) (given : Read (List Item)) → 0 < left → given ≡ read_map items (at place) → length (values_at at left place) ≡ left → IsOk given
-first_known {X = X} items at left place given some is all =
-    let n : left ≡ suc (left - 1) = omega arith in
-    first_is items (at place) given (left - 1) (values_at at (left - 1)) is (subst (λ (m : ℕ). length (values_at at m place) ≡ m) n all)
-
--- what a call answers that tells each fault
-pub surely_answered : {X : Type 0} (answer : Result X ItemFault) (read : Read (List Item)) → IfErr answer (λ e. Fails e read) → IsOk read → IsOk answer
-unfolding Fails
-surely_answered (Ok x) read h ok = refl
-surely_answered (Err e) (Ok y) h ok = absurd cc
-surely_answered (Err e) (Err f) h ok = absurd cc
 
 -- what stands somewhere is read there
 pub stands_read : {X : Type 0} (k : Bool) (w : Wired X) (src : List ℕ) (place : ℕ) → place ≤ length src → Known k (OneStands w.items src place) → Known k (IsOk (items_at w.layout src place))

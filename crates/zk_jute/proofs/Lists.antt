@@ -1,9 +1,10 @@
 -- A list that lies in a payload shows what stands there.
-use Rattle.std.proofs.Common.{◌≡◌, ◌<◌, ◌≤◌, ◌-◌, ℕ, zero, suc, List, [], ◌∷◌, ◌++◌, length, drop, Option, Some, None, Ok, Err, refl, sym, ap, subst, ◌∙◌, arith}
+use Rattle.std.proofs.Common.{◌≡◌, ◌≤◌, ◌-◌, ℕ, zero, suc, List, [], ◌∷◌, ◌++◌, length, drop, Option, Some, None, Ok, Err, refl, sym, ap, subst, ◌∙◌, arith}
 use Rattle.std.specs.List.{flat_map}
+use Rattle.std.proofs.lemmas.List.{length-append, length-drop}
 use Rattle.zk_jute.specs.declared.fault.ItemFault.{ItemFault}
 use Rattle.zk_jute.specs.declared.value.Nullable.TheVariants as nullable
-use Rattle.zk_jute.specs.Item.{Item, ACount, HaveBytes}
+use Rattle.zk_jute.specs.Item.{Item, ACount, bytes_of, HaveBytes}
 use Rattle.zk_jute.specs.Layout.{Layout, Each, End}
 use Rattle.zk_jute.specs.Reading.{Read, Fails, Refuses, ◌>>=◌, read_map, end_of, size_at, times_at, items_at}
 use Rattle.zk_jute.specs.Held.{Vector}
@@ -11,8 +12,11 @@ use Rattle.zk_jute.specs.Told.{StandsAt}
 use Rattle.zk_jute.specs.Standing.{OneStands}
 use Rattle.zk_jute.specs.Wired.{Wired, vector}
 use Rattle.zk_jute.specs.Values.{list_items, list_unfolds}
-use Rattle.zk_jute.specs.Shown.{AllStand, next_value, values_at, list_at}
-use Rattle.zk_jute.proofs.Layouts.{items_again}
+use Rattle.zk_jute.specs.Shown.{next_value, values_at, list_at, Stretch, AreThere, ListIsThere}
+use Rattle.zk_jute.proofs.Layouts.{items_found, items_again, have_both}
+use Rattle.zk_jute.proofs.Sequels.{stands_then}
+use Rattle.zk_jute.proofs.Steps.{IsBytes}
+use Rattle.zk_jute.proofs.Stretches.{none_passed}
 use Rattle.zk_jute.proofs.Fields.{end_map, list_none, list_some, elements_fail, refuses_fails}
 
 module _ {X : Type 0} (items : X → List Item) (at : ℕ → Read X) (read : ℕ → Read (List Item)) (is : (place : ℕ) → read place ≡ read_map items (at place)) where
@@ -40,18 +44,49 @@ module _ {X : Type 0} (items : X → List Item) (at : ℕ → Read X) (read : �
       subst (λ (r : Read (List Item)). Shows (values_at at (suc n) place) (suc n) (r >>= λ x. read_map (λ others. x.0 ++ others) (times_at read n x.1))) (sym (is place)) (one_shows n (at place) (times_show n)) in
       all e q
 
-module _ {X : Type 0} (l : Layout) (items : X → List Item) (src : List ℕ) (at : ℕ → Read X) (is : (place : ℕ) → items_at l src place ≡ read_map items (at place)) (n start end : ℕ)
-    (ends : end_of (times_at (items_at l src) n start) ≡ Ok end) where
-  pub all_stand : length (values_at at n start) ≡ n
-  all_stand = (times_show items at (items_at l src) is n start end ends).1
+module _ {X : Type 0} (l : Layout) (items : X → List Item) (src : List ℕ) (at : ℕ → Read X) (is : (place : ℕ) → items_at l src place ≡ read_map items (at place)) where
+  abbrev times : ℕ → ℕ → Read (List Item)
+  times = times_at (items_at l src)
 
-  pub list_shows : (place : ℕ) → size_at src place ≡ Ok (Some n, start) → items_at (Each l End) src place ≡ Ok (list_items items (nullable.Full (values_at at n start)), end)
-  list_shows place size =
-      let r = times_show items at (items_at l src) is n start end ends in
-      let xs = values_at at n start in
-      list_some l src place n start size
-      ∙ ap (read_map (λ (inside : List Item). ACount (Some n) ∷ inside)) r.0
-      ∙ ap (λ (m : ℕ). Ok (ACount (Some m) ∷ flat_map items xs, end)) (sym r.1)
+  module _ (n start end : ℕ) (ends : end_of (times n start) ≡ Ok end) where
+    all_counted : length (values_at at n start) ≡ n
+    all_counted = (times_show items at (items_at l src) is n start end ends).1
+
+    pub list_shows : (place : ℕ) → size_at src place ≡ Ok (Some n, start) → items_at (Each l End) src place ≡ Ok (list_items items (nullable.Full (values_at at n start)), end)
+    list_shows place size =
+        let r = times_show items at (items_at l src) is n start end ends in
+        let xs = values_at at n start in
+        list_some l src place n start size
+        ∙ ap (read_map (λ (inside : List Item). ACount (Some n) ∷ inside)) r.0
+        ∙ ap (λ (m : ℕ). Ok (ACount (Some m) ∷ flat_map items xs, end)) (sym r.1)
+
+  -- those that are read are there
+  module _ (fits : IsBytes src) where
+    abbrev Reaches : ℕ → ℕ → ℕ → Type 0
+    Reaches n end place = place ≤ length src → end_of (times n place) ≡ Ok end → Stretch items src place end n
+
+    one_more : (n end place : ℕ) → ((middle : ℕ) → Reaches n end middle) → place ≤ length src → (r : Read X) → items_at l src place ≡ read_map items r
+        → end_of (read_map items r >>= λ x. read_map (λ others. x.0 ++ others) (times n x.1)) ≡ Ok end → Stretch items src place end (suc n)
+    one_more n end place rest le (Ok (x, middle)) read e =
+        let f = items_found l src fits place (items x, middle) le read in
+        let s : StandsAt (items x) src place middle = (f.stands.parts, f.stands.at) in
+        let within : middle ≤ length src = omega (arith, s.1, ap length s.0, length-append (bytes_of (items x)) (drop middle src), length-drop place src) in
+        let others = rest middle within (sym (end_map (λ (more : List Item). items x ++ more) (times n middle)) ∙ e) in
+        record {
+          values = x ∷ others.values;
+          count_is = ap suc others.count_is;
+          have = have_both (items x) (flat_map items others.values) f.have others.have;
+          stands = stands_then (items x) (flat_map items others.values) src place middle end s others.stands;
+        }
+    one_more n end place rest le (Err f) read e = absurd cc
+
+    reached : (n end place : ℕ) → Reaches n end place
+    reached zero end place le e = let same : place ≡ end = cc in subst (λ (m : ℕ). Stretch items src place m 0) same (none_passed items src place le)
+    reached (suc n) end place le e =
+        one_more n end place (reached n end) le (at place) (is place) (subst (λ (r : Read (List Item)). end_of (r >>= λ x. read_map (λ others. x.0 ++ others) (times n x.1)) ≡ Ok end) (is place) e)
+
+    pub all_there : (n start end : ℕ) → start ≤ length src → end_of (times n start) ≡ Ok end → AreThere items at src n start
+    all_there n start end le e = ((le, end, reached n end start le e), all_counted n start end e)
 
 abbrev items_read : Read (List Item) → List Item
 items_read (Ok x) = x.0
@@ -79,9 +114,10 @@ module _ {X : Type 0} (w : Wired X) (src : List ℕ) (at : ℕ → Read X) (is :
         sym (end_map (λ inside. ACount (Some n) ∷ inside) (times_at (items_at w.layout src) n start))
         ∙ ap end_of (sym (list_some w.layout src place n start size) ∙ read_again v end s)
 
-  pub list_stands : (count : Option ℕ) (start : ℕ) → size_at src place ≡ Ok (count, start) → OneStands (list_items w.items) src place → AllStand at count start
-  list_stands None start size s = tt
-  list_stands (Some n) start size s = all_stand w.layout w.items src at is n start s.1 (times_end n start size s.0 s.1 (s.2, s.3))
+  pub list_there : IsBytes src → (count : Option ℕ) (start : ℕ) → start ≤ length src → size_at src place ≡ Ok (count, start) → OneStands (list_items w.items) src place
+      → ListIsThere w.items at src count start
+  list_there fits None start le size s = tt
+  list_there fits (Some n) start le size s = all_there w.layout w.items src at is fits n start s.1 le (times_end n start size s.0 s.1 (s.2, s.3))
 
   pub list_is : (count : Option ℕ) (start : ℕ) → size_at src place ≡ Ok (count, start) → (v : Vector X) (end : ℕ) → HaveBytes (list_items w.items v) → StandsAt (list_items w.items v) src place end → list_at at count start ≡ v
   list_is None start size v end have stands =
@@ -92,14 +128,3 @@ module _ {X : Type 0} (w : Wired X) (src : List ℕ) (at : ℕ → Read X) (is :
 
 pub elements_refuse : (l : Layout) (src : List ℕ) (place n after : ℕ) (e : ItemFault) → size_at src place ≡ Ok (Some n, after) → Fails e (times_at (items_at l src) n after) → Refuses e (items_at (Each l End) src place)
 elements_refuse l src place n after e size h = refuses_fails e (items_at (Each l End) src place) (elements_fail l src place n after e size h)
-
--- none of those that are left stands there
-no_value : {X : Type 0} (items : X → List Item) (v : Read X) (given : Read (List Item)) (e : ItemFault) → given ≡ read_map items v → Fails e given → (others : ℕ → List X) → next_value v others ≡ []
-unfolding Fails
-no_value items (Ok y) given e is h others = absurd cc
-no_value items (Err f) given e is h others = refl
-
-pub values_end : {X : Type 0} (items : X → List Item) (at : ℕ → Read X) (left place : ℕ) (given : Read (List Item)) (e : ItemFault) → 0 < left → given ≡ read_map items (at place) → Fails e given → values_at at left place ≡ []
-values_end {X = X} items at left place given e some is h =
-    let n : left ≡ suc (left - 1) = omega arith in
-    ap (λ (n : ℕ). values_at at n place) n ∙ no_value items (at place) given e is h (values_at at (left - 1))

@@ -1,11 +1,9 @@
--- Values whose layouts differ, one after the other: what reads each that stands reads them all.
-use Rattle.std.proofs.Common.{◌≡◌, ℕ, ◌+◌, ◌-◌, ◌≤◌, ◌<◌, List, [], ◌∷◌, ◌++◌, length, drop, Ok, Err, refl, sym, ap, subst, ◌∙◌, append_assoc, arith}
-use Rattle.std.specs.Prelude.{Result}
+-- Values one after the other, whose layouts may differ: what reads each that stands reads them all.
+use Rattle.std.proofs.Common.{◌≡◌, ℕ, ◌+◌, ◌-◌, ◌≤◌, ◌<◌, List, [], ◌∷◌, ◌++◌, length, drop, suc, Ok, refl, sym, ap, subst, ◌∙◌, append_assoc, arith}
 use Rattle.std.specs.List.{flat_map}
 use Rattle.std.proofs.lemmas.List.{append-nil, length-append, length-drop, drop-drop}
 use Rattle.std.proofs.Math.Seq.{drop-append_seam}
 use Rattle.std.proofs.lemmas.Grind.{flat_map-append}
-use Rattle.zk_jute.specs.declared.fault.ItemFault.{ItemFault}
 use Rattle.zk_jute.specs.Item.{Item, bytes_of, HaveBytes}
 use Rattle.zk_jute.specs.Told.{StandsAt}
 use Rattle.zk_jute.specs.Reading.{Read}
@@ -25,15 +23,6 @@ stands_split a b src place end le s =
     let within : place + n ≤ length src = omega (arith, ap length split, length-append (bytes_of a) (bytes_of b ++ drop end src), length-drop place src) in
     ((split ∙ ap (λ (z : List ℕ). bytes_of a ++ z) (sym behind), refl), (behind, at), within)
 
--- ---- one answer
-
-abbrev read_as : {X : Type 0} → X → ℕ → Result (X × ℕ) ItemFault
-read_as x end = Ok (x, end)
-
-abbrev told : {X : Type 0} → X × ℕ → Result (X × ℕ) ItemFault → X × ℕ
-told other (Ok x) = x
-told other (Err e) = other
-
 module _ {X : Type 0} (items : X → List Item) (src : List ℕ) (value : ℕ → Read X)
     (there : (x : X) (place end : ℕ) → place ≤ length src → HaveBytes (items x) → StandsAt (items x) src place end → value place ≡ Ok (x, end)) where
   pub values_are : (xs : List X) (place end : ℕ) → place ≤ length src → HaveBytes (flat_map items xs) → StandsAt (flat_map items xs) src place end → values_at value (length xs) place ≡ xs
@@ -51,54 +40,33 @@ module _ {X : Type 0} (items : X → List Item) (src : List ℕ) (value : ℕ �
   pub values_counted : (count place : ℕ) → Begins items src count place → length (values_at value count place) ≡ count
   values_counted count place all = ap length (values_told place all.1 count all.0 all.2) ∙ sym all.2.count_is
 
-  -- one, and the others
-  abbrev pub FirstStands : ℕ → ℕ → Type 0
-  FirstStands count place = (x : X) × (middle : ℕ) × HaveBytes (items x) × StandsAt (items x) src place middle × Begins items src (count - 1) middle × (values_at value count place ≡ x ∷ values_at value (count - 1) middle)
+-- ---- the first, and those after it
+
+-- what a reading of the first gives is the first that is shown
+pub first_shown : {X : Type 0} (value : ℕ → Read X) (count place : ℕ) (x : X) (end : ℕ) → 0 < count → value place ≡ Ok (x, end) → values_at value count place ≡ x ∷ values_at value (count - 1) end
+first_shown value count place x end some is =
+    let n : count ≡ suc (count - 1) = omega arith in
+    ap (λ (m : ℕ). values_at value m place) n ∙ ap (λ (r : Read _). next_value r (values_at value (count - 1))) is
+
+module _ {X : Type 0} (items : X → List Item) (src : List ℕ) where
+  abbrev FirstStands : ℕ → ℕ → Type 0
+  FirstStands count place = (x : X) × (middle : ℕ) × HaveBytes (items x) × StandsAt (items x) src place middle × Begins items src (count - 1) middle
 
   first_of : (xs : List X) (count place at : ℕ) → 0 < count → place ≤ length src → count ≡ length xs → HaveBytes (flat_map items xs) → StandsAt (flat_map items xs) src place at → FirstStands count place
   first_of [] count place at some le is have stands = absurd (omega arith)
   first_of (x ∷ xs) count place at some le is have stands =
       let s = stands_split (items x) (flat_map items xs) src place at le stands in
       let h = have_parts (items x) (flat_map items xs) have in
-      let middle = place + length (bytes_of (items x)) in
       let fewer : count - 1 ≡ length xs = omega arith in
-      let all = values_are (x ∷ xs) place at le have stands in
-      let others = values_are xs middle at s.2 h.1 s.1 in (
-        x,
-        middle,
-        h.0,
-        s.0,
-        (s.2, at, record { values = xs; count_is = fewer; have = h.1; stands = s.1 }),
-        ap (λ (n : ℕ). values_at value n place) is ∙ all ∙ ap (λ (zs : List X). x ∷ zs) (sym others ∙ ap (λ (n : ℕ). values_at value n middle) (sym fewer)),
-      )
-
-  first_is : (count place : ℕ) (y x : X) (end middle : ℕ) → read_as y end ≡ read_as x middle → Begins items src (count - 1) middle
-      → values_at value count place ≡ x ∷ values_at value (count - 1) middle → Begins items src (count - 1) end × (values_at value count place ≡ y ∷ values_at value (count - 1) end)
-  first_is count place y x end middle is all are =
-      let one : y ≡ x = ap (λ (r : Result (X × ℕ) ItemFault). (told (x, middle) r).0) is in
-      let two : end ≡ middle = ap (λ (r : Result (X × ℕ) ItemFault). (told (x, middle) r).1) is in
-      let others = values_at value (count - 1) in
-      (subst (Begins items src (count - 1)) (sym two) all, are ∙ ap (λ (z : X). z ∷ others middle) (sym one) ∙ ap (λ (n : ℕ). y ∷ others n) (sym two))
+      (x, place + length (bytes_of (items x)), h.0, s.0, (s.2, at, record { values = xs; count_is = fewer; have = h.1; stands = s.1 }))
 
   module _ (count place : ℕ) (some : 0 < count) (all : Begins items src count place) where
-    -- the first
     pub first_there : FirstStands count place
     first_there = first_of all.2.values count place all.1 some all.0 all.2.count_is all.2.have all.2.stands
 
-    -- what reads each that stands reads the first, and stands before the others
-    pub first_read : (y : X) (end : ℕ) → ((x : X) (e : ℕ) → HaveBytes (items x) → StandsAt (items x) src place e → read_as y end ≡ read_as x e)
-        → Begins items src (count - 1) end × (values_at value count place ≡ y ∷ values_at value (count - 1) end)
-    first_read y end only =
-        let f = first_there in
-        first_is count place y f.0 end f.1 (only f.0 f.1 f.2 f.3) f.4 f.5
-
-    no_read : (fault : ItemFault) (x : X) (end : ℕ) → Err fault ≡ read_as x end → ⊥
-    no_read fault x end is = absurd cc
-
-    pub never_refused : (fault : ItemFault) → ((x : X) (e : ℕ) → HaveBytes (items x) → StandsAt (items x) src place e → Err fault ≡ read_as x e) → ⊥
-    never_refused fault only =
-        let f = first_there in
-        no_read fault f.0 f.1 (only f.0 f.1 f.2 f.3)
+    -- where each that stands here ends, the others begin
+    pub rest_begins : (end : ℕ) → ((x : X) (e : ℕ) → HaveBytes (items x) → StandsAt (items x) src place e → end ≡ e) → Begins items src (count - 1) end
+    rest_begins end only = let f = first_there in subst (Begins items src (count - 1)) (sym (only f.0 f.1 f.2 f.3)) f.4
 
 -- ---- values that were passed
 

@@ -1,14 +1,17 @@
 -- Values that are told by their bytes are those that reading gives.
-use Rattle.std.proofs.Common.{◌≡◌, ℕ, zero, suc, List, [], ◌∷◌, ◌++◌, length, Option, Some, None, Ok, Err, refl, sym, ap, ◌∙◌}
+use Rattle.std.proofs.Common.{◌≡◌, ℕ, zero, suc, List, [], ◌∷◌, ◌++◌, ◌≤◌, length, drop, Option, Some, None, Ok, Err, refl, sym, ap, ◌∙◌}
 use Rattle.std.specs.Prelude.{ℤ}
 use Rattle.std.specs.List.{flat_map}
 use Rattle.zk_jute.specs.declared.value.Nullable.TheVariants as nullable
-use Rattle.zk_jute.specs.Item.{Item, AnInt, ALong, ABuffer, ACount}
+use Rattle.zk_jute.specs.Item.{Item, AnInt, ALong, ABuffer, ACount, HaveBytes}
 use Rattle.zk_jute.specs.Layout.{Each, End}
 use Rattle.zk_jute.specs.Reading.{Read, ◌>>=◌, read_map, int_at, long_at, run_at, size_at, times_at, items_at}
 use Rattle.zk_jute.specs.Values.{list_items, blob_items}
 use Rattle.zk_jute.specs.Wired.{Wired, int, long, buffer, vector, ◌and◌}
 use Rattle.zk_jute.specs.Shown.{text_of, blob_value, both_at, run_of, elements_from, list_value}
+use Rattle.zk_jute.specs.Told.{StandsAt}
+use Rattle.zk_jute.specs.Standing.{OneStands}
+use Rattle.zk_jute.proofs.Layouts.{items_again}
 use Rattle.zk_jute.proofs.Fields.{list_none, list_some, read_then, after_items}
 
 -- the value that is told is that of the items which stand there
@@ -112,6 +115,17 @@ value_read {X = X} w (Ok y) given x after is e =
     let pairs : ◌≡◌ {A = List Item × ℕ} (w.items y.0, y.1) (w.items x, after) = cc in
     ap (λ (z : X). Ok (z, y.1)) (w.tells_apart y.0 x (ap (λ (p : List Item × ℕ). p.0) pairs)) ∙ ap (λ (p : ℕ). Ok (x, p)) (ap (λ (p : List Item × ℕ). p.1) pairs)
 value_read w (Err f) given x after is e = absurd cc
+
+-- a value that stands is told
+pub stands_told : {X : Type 0} (w : Wired X) (src : List ℕ) (v : ℕ → Read X) → IsValued w src v → (x : X) (place end : ℕ) → HaveBytes (w.items x) → place ≤ length src → StandsAt (w.items x) src place end → v place ≡ Ok (x, end)
+stands_told w src v is x place end have le s =
+    let read = items_again w.layout src (w.items x) (drop end src) place (w.unfolds x) have le s.0 in
+    value_read w (v place) (items_at w.layout src place) x end (is place) (read ∙ ap (λ (n : ℕ). Ok (w.items x, n)) (sym s.1))
+
+-- so is what is each that stands there
+pub one_told : {X : Type 0} (w : Wired X) (src : List ℕ) (v : ℕ → Read X) → IsValued w src v → (place : ℕ) → place ≤ length src → OneStands w.items src place → (y : X × ℕ)
+    → ((x : X) (end : ℕ) → HaveBytes (w.items x) → StandsAt (w.items x) src place end → y ≡ (x, end)) → v place ≡ Ok y
+one_told w src v is place le s y only = stands_told w src v is s.0 place s.1 s.2 le s.3 ∙ ap Ok (sym (only s.0 s.1 s.2 s.3))
 
 -- what is told of a record's fields is told of the record
 pub recast : {P X : Type 0} (v : Wired P) (items : X → List Item) (make : P → X) → ((p : P) → v.items p ≡ items (make p)) → (read : Read P) → read_map v.items read ≡ read_map items (read_map make read)

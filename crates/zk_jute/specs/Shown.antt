@@ -47,11 +47,6 @@ abbrev pub list_at : {X : Type 0} → (ℕ → Read X) → Option ℕ → ℕ �
 list_at at None place = nullable.Null
 list_at at (Some n) place = nullable.Full (values_at at n place)
 
--- all n values are there
-abbrev pub AllStand : {X : Type 0} → (ℕ → Read X) → Option ℕ → ℕ → Type 0
-AllStand at None place = Unit {0}
-AllStand at (Some n) place = length (values_at at n place) ≡ n
-
 abbrev pub count_of : {X : Type 0} → Vector X → ℕ
 count_of nullable.Null = 0
 count_of (nullable.Full xs) = length xs
@@ -83,7 +78,7 @@ elements_from at (Some n, after) = read_map nullable.Full (run_of at n after)
 abbrev pub list_value : {X : Type 0} → (List ℕ → ℕ → Read X) → List ℕ → ℕ → Read (Vector X)
 list_value at src place = size_at src place >>= elements_from (at src)
 
--- ---- values whose layouts differ, one after the other
+-- ---- values one after the other; their layouts may differ
 
 -- `count` values, from `place` to `at`
 pub record Stretch {X : Type 0} (items : X → List Item) (src : List ℕ) (place at count : ℕ) : Type 0 where
@@ -95,3 +90,16 @@ pub record Stretch {X : Type 0} (items : X → List Item) (src : List ℕ) (plac
 -- `count` values, from a place on
 abbrev pub Begins : {X : Type 0} → (X → List Item) → List ℕ → ℕ → ℕ → Type 0
 Begins items src count place = (place ≤ length src) × (at : ℕ) × Stretch items src place at count
+
+-- `count` values are there, and as many are told
+abbrev pub AreThere : {X : Type 0} → (X → List Item) → (ℕ → Read X) → List ℕ → ℕ → ℕ → Type 0
+AreThere items at src count place = Begins items src count place × (length (values_at at count place) ≡ count)
+
+-- a list's values are there, if it isn't null
+abbrev pub ListIsThere : {X : Type 0} → (X → List Item) → (ℕ → Read X) → List ℕ → Option ℕ → ℕ → Type 0
+ListIsThere items at src None place = Unit {0}
+ListIsThere items at src (Some n) place = AreThere items at src n place
+
+-- each that stands is the one that is told
+abbrev pub AreTold : {X : Type 0} → (X → List Item) → (ℕ → Read X) → List ℕ → Type 0
+AreTold {X} items at src = (x : X) (place end : ℕ) → place ≤ length src → HaveBytes (items x) → StandsAt (items x) src place end → at place ≡ Ok (x, end)

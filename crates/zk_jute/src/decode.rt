@@ -71,7 +71,7 @@ pub fn read_ref<P: Origin, T: Decode<P>>(src: &P, place: usize) -> Result<(T, us
 
 /// Bytes are numbers below 256; the function does nothing.
 #[inline(always)]
-fn are_bytes(bytes: &[u8])
+pub(crate) fn are_bytes(bytes: &[u8])
     ensures { (i : ℕ) → get_or bytes.now i 0 < 256 }
 {
     let _ = bytes;

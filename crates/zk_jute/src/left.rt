@@ -3,9 +3,7 @@ ghost use Rattle.std.specs.Prelude.{◌≡◌, List};
 ghost use Rattle.std.specs.Iterator.{YieldsFirst};
 ghost use Rattle.std.specs.Slice.Iter.{iter_rest};
 
-use crate::decode::Decode;
-use crate::origin::KnownPayload;
-use crate::series::{Element, Elements};
+use crate::sequence::{KnownIn, Members};
 use std::marker::Model;
 use std::slice::Iter;
 
@@ -22,12 +20,12 @@ pub trait Left: Drop {
         ensures { YieldsFirst left self.old result self.new };
 }
 
-impl<'a, R: Element + Decode<KnownPayload<'a>>> Left for Elements<'a, R> {
-    type One = R;
+impl<'a, M: KnownIn<'a>> Left for Members<'a, M> {
+    type One = M;
 
     ghost left = { λ items. items };
 
-    fn take(&mut self) -> Option<R> {
+    fn take(&mut self) -> Option<M> {
         self.next()
     }
 }

@@ -33,17 +33,18 @@
 //!
 //! **One parser for owned and borrowed values.** `Decode<P>` has one `decode` over a source `P`: a `Payload`, from
 //! which texts, blobs and lists are borrowed, or `Kept`, which has an allocator and copies. The payload's lifetime is
-//! in the trait's type argument, since a trait with a lifetime of its own is refused at a call. Whether parsing may
-//! allocate is the source's property (`Origin::grows`), so a record says nothing of it.
+//! in the trait's type argument. Whether parsing may allocate is the source's property (`Origin::grows`), so a record
+//! says nothing of it.
 //!
 //! **What is known to be in a payload is not judged again.** `PayloadOf<'a, KNOWN>` is judged as `Payload<'a>`; of
 //! `KnownPayload<'a>` it is known what is there. A parser's condition is empty for the first, and for the second that a
 //! value is at the place. So the bytes that are left for an int, a long or a length are not counted, nor the characters
-//! of a text looked at. What a frame shows, iterators over lists, parts and results, and the walk over a multi's parts
-//! read this way, by `known_at`, whose contract has no fault.
+//! of a text looked at. What a frame shows, the iterator over a sequence, and the walk to a multi's end marker read this
+//! way, by `known_at`, whose contract has no fault.
 //!
-//! **A borrowed list is a place and a count.** Its value is computed from the bytes (`Element`). That all elements are
-//! there is its invariant, so `count` is exact.
+//! **A borrowed list is a place and a count.** Its value is computed from the bytes (`Member`). That all its values are
+//! there is its invariant, so `count` is exact. `Sequence` is that list for all: for the elements of a vector that isn't
+//! null (`Series`), and for a multi's parts and its results, whose layouts differ.
 //!
 //! **What is known of a type is one ghost member**, the `wired` of its `Form`: its layout, its items, that these are of
 //! the layout, and that values of equal items are equal. All else is proved once, over layouts.
@@ -67,6 +68,7 @@ mod output;
 mod pair;
 mod payload;
 mod run;
+mod sequence;
 mod series;
 mod shown;
 mod text;
@@ -84,7 +86,8 @@ pub use number::{bool_at, int_at, long_at};
 pub use origin::{Kept, KnownPayload, Origin, Payload, PayloadOf};
 pub use output::Output;
 pub use payload::{known_flagged, read_flagged, scan_flagged};
-pub use series::{Element, Elements, Series, TextList, known_list};
+pub use sequence::{KnownIn, Member, Members, Sequence};
+pub use series::{Element, Series, TextList, known_list};
 pub use value::{
     Blob, BlobRef, Bytes, BytesRef, Chars, CharsRef, Items, List, Nullable, Text, TextRef,
 };

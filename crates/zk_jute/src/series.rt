@@ -1,159 +1,107 @@
-//! `Series`: a list that is borrowed from a payload, and the iterator over its elements.
-ghost use Rattle.std.specs.Prelude.{◌≡◌, ◌≤◌, ◌↔◌, ℕ, List, length, Some, IsTrue, IsOk, IfOk, IfSome};
-ghost use Rattle.zk_jute.specs.Held.{Vector};
+//! `Series`: a list that is borrowed from a payload.
+ghost use Rattle.std.specs.Prelude.{◌≡◌, ◌≤◌, ◌↔◌, ℕ, List, length, refl, Ok, IsTrue, IsOk, IfOk};
+ghost use Rattle.zk_jute.specs.Held.{Text, Vector};
 ghost use Rattle.zk_jute.specs.Item.{HaveBytes};
 ghost use Rattle.zk_jute.specs.Told.{StandsAt};
-ghost use Rattle.std.specs.Iterator.{YieldsFirst, UpTo, item_count};
-ghost use Rattle.std.specs.Iterator.SizeHint.{IsWithinCount};
-ghost use Rattle.zk_jute.specs.Reading.{Read, Scans, items_at, read_map, times_at};
+ghost use Rattle.zk_jute.specs.Reading.{Scans, items_at, read_map, times_at};
 ghost use Rattle.zk_jute.specs.Wired.{vector};
 ghost use Rattle.zk_jute.specs.Standing.{IsPlain, Known, OneStands};
-ghost use Rattle.zk_jute.specs.Values.{list_items};
-ghost use Rattle.zk_jute.specs.Shown.{AllStand, IsNull, count_of, elements_of, list_at, text_value, text_is_value};
+ghost use Rattle.zk_jute.specs.Values.{text_items, list_items};
+ghost use Rattle.zk_jute.specs.Shown.{ListIsThere, IsNull, count_of, elements_of, list_at, text_value, text_is_value};
 
-use crate::decode::{Decode, Form};
+use crate::at::known_at;
+use crate::decode::{Decode, Form, are_bytes};
 use crate::fault::ItemFault;
-use crate::origin::{KnownPayload, Origin, PayloadOf};
+use crate::origin::{Origin, PayloadOf};
 use crate::run::length_at;
-use crate::value::TextRef;
-use std::marker::{Model, PhantomData};
+use crate::sequence::{KnownIn, Member, Members, Sequence};
+use crate::value::{Nullable, TextRef};
 
-/// An element of a borrowed list: its value is read from the bytes.
-pub trait Element: Form {
-    /// The value at a place of a payload.
-    ghost value: { List ℕ → ℕ → Read Self };
+/// An element of a borrowed list: a member of one layout, its `Form`'s.
+pub trait Element: Form + Member {
+    ghost is_value: { (src : List ℕ) (place : ℕ) → items_at Self.wired.layout src place ≡ read_map Self.wired.items (Self.value src place) };
 
-    ghost is_value: { (src : List ℕ) (place : ℕ) → items_at Self.wired.layout src place ≡ read_map Self.wired.items (value src place) };
+    ghost is_wired: { Self.items ≡ Self.wired.items };
+}
+
+impl<'a> Member for TextRef<'a> {
+    type Mark = ();
+
+    ghost items = { text_items };
+
+    ghost value = { text_value };
+
+    ghost mark = { λ _. tt };
+
+    fn pass(payload: &[u8], place: usize) -> ((), usize)
+        requires place { place ≤ length payload.now }
+        requires known { OneStands text_items payload.now place }
+        ensures value { (x : Text) × (text_value payload.now place ≡ Ok (x, result.1)) × (tt ≡ result.0) }
+        ensures only { (x : Text) (end : ℕ) → HaveBytes (text_items x) → StandsAt (text_items x) payload.now place end → result.1 ≡ end }
+    {
+        let (_, end) = known_at::<TextRef<'_>>(payload, place);
+        ((), end)
+    }
+}
+
+impl<'a> KnownIn<'a> for TextRef<'a> {
+    #[inline(always)]
+    fn known_in(payload: &'a [u8], place: usize) -> (Self, usize) {
+        known_at(payload, place)
+    }
 }
 
 impl<'a> Element for TextRef<'a> {
-    ghost value = { text_value };
-
     ghost is_value = { text_is_value };
+
+    ghost is_wired = { refl };
 }
 
 /// A borrowed `vector`: null, or elements.
-#[derive(Drop)]
-pub struct Series<'a, R: Element> {
-    payload: &'a [u8],
-    count: Option<usize>,
-    place: usize,
-    of: PhantomData<R>,
-}
-
-impl<'a, R: Element> Model for Series<'a, R> {
-    ghost use Rattle.zk_jute.specs.Held.{Vector};
-    ghost use Rattle.std.specs.Prelude.{◌≤◌, length};
-    ghost use Rattle.zk_jute.specs.Shown.{list_at, AllStand};
-
-    ghost Value = { Vector R };
-
-    ghost view = { λ l. list_at (R.value l.payload.now) l.count l.place };
-
-    ghost invariant = { λ l. (l.place ≤ length l.payload.now) × AllStand (R.value l.payload.now) l.count l.place };
-}
+pub type Series<'a, R> = Nullable<Sequence<'a, R>>;
 
 /// A borrowed list of texts.
 pub type TextList<'a> = Series<'a, TextRef<'a>>;
 
-impl<'a, R: Element> Series<'a, R> {
+impl<'a, R: Member> Series<'a, R> {
     /// Whether the list is null; an empty list isn't.
     pub fn is_null(&self) -> bool
         ensures { IsTrue result ↔ IsNull self.now }
     {
-        self.count.is_none()
+        matches!(self, Series::Null)
     }
 
     /// The number of elements; 0 for null.
     pub fn count(&self) -> usize
         ensures { result ≡ count_of self.now }
     {
-        self.count.unwrap_or(0)
+        match self {
+            Series::Null => 0,
+            Series::Full(elements) => elements.count(),
+        }
     }
 
     /// The elements, in order; none for null.
-    pub fn items(&self) -> Elements<'a, R>
+    #[inline(always)]
+    pub fn items(&self) -> Members<'a, R>
         ensures { result ≡ elements_of self.now }
     {
-        Elements {
-            payload: self.payload,
-            left: self.count(),
-            place: self.place,
-            of: PhantomData,
+        match self {
+            Series::Null => Sequence::none().items(),
+            Series::Full(elements) => elements.items(),
         }
-    }
-}
-
-/// The iterator over a borrowed list: the elements that are left.
-#[derive(Drop)]
-pub struct Elements<'a, R: Element> {
-    payload: &'a [u8],
-    left: usize,
-    place: usize,
-    of: PhantomData<R>,
-}
-
-impl<'a, R: Element> Model for Elements<'a, R> {
-    ghost use Rattle.std.specs.Prelude.{List, ◌≤◌, ◌≡◌, length};
-    ghost use Rattle.zk_jute.specs.Shown.{values_at};
-
-    ghost Value = { List R };
-
-    ghost view = { λ l. values_at (R.value l.payload.now) l.left l.place };
-
-    ghost invariant = { λ l. (l.place ≤ length l.payload.now) × (length (values_at (R.value l.payload.now) l.left l.place) ≡ l.left) };
-}
-
-impl<'a, R: Element + Decode<KnownPayload<'a>>> Iterator for Elements<'a, R> {
-    type Item = R;
-
-    ghost next_gives = { YieldsFirst (λ s. s) };
-
-    ghost remaining = { item_count (λ s. s) };
-
-    fn next(&mut self) -> Option<R> {
-        if self.left == 0 {
-            return None;
-        }
-        // All elements that are left are known to be there.
-        let src = KnownPayload {
-            bytes: self.payload,
-        };
-        let (item, place) = R::decode(&src, self.place).unwrap();
-        self.place = place;
-        self.left -= 1;
-        Some(item)
-    }
-
-    fn size_hint(&self) -> (usize, Option<usize>)
-        ensures lower { IsWithinCount result.0 (item_count (λ s. s) self.now) }
-        ensures upper { IfSome result.1 (UpTo (item_count (λ s. s) self.now)) }
-        ensures exact { (result.0 ≡ length self.now) × (result.1 ≡ Some (length self.now)) }
-    {
-        let left = self.len();
-        (left, Some(left))
-    }
-}
-
-impl<'a, R: Element + Decode<KnownPayload<'a>>> ExactSizeIterator for Elements<'a, R> {
-    fn len(&self) -> usize {
-        let Elements { left, .. } = self;
-        *left
     }
 }
 
 /// The list of `count` elements that are known to be in `payload` from `place` on; null for `None`.
 #[inline(always)]
 fn lying<'a, R: Element>(payload: &'a [u8], count: Option<usize>, place: usize) -> Series<'a, R>
-    requires place { place ≤ length payload.now }
-    requires stand { AllStand (R.value payload.now) count place }
+    requires { ListIsThere R.items (R.value payload.now) payload.now count place }
     ensures { result ≡ list_at (R.value payload.now) count place }
 {
-    Series {
-        payload,
-        count,
-        place,
-        of: PhantomData,
+    match count {
+        None => Series::Null,
+        Some(count) => Series::Full(Sequence::known(payload, count, place)),
     }
 }
 
@@ -197,6 +145,8 @@ impl<'a, const KNOWN: bool, R: Element + Decode<PayloadOf<'a, KNOWN>>> Decode<Pa
     #[tactic(auto, using(crate::proofs::Fields::list_none, crate::proofs::Fields::list_fails, crate::proofs::Fields::list_refused, crate::proofs::Fields::elements_fail, crate::proofs::Lists::elements_refuse))]
     #[inline(always)]
     fn decode(src: &PayloadOf<'a, KNOWN>, place: usize) -> Result<(Self, usize), ItemFault> {
+        // Where bytes are below 256, the elements that are read are there.
+        are_bytes(src.bytes);
         let (count, start) = length_at::<KNOWN>(src.bytes, place)?;
         match count {
             None => Ok((lying(src.bytes, None, start), start)),

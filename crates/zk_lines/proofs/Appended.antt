@@ -4,23 +4,20 @@ use Rattle.std.specs.Prelude.{IfSome, ◌^◌, true, ℤ, pos, negsuc}
 use Rattle.std.proofs.Common.{ltb-true, w32, to_z, of_z, to_z-of_z}
 use Rattle.std.specs.List.{prefix_len}
 use Rattle.std.proofs.lemmas.List.{append-nil}
-use Rattle.zk_jute.specs.Item.{Item, AnInt, ALong, bytes_of, HasBytes, HaveBytes}
+use Rattle.zk_jute.specs.Item.{Item, AnInt, bytes_of, HasBytes, HaveBytes}
 use Rattle.zk_records.specs.Records as records
 use Rattle.zk_records.specs.Codes.{op_number, part_number}
 use Rattle.zk_records.specs.declared.op.Op.{Op}
 use Rattle.zk_records.specs.declared.op.Op.TheVariants as ops
 use Rattle.zk_records.specs.declared.op.PartOp.{PartOp}
 use Rattle.zk_records.specs.declared.op.PartOp.TheVariants as parts
-use Rattle.zk_records.specs.declared.stat.Stat.{Stat}
 use Rattle.zk_jute.proofs.Layouts.{have_both, bytes_both}
 use Rattle.zk_items.specs.Form.{Read, ◌>>=◌, word_at}
 use Rattle.zk_items.specs.Leaf.{in_name, in_range}
 use Rattle.zk_items.specs.Copied.{Copied}
 use Rattle.zk_lines.specs.Named.{named_at}
-use Rattle.zk_lines.specs.Records.{stat}
 use Rattle.zk_lines.specs.Words.{field_at, word_of}
 use Rattle.zk_lines.specs.declared.word.Word.{Word}
-use Rattle.zk_lines.proofs.Records.{stat_is}
 
 -- a value that was read, and its bytes, which were appended
 abbrev pub value_copied : {X : Type 0} {at : List ℕ → Read X} {items : X → List Item} {line rest old new : List ℕ} (value : X) → at line ≡ Some (value, rest) → HaveBytes (items value) → new ≡ old ++ bytes_of (items value)
@@ -78,16 +75,6 @@ headed {v} {old} head have first c = record {
   appended = c.appended ∙ ap (λ (l : List ℕ). l ++ bytes_of (v c.value)) first ∙ append_assoc old (bytes_of head) (bytes_of (v c.value)) ∙ ap (λ (l : List ℕ). old ++ l) (sym (bytes_both head (v c.value)));
 }
 
--- and behind it
-abbrev pub tailed : {X : Type 0} {at : List ℕ → Read X} {v : X → List Item} {line rest old mid new : List ℕ} (last : List Item) → HaveBytes last → new ≡ mid ++ bytes_of last → Copied at v line rest old mid
-    → Copied at (λ x. v x ++ last) line rest old new
-tailed {v} {old} last have second c = record {
-  value = c.value;
-  read = c.read;
-  have = have_both (v c.value) last c.have have;
-  appended = second ∙ ap (λ (l : List ℕ). l ++ bytes_of last) c.appended ∙ append_assoc old (bytes_of (v c.value)) (bytes_of last) ∙ ap (λ (l : List ℕ). old ++ l) (sym (bytes_both (v c.value) last));
-}
-
 -- a name in front
 abbrev pub named_copied : {K X : Type 0} {items : X → List Item} {line name mid rest old new : List ℕ} (key_at : List ℕ → Option K) (body_at : K → List ℕ → Read X) (k : K)
     → name ≡ take (prefix_len in_name line) line → mid ≡ drop (prefix_len in_name line) line → key_at name ≡ Some k → Copied (body_at k) items mid rest old new → Copied (named_at key_at body_at) items line rest old new
@@ -104,10 +91,6 @@ pub int_have : (n : ℤ) → in_range 31 n ≡ true → HasBytes (AnInt n)
 int_have (pos n) fit = record { sfits = ltb-true n (2 ^ 31) fit }
 int_have (negsuc n) fit = record { sfits = ltb-true n (2 ^ 31) fit }
 
-pub long_have : (n : ℤ) → in_range 63 n ≡ true → HasBytes (ALong n)
-long_have (pos n) fit = record { sfits = ltb-true n (2 ^ 63) fit }
-long_have (negsuc n) fit = record { sfits = ltb-true n (2 ^ 63) fit }
-
 -- an int as a call passes it
 pub as_int : (A : ℤ → Type 0) (n : ℤ) → in_range 31 n ≡ true → A (to_z w32 (of_z w32 n)) → A n
 as_int A (pos n) fit h = subst A (to_z-of_z (int_have (pos n) fit)) h
@@ -120,15 +103,6 @@ op_kind _ = refl
 pub part_kind : (op : PartOp) → to_z w32 (of_z w32 (part_number op)) ≡ part_number op
 part_kind parts.Create = refl
 part_kind _ = refl
-
--- those of a Stat
-pub stat_have : (line rest : List ℕ) (s : Stat) → stat.at line ≡ Some (s, rest) → HaveBytes (records.stat.items s)
-stat_have line rest s e =
-    let f = (stat_is.sound line s rest e).1 in
-    let t = f.0 in
-    let v = f.1.0 in
-    let z = f.1.1 in
-    (long_have s.czxid t.0, (long_have s.mzxid t.1.0, (long_have s.ctime t.1.1.0, (long_have s.mtime t.1.1.1, (int_have s.version v.0, (int_have s.cversion v.1.0, (int_have s.aversion v.1.1, (long_have s.ephemeral_owner z.0, (int_have s.data_length z.1.0, (int_have s.num_children z.1.1.0, (long_have s.pzxid z.1.1.1, tt)))))))))))
 
 -- ---- options
 

@@ -1,5 +1,5 @@
 -- Printed bytes: ASCII characters from the blank to `~`. Numbers, texts, blobs, words and names are spelled by such.
-use Rattle.std.proofs.Common.{◌≡◌, ℕ, zero, suc, ◌/◌, ◌%◌, ◌<◌, ◌≤◌, List, [], ◌∷◌, ◌++◌, Some, Bool, true, false, ◌==◌, ◌&&◌, refl, ap, sym, ◌∙◌, cond, arith, le-leb, leb-true}
+use Rattle.std.proofs.Common.{◌≡◌, ℕ, zero, suc, ◌/◌, ◌%◌, ◌<◌, ◌≤◌, List, [], ◌∷◌, ◌++◌, Some, Bool, true, false, ◌==◌, ◌&&◌, refl, ap, sym, ◌∙◌, cond, arith, leb-true}
 use Rattle.std.specs.Prelude.{ℤ, pos, negsuc, ◌≢◌, nat_le, slice_index}
 use Rattle.std.specs.List.{flat_map, AllByRecursion}
 use Rattle.std.specs.Map.{lookup}
@@ -36,9 +36,6 @@ checked (b ∷ bytes) e = let p = and_parts (is_printed b) (are_printed bytes) e
 pub joined : (xs ys : List ℕ) → Printed xs → Printed ys → Printed (xs ++ ys)
 joined [] ys h k = k
 joined (x ∷ xs) ys h k = (h.0, joined xs ys h.1 k)
-
-within : (b : ℕ) → 32 ≤ b → b ≤ 126 → is_printed b ≡ true
-within b low high = ap (λ (t : Bool). t && nat_le b 126) (le-leb 32 b low) ∙ le-leb b 126 high
 
 -- ---- numbers
 

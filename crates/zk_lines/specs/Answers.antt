@@ -22,7 +22,7 @@ use Rattle.zk_lines.specs.declared.word.Word.{Word}
 use Rattle.zk_lines.specs.declared.word.Word.TheVariants as words
 use Rattle.zk_lines.specs.declared.done.DoneName.{DoneName}
 use Rattle.zk_lines.specs.declared.done.DoneName.TheVariants as names
-use Rattle.zk_lines.specs.Series.{list_of, series, if_passed}
+use Rattle.zk_lines.specs.Series.{list_of, multi_of, if_passed}
 use Rattle.zk_lines.specs.Records.{acl, stat}
 use Rattle.zk_lines.specs.Named.{Bodies, first_named, named}
 use Rattle.zk_lines.specs.Rows.{Row, holds, nothing, bare, Content, remake, row_at, Written, written, bodies_of}
@@ -116,7 +116,7 @@ abbrev pub done_form : Form PartDone
 done_form = named (bodies_of done_name done_named name_of_done done_line_of done_written)
 
 abbrev pub multi : Form (List PartDone)
-multi = field words.Parts (series 59 125 done_form)
+multi = multi_of done_form
 
 -- ---- replies
 

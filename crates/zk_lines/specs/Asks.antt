@@ -25,7 +25,7 @@ use Rattle.zk_items.specs.Form.{Form, fields, ◌and◌}
 use Rattle.zk_items.specs.Leaf.{int, long, bit, ro, text, blob}
 use Rattle.zk_lines.specs.Words.{field}
 use Rattle.zk_lines.specs.declared.word.Word.TheVariants as words
-use Rattle.zk_lines.specs.Series.{list_of, series}
+use Rattle.zk_lines.specs.Series.{list_of, multi_of}
 use Rattle.zk_lines.specs.Records.{acl}
 use Rattle.zk_lines.specs.Named.{first_named, named}
 use Rattle.zk_lines.specs.Rows.{Row, holds, nothing, Content, remake, Written, written, bodies_of}
@@ -143,7 +143,7 @@ part_form = named (bodies_of part_name part_named op_of_part part_line_of part_w
 
 -- joined by semicolons, between braces
 abbrev pub multi : Form (List Part)
-multi = field words.Parts (series 59 125 part_form)
+multi = multi_of part_form
 
 -- ---- requests
 

@@ -5,7 +5,7 @@ use Rattle.zk_jute.specs.Held.{Vector}
 use Rattle.zk_jute.specs.declared.value.Nullable.TheVariants as nullable
 use Rattle.zk_items.specs.Many.{many_at, with_first}
 use Rattle.zk_items.specs.Form.{Form, Read, ◌>>=◌, read_map, word_at}
-use Rattle.zk_lines.specs.Words.{field_at}
+use Rattle.zk_lines.specs.Words.{field, field_at}
 use Rattle.zk_lines.specs.declared.word.Word.TheVariants as words
 
 -- the items joined by a sign, and the sign after them
@@ -38,6 +38,9 @@ series sep close f = record {
 -- the parts or the results of a multi: after their word, between semicolons, up to a brace
 abbrev pub multi_at : {X : Type 0} → (List ℕ → Read X) → List ℕ → Read (List X)
 multi_at at = field_at words.Parts (series_at 59 125 at)
+
+abbrev pub multi_of : {X : Type 0} → Form X → Form (List X)
+multi_of f = field words.Parts (series 59 125 f)
 
 -- ---- list of X: null, or items joined by commas between brackets
 

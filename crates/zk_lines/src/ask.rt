@@ -10,24 +10,17 @@ ghost use Rattle.zk_lines.specs.Lines as lines;
 ghost use Rattle.zk_lines.specs.Rows.{only_written, row_at};
 
 use crate::item::{Item, read_field, read_fields};
-use crate::list::{Signs, put_series, read_series};
 use crate::name::{op_named, part_named};
 use crate::put::{Put, put_field, put_fields};
-use crate::word::{Word, field_word, put_word, read_word};
+use crate::word::{Word, field_word};
 use std::alloc::AllocError;
 use zk_asks::{
-    Ask, AskOf, AskRef, ClientFrame, ClientFrameOf, ClientRef, Part, PartList, PartOf, PartRef,
-    ask_rows, part_rows,
+    Ask, AskOf, AskRef, ClientFrame, ClientFrameOf, ClientRef, Part, PartOf, PartRef, ask_rows,
+    part_rows,
 };
 use zk_items::{LineFault, LineReason, Reader, put_int};
 use zk_jute::Items;
 use zk_records::{ConnectRequestOf, Op, PartOp, fields_of, op_name, part_name};
-
-/// The signs between the parts of a multi and after the last.
-pub const PARTS: Signs = Signs {
-    between: b';',
-    behind: b'}',
-};
 
 /// `part_rows!(put_part, out, part)` appends a part's name and its record.
 macro_rules! put_part {
@@ -79,31 +72,6 @@ impl Item for Part {
     }
 }
 
-impl Put for Items<Part> {
-    ghost form = { asks.multi };
-
-    fn put(&self, out: &mut Vec<u8>) -> Result<(), AllocError> {
-        put_word(out, Word::Parts)?;
-        put_series(out, self.as_slice().iter(), PARTS)
-    }
-}
-
-impl Item for Items<Part> {
-    fn read(line: &mut Reader<'_>) -> Result<Self, LineFault> {
-        read_word(line, Word::Parts)?;
-        read_series(line, PARTS)
-    }
-}
-
-impl<'a> Put for PartList<'a> {
-    ghost form = { asks.multi };
-
-    fn put(&self, out: &mut Vec<u8>) -> Result<(), AllocError> {
-        put_word(out, Word::Parts)?;
-        put_series(out, self.items(), PARTS)
-    }
-}
-
 /// `ask_rows!(put_ask, out, ask)` appends what follows a request's name.
 macro_rules! put_ask {
     ($out:ident, $ask:ident: $($($held:ident)|+: $record:ident $borrowed:ident),+; $($bare:ident)|+) => {
@@ -124,7 +92,7 @@ fn read_body(line: &mut Reader<'_>, op: Op) -> Result<Ask, LineFault>
             Ok(match $op {
                 $($(Op::$held => Ask::$held(Item::read(line)?),)+)+
                 $(Op::$bare => Ask::$bare,)+
-                Op::Multi => Ask::Multi(Item::read(line)?),
+                Op::Multi => Ask::Multi(Items::read(line)?),
             })
         };
     }

@@ -11,13 +11,13 @@ ghost use Rattle.zk_lines.specs.Answers as answers;
 ghost use Rattle.zk_lines.specs.Rows.{only_written, row_at};
 
 use crate::copies::{Copies, copy_field, copy_multi};
-use crate::done::read_multi;
 use crate::item::{Item, read_field};
 use crate::put::{Put, put_field};
 use crate::word::{Word, field_word};
 use std::alloc::AllocError;
 use zk_answers::{Body, BodyOf, BodyRef, PartDone, body_rows};
 use zk_items::{LineFault, Reader};
+use zk_jute::Items;
 use zk_records::{Op, Stat, owned};
 
 /// Reads the field after `word`, and the `Stat` after it.
@@ -58,7 +58,7 @@ pub fn read_body(line: &mut Reader<'_>, op: Op) -> Result<Body, LineFault>
                     Body::$both { $first, stat }
                 })+
                 $(Op::$bare => Body::$bare,)+
-                Op::Multi => Body::Multi(read_multi(line)?),
+                Op::Multi => Body::Multi(Items::read(line)?),
             })
         };
     }

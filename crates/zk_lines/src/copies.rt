@@ -9,9 +9,8 @@ ghost use Rattle.zk_lines.specs.Copied.{Appended};
 ghost use Rattle.zk_lines.specs.Series.{multi_at};
 ghost use Rattle.zk_lines.specs.Words.{field_at};
 
-use crate::ask::PARTS;
 use crate::item::Item;
-use crate::list::copy_series;
+use crate::list::{PARTS, copy_series};
 use crate::word::{Word, read_word};
 use zk_items::Reader;
 use zk_jute::{Blob, Spell, Text};

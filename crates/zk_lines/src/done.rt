@@ -10,17 +10,15 @@ ghost use Rattle.zk_lines.specs.declared.done.DoneName.TheVariants.{Fail};
 ghost use Rattle.zk_lines.specs.Answers as answers;
 ghost use Rattle.zk_lines.specs.Rows.{row_at};
 
-use crate::ask::PARTS;
 use crate::copies::{Copies, append, append_header, copy_field};
 use crate::item::{Item, read_field};
-use crate::list::{put_series, read_series};
 use crate::name::done_named;
 use crate::put::{Put, put_field};
 use crate::word::{Word, put_word, read_word};
 use std::alloc::AllocError;
-use zk_answers::{DoneList, PartDone, PartDoneOf, PartDoneRef};
+use zk_answers::{PartDone, PartDoneOf, PartDoneRef};
 use zk_items::{LineFault, LineReason, Reader, put_error_code, read_error_code};
-use zk_jute::{Items, Text};
+use zk_jute::Text;
 use zk_records::{PartOp, Stat, part_number};
 
 /// The name that a result of a multi begins with.
@@ -191,31 +189,5 @@ impl Copies for PartDone {
     fn copy(line: &mut Reader<'_>, out: &mut Vec<u8>) -> Option<()> {
         let name = done_named(line.name())?;
         copy_done(line, name, out)
-    }
-}
-
-/// Reads the results of a multi.
-pub fn read_multi(line: &mut Reader<'_>) -> Result<Items<PartDone>, LineFault>
-    ensures { Gives result line.new (answers.multi.at line.old) }
-{
-    read_word(line, Word::Parts)?;
-    read_series(line, PARTS)
-}
-
-impl Put for Items<PartDone> {
-    ghost form = { answers.multi };
-
-    fn put(&self, out: &mut Vec<u8>) -> Result<(), AllocError> {
-        put_word(out, Word::Parts)?;
-        put_series(out, self.as_slice().iter(), PARTS)
-    }
-}
-
-impl<'a> Put for DoneList<'a> {
-    ghost form = { answers.multi };
-
-    fn put(&self, out: &mut Vec<u8>) -> Result<(), AllocError> {
-        put_word(out, Word::Parts)?;
-        put_series(out, self.items(), PARTS)
     }
 }

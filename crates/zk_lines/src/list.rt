@@ -5,15 +5,16 @@ ghost use Rattle.zk_jute.specs.Values.{list_items};
 ghost use Rattle.zk_items.specs.Copied.{Copied};
 ghost use Rattle.zk_items.specs.Form.{Gives, GivesSeen, Keeps};
 ghost use Rattle.zk_lines.specs.Copied.{CopiedOthers, CopiedSeries};
-ghost use Rattle.zk_lines.specs.Series.{element_at, series_at, full_at, list_of, series_spell};
+ghost use Rattle.zk_lines.specs.Series.{element_at, series_at, full_at, list_of, multi_of, series_spell};
 ghost use Rattle.zk_items.specs.Many.{many_at, with_first};
 
 use crate::copies::{Copies, append};
 use crate::item::Item;
 use crate::put::Put;
+use crate::word::{Word, put_word, read_word};
 use std::alloc::{AllocError, Global};
 use zk_items::{LineFault, LineReason, Reader, set_count};
-use zk_jute::{Decode, Element, Items, KnownPayload, Left, Lent, List, Series};
+use zk_jute::{Items, KnownIn, Left, Lent, List, Sequence, Series};
 
 /// The sign between the items, and the sign after the last.
 #[derive(Clone, Copy, Debug, PartialEq, Eq)]
@@ -23,6 +24,18 @@ pub struct Signs {
     /// The sign after the last item.
     pub behind: u8,
 }
+
+/// The signs between the items of a list and after the last.
+const COMMAS: Signs = Signs {
+    between: b',',
+    behind: b']',
+};
+
+/// The signs between the parts or the results of a multi and after the last.
+pub const PARTS: Signs = Signs {
+    between: b';',
+    behind: b'}',
+};
 
 #[tactic(auto, unfolding(crate::specs::Series::element_at))]
 fn element<T: Item>(line: &mut Reader<'_>, signs: Signs) -> Result<Option<T>, LineFault>
@@ -164,11 +177,6 @@ where
     }
 }
 
-const COMMAS: Signs = Signs {
-    between: b',',
-    behind: b']',
-};
-
 impl<T: Put> Put for List<T> {
     ghost form = { list_of T.form };
 
@@ -207,15 +215,45 @@ impl<T: Copies> Copies for List<T> {
     }
 }
 
-impl<'a, R: Element + Decode<KnownPayload<'a>> + Put> Put for Series<'a, R> {
+impl<'a, R: KnownIn<'a> + Put> Put for Series<'a, R> {
     ghost form = { list_of R.form };
 
     /// Appends `~`, or the items between brackets, with commas between them.
     fn put(&self, out: &mut Vec<u8>) -> Result<(), AllocError> {
-        if self.is_null() {
-            return out.extend_from_slice(b"~");
+        match self {
+            Series::Null => out.extend_from_slice(b"~"),
+            Series::Full(elements) => {
+                out.extend_from_slice(b"[")?;
+                put_series(out, elements.items(), COMMAS)
+            }
         }
-        out.extend_from_slice(b"[")?;
-        put_series(out, self.items(), COMMAS)
+    }
+}
+
+/// Items by themselves are a multi's; those of a list are within a `List`.
+impl<T: Put> Put for Items<T> {
+    ghost form = { multi_of T.form };
+
+    /// Appends the parts or the results of a multi, after their word.
+    fn put(&self, out: &mut Vec<u8>) -> Result<(), AllocError> {
+        put_word(out, Word::Parts)?;
+        put_series(out, self.as_slice().iter(), PARTS)
+    }
+}
+
+impl<T: Item> Item for Items<T> {
+    fn read(line: &mut Reader<'_>) -> Result<Self, LineFault> {
+        read_word(line, Word::Parts)?;
+        read_series(line, PARTS)
+    }
+}
+
+impl<'a, M: KnownIn<'a> + Put> Put for Sequence<'a, M> {
+    ghost form = { multi_of M.form };
+
+    /// Appends the parts or the results of a multi, after their word.
+    fn put(&self, out: &mut Vec<u8>) -> Result<(), AllocError> {
+        put_word(out, Word::Parts)?;
+        put_series(out, self.items(), PARTS)
     }
 }

@@ -1,5 +1,5 @@
 -- A piece that is whole at the front of a block: two steps of the reader.
-use Rattle.std.proofs.Common.{◌≡◌, ℕ, ◌+◌, ◌-◌, ◌<◌, ◌≤◌, List, [], ◌++◌, length, take, drop, None, Some, refl, sym, ap, ◌∙◌, subst, arith, length-take}
+use Rattle.std.proofs.Common.{◌≡◌, ℕ, ◌+◌, ◌-◌, List, [], ◌++◌, length, take, drop, None, Some, refl, sym, ap, ◌∙◌, subst, arith, length-take}
 use Rattle.std.proofs.lemmas.List.{length-drop}
 use Rattle.zk_recordings.specs.declared.heads.PieceHead.{PieceHead}
 use Rattle.zk_recordings.specs.declared.heads.WholePiece.{WholePiece}
@@ -9,8 +9,8 @@ use Rattle.zk_recordings.specs.Reader.{Content, Fixed, ReaderState}
 use Rattle.zk_recordings.specs.Recording.{End, Cut, Bad, InPieces, Recording, Breaks, Ends, place_of, no_time, nothing}
 use Rattle.zk_recordings.specs.Heads.{PassesHead}
 use Rattle.zk_recordings.specs.Pieces.{IsHeadIn, IsPieceIn, ReadsPiece}
-use Rattle.zk_recordings.specs.Reading.{HasHead, HasHeadAt, AtFixed, AtStage, IsAt, IsDecidedBy, IsSound, IsSoundAt, IsBetweenOf, IsNeverBetween, IsUndamaged, ReadsOn, format_at, place_by, place_in, then_at}
-use Rattle.zk_recordings.proofs.Passing.{passes-head, size-some}
+use Rattle.zk_recordings.specs.Reading.{HasHead, HasHeadAt, AtFixed, AtStage, IsAt, IsDecidedBy, IsSound, IsSoundAt, IsBetweenOf, IsNeverBetween, IsUndamaged, ReadsOn, format_at, then_at}
+use Rattle.zk_recordings.proofs.Passing.{passes-head}
 use Rattle.zk_recordings.proofs.Stages.{content-whole, has-same}
 
 -- ---- the head
@@ -88,14 +88,6 @@ same-piece u v bytes x r us vs eight at' format limits i =
 module _ (s : ReaderState) (block : List ℕ) (p : WholePiece) (i : IsPieceIn s.format block p) (bytes : List ℕ) (got : ℕ) (stage : s.stage ≡ Fixed SideByte bytes got) (sound : IsSound s) where
   abbrev pub behind : ReaderState
   behind = record s { at = s.at + p.used }
-
-  pub within-block : (0 < p.head) × (p.head < p.used) × (p.used ≤ length block)
-  within-block =
-      let some : 0 < i.head.size = subst (λ n. 0 < n) (sym i.begins.value) (size-some _ i.begins.good) in
-      (omega (arith, i.begins.behind_size, i.behind_head), omega (arith, some, i.behind_head, i.behind_content), i.within)
-
-  pub place-behind : place_in behind ≤ place_in s + p.used
-  place-behind = subst (λ q. place_by behind q ≤ place_by s q + p.used) (sym stage) (omega arith)
 
   none-got : got ≡ 0
   none-got = let f = subst (IsSoundAt s) stage sound in omega (arith, f.0)

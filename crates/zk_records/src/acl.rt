@@ -1,13 +1,17 @@
 //! Access rights: the records `Id` and `ACL` of zookeeper.jute.
-ghost use Rattle.std.specs.Prelude.{◌≡◌, refl};
+ghost use Rattle.std.specs.Prelude.{◌≡◌, ◌≤◌, ℕ, length, refl, Ok};
+ghost use Rattle.zk_jute.specs.Item.{HaveBytes};
+ghost use Rattle.zk_jute.specs.Standing.{OneStands};
+ghost use Rattle.zk_jute.specs.Told.{StandsAt};
+ghost use Rattle.zk_records.specs.Held as held;
 ghost use Rattle.zk_records.specs.Records.{id, acl, id_of, acl_of};
 ghost use Rattle.zk_records.specs.Shown.{acl_value, acl_is_value};
 
 use crate::fields::{decode, ends, held, pairs};
 use crate::fields_of;
 use zk_jute::{
-    Decode, Element, Ends, Form, ItemFault, Origin, Output, Series, Spell, Text, TextRef, Verdict,
-    Wire,
+    Decode, Element, Ends, Form, ItemFault, KnownIn, Member, Origin, Output, Series, Spell, Text,
+    TextRef, Verdict, Wire, known_at,
 };
 
 /// Someone under a scheme of authentication: `Id`.
@@ -98,10 +102,37 @@ impl Wire for Acl {
     ghost written = { refl };
 }
 
-impl<'a> Element for AclRef<'a> {
+impl<'a> Member for AclRef<'a> {
+    type Mark = ();
+
+    ghost items = { acl.items };
+
     ghost value = { acl_value };
 
+    ghost mark = { λ _. tt };
+
+    fn pass(payload: &[u8], place: usize) -> ((), usize)
+        requires place { place ≤ length payload.now }
+        requires known { OneStands acl.items payload.now place }
+        ensures value { (x : held.Acl) × (acl_value payload.now place ≡ Ok (x, result.1)) × (tt ≡ result.0) }
+        ensures only { (x : held.Acl) (end : ℕ) → HaveBytes (acl.items x) → StandsAt (acl.items x) payload.now place end → result.1 ≡ end }
+    {
+        let (_, end) = known_at::<AclRef<'_>>(payload, place);
+        ((), end)
+    }
+}
+
+impl<'a> KnownIn<'a> for AclRef<'a> {
+    #[inline(always)]
+    fn known_in(payload: &'a [u8], place: usize) -> (Self, usize) {
+        known_at(payload, place)
+    }
+}
+
+impl<'a> Element for AclRef<'a> {
     ghost is_value = { acl_is_value };
+
+    ghost is_wired = { refl };
 }
 
 /// A borrowed list of access rights.

@@ -27,8 +27,7 @@ use crate::session::{
 use crate::stat::Stat;
 use std::alloc::{AllocError, Global};
 use zk_jute::{
-    Blob, BlobRef, Bytes, Chars, Decode, Element, Items, KnownPayload, List, Series, Text,
-    TextList, TextRef,
+    Blob, BlobRef, Bytes, Chars, Items, KnownIn, List, Sequence, Series, Text, TextList, TextRef,
 };
 
 /// A borrowed value that can be copied.
@@ -53,7 +52,7 @@ pub trait Own {
 /// # Errors
 ///
 /// `AllocError` if memory is refused.
-pub fn own_all<T: Own + Drop, I: Iterator<Item = T> + Drop>(
+fn own_all<T: Own + Drop, I: Iterator<Item = T> + Drop>(
     items: I,
     alloc: Global,
 ) -> Result<Vec<T::Owned>, AllocError>
@@ -140,17 +139,27 @@ impl<'a> Own for BlobRef<'a> {
     }
 }
 
+impl<'a, M: KnownIn<'a> + Own> Own for Sequence<'a, M> {
+    type Owned = Items<M::Owned>;
+
+    ghost same = { map M.same };
+
+    fn own(&self, alloc: Global) -> Result<Items<M::Owned>, AllocError> {
+        Ok(Items::new(own_all(self.items(), alloc)?))
+    }
+}
+
 /// A copy of a list: null, or a copy of each element.
-fn own_list<'a, R: Element + Decode<KnownPayload<'a>> + Own>(
+fn own_list<'a, R: KnownIn<'a> + Own>(
     list: &Series<'a, R>,
     alloc: Global,
 ) -> Result<List<R::Owned>, AllocError>
     ensures { IfOk result (λ copy. copy ≡ each R.same list.now) }
 {
-    if list.is_null() {
-        return Ok(List::Null);
+    match list {
+        Series::Null => Ok(List::Null),
+        Series::Full(elements) => Ok(List::Full(elements.own(alloc)?)),
     }
-    Ok(List::Full(Items::new(own_all(list.items(), alloc)?)))
 }
 
 impl<'a> Own for TextList<'a> {

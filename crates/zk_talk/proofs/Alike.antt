@@ -27,9 +27,10 @@ use Rattle.zk_answers.specs.Frames.{Fits, OutcomeFits, BodyFits, IsOutcome, err_
 use Rattle.zk_answers.specs.Frames as answers
 use Rattle.zk_answers.specs.Results.{Answers, AnswerAll, done_items, multi_items, mark_before, result_of}
 use Rattle.zk_answers.specs.Rows.{op_of_body, body_items}
-use Rattle.zk_answers.proofs.Dones.{end_mark, mark_is, mark_same, multi_more, split_items}
-use Rattle.zk_answers.proofs.Lying.{items_are, own_of, own_kind, own_answers}
-use Rattle.zk_answers.proofs.Passing.{not_end}
+use Rattle.zk_asks.proofs.Parted.{end_mark, mark_same}
+use Rattle.zk_asks.proofs.Parts.{mark_is}
+use Rattle.zk_answers.proofs.Dones.{multi_more, split_items}
+use Rattle.zk_answers.proofs.Lying.{items_are, own_of, own_kind, own_answers, not_end}
 use Rattle.zk_answers.proofs.Heads.{head_unique, stands_head}
 use Rattle.zk_answers.proofs.Results.{done_only}
 use Rattle.zk_talk.specs.Payloads.{client_payload, server_payload}

@@ -2,14 +2,11 @@
 use Rattle.std.proofs.Common.{◌≡◌, ℕ, ◌<◌, ◌≤◌, ◌^◌, ◌⊎◌, inl, inr, List, [], ◌∷◌, ◌++◌, length, take, sym, ap, ◌∙◌, subst, arith, append_assoc}
 use Rattle.std.specs.List.{AllByRecursion}
 use Rattle.std.proofs.lemmas.List.{append-nil, take-append-le, same_from_push, length_push}
-use Rattle.std.proofs.lemmas.List.Concat.{flat_map-append}
 use Rattle.std.proofs.lemmas.Bool.{cases_lt}
 use Rattle.zk_frames.specs.Framing.{frame, frames, IsBeginning, IsCut, IsBadLength}
 use Rattle.zk_talk.proofs.Lists.{by_last, IsPushed, not_empty}
 use Rattle.zk_frames.proofs.Cuts.{length-frame, take-frame, AllByRecursion-left, AllByRecursion-push, AllByRecursion-right, bad_length, whole_frame}
-
-pub frames_push : (P : List (List ℕ)) (p : List ℕ) → frames (P ++ p ∷ []) ≡ frames P ++ frame p
-frames_push P p = flat_map-append frame P (p ∷ []) ∙ ap (λ z. frames P ++ z) (append-nil (frame p))
+use Rattle.zk_frames.proofs.Taking.{frames_push}
 
 module _ (limit : ℕ) (X : List ℕ) (x : ℕ) where
   pub cut_more : (P : List (List ℕ)) (b : List ℕ) → IsCut limit X P b → IsBeginning limit (b ++ x ∷ []) → IsCut limit (X ++ x ∷ []) P (b ++ x ∷ [])

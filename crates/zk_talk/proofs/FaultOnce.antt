@@ -6,20 +6,17 @@ use Rattle.zk_talk.specs.declared.message.Side.{Side}
 use Rattle.zk_talk.specs.declared.message.Side.TheVariants.{Client, Server}
 use Rattle.zk_talk.specs.declared.limits.Limits.{Limits}
 use Rattle.zk_talk.specs.History.{History, side_bytes}
-use Rattle.zk_frames.specs.Framing.{frame, IsBadLength}
+use Rattle.zk_frames.specs.Framing.{frame}
 use Rattle.zk_waiting.specs.Lane.{lane_of}
 use Rattle.zk_talk.specs.Conversation.{asks_on, replies_on, Conversation}
 use Rattle.zk_talk.specs.Good.{Good, IsGood}
 use Rattle.zk_talk.proofs.Small.{AreSmall}
-use Rattle.std.proofs.Common.{take}
 use Rattle.zk_jute.specs.declared.fault.Reason.{Reason}
 use Rattle.zk_jute.specs.Reading.{told_place}
 use Rattle.zk_talk.specs.declared.message.Fault.{Fault}
 use Rattle.zk_waiting.specs.declared.lane.Lane.{Lane}
 use Rattle.zk_talk.specs.Fault.{IsCause, IsFaultOf, IsPayloadFault}
 use Rattle.zk_talk.specs.Fault.IsCause.{stream_end, length_range, payload_fault}
-use Rattle.zk_frames.proofs.Cuts.{take-frame}
-use Rattle.std.proofs.lemmas.List.{take_all}
 use Rattle.zk_talk.specs.declared.message.Ending.{Ending}
 use Rattle.zk_talk.specs.declared.message.Ending.TheVariants.{Whole, Cut, Refused}
 use Rattle.zk_talk.specs.Ending.{IsEnding}
@@ -44,6 +41,7 @@ use Rattle.zk_talk.specs.Fault.IsServerFault.{no_connect, connected_fault, head_
 use Rattle.zk_talk.proofs.Turns.{count_split, nth_passing, same_lane-itself}
 use Rattle.zk_frames.proofs.Cuts.{same_frame}
 use Rattle.zk_talk.proofs.Headline.{same_good, fault_is_bad}
+use Rattle.zk_talk.proofs.Advancing.{never_both}
 
 -- of two fronts of a list one is a front of the other
 pub fronts_nested : {X : Type 0} (a b c d : List X) → a ++ b ≡ c ++ d → length a < length c → (x : X) × (more : List X) × (c ≡ a ++ x ∷ more)
@@ -192,10 +190,6 @@ module _ (v : Conversation) (p : List ℕ) where
 payload_once : (limits : Limits) (v : Conversation) (side : Side) (p : List ℕ) (m n : ℕ) (r s : Reason) → IsPayloadFault limits v side p m r → IsPayloadFault limits v side p n s → Same m n r s
 payload_once limits v Client p m n r s a b = client_once limits v p m n r s a b
 payload_once limits v Server p m n r s a b = stage_once v p m n r s (stage v p m r a) (stage v p n s b)
-
--- a whole frame's length is in range
-never_both : (limit : ℕ) (w p : List ℕ) → length p ≤ limit → w ≡ frame p → IsBadLength limit w → ⊥
-never_both limit w p l e bad = bad.1 (length p) l (sym (take_all 4 w (omega (arith, bad.0))) ∙ ap (take 4) (e ∙ sym (append-nil (frame p))) ∙ take-frame p [])
 
 cause_once : (limits : Limits) → AreSmall limits → (v : Conversation) (side : Side) (size : ℕ) (rest : List ℕ) (b : ℕ) (m n : ℕ) (r s : Reason) → IsCause limits v side size rest b m r → IsCause limits v side size rest b n s → Same m n r s
 cause_once limits small v side size rest b m n r s (stream_end e a q) (stream_end e' a' q') = (a ∙ sym a', q ∙ sym q')

@@ -1,18 +1,15 @@
 -- What the payload crates prove of their forms, as it is used here.
-use Rattle.std.proofs.Common.{◌≡◌, ◌≢◌, ℕ, ◌<◌, ◌≤◌, List, [], ◌∷◌, ◌++◌, length, ℤ, refl, sym, ap, ◌∙◌, subst, arith, append_assoc, length-append}
-use Rattle.std.specs.List.{flat_map}
+use Rattle.std.proofs.Common.{◌≡◌, ◌≢◌, ℕ, ◌≤◌, List, length, ℤ, refl, sym, ap, subst, arith, length-append}
 use Rattle.std.proofs.lemmas.List.{length-map}
-use Rattle.zk_jute.specs.Item.{Item, AnInt, ABoolean, item_bytes, bytes_of}
+use Rattle.zk_jute.specs.Item.{bytes_of}
 use Rattle.zk_jute.proofs.Decided.{one_fault}
 use Rattle.zk_jute.proofs.Layouts.{bytes_both}
-use Rattle.zk_records.specs.declared.header.MultiHeader.{MultiHeader}
 use Rattle.zk_records.specs.Codes.{op_number}
 use Rattle.zk_records.specs.Records.{reply_header, watcher_event}
-use Rattle.zk_asks.specs.Held.{Part}
 use Rattle.zk_asks.specs.declared.frame.AskOf.TheVariants as asked
-use Rattle.zk_asks.specs.Parts.{marked, part_header, end_header}
+use Rattle.zk_asks.specs.Parts.{marked, end_header}
 use Rattle.zk_asks.specs.Forms.{header_items}
-use Rattle.zk_asks.specs.Parts.{op_of_part, record_of, part_items}
+use Rattle.zk_asks.specs.Parts.{op_of_part}
 use Rattle.zk_asks.specs.Rows.{body_items, op_of_ask}
 use Rattle.zk_asks.specs.Frames.{parts_of_ask}
 use Rattle.zk_asks.proofs.First.{first_unique, first_excludes, first_injective}
@@ -40,6 +37,7 @@ use Rattle.zk_answers.specs.Frames.{IsConnected, IsEvent, Fits}
 use Rattle.zk_answers.specs.Frames as answers
 use Rattle.zk_answers.specs.Faults.{IsConnectedFault, IsHead, IsHeadFault, IsReplyFault, IsEventFault}
 use Rattle.zk_talk.specs.Payloads.{client_payload, server_payload}
+use Rattle.zk_asks.proofs.Counted.{parts_long}
 
 abbrev pub Same : ℕ → ℕ → Reason → Reason → Type 0
 Same m n r s = (m ≡ n) × (r ≡ s)
@@ -75,23 +73,6 @@ ask_excluded profile p place reason fault f a c o e = ask_excludes profile f pla
 
 pub ask_once : (profile : Profile) (p : List ℕ) (m n : ℕ) (r s : Reason) → IsAskFault profile p m r → IsAskFault profile p n s → Same m n r s
 ask_once profile p m n r s a b = ask_unique profile p m n r s a b
-
--- each part has a byte
-parts_long : (ps : List Part) (more : List Item) → length ps ≤ length (bytes_of (flat_map part_items ps ++ more))
-parts_long [] more = omega arith
-parts_long (p ∷ ps) more =
-    let mark = marked (part_header (op_of_part p)) in
-    let rest = record_of p ++ (flat_map part_items ps ++ more) in
-    let split : flat_map part_items (p ∷ ps) ++ more ≡ mark ++ rest = append_assoc (mark ++ record_of p) (flat_map part_items ps) more ∙ append_assoc mark (record_of p) (flat_map part_items ps ++ more) in
-    let bytes = ap bytes_of split ∙ bytes_both mark rest ∙ ap (λ z. bytes_of mark ++ z) (bytes_both (record_of p) (flat_map part_items ps ++ more)) in
-    let some : 0 < length (bytes_of mark) = mark_long (part_header (op_of_part p)) in
-    omega (arith, some, ap length bytes, length-append (bytes_of mark) (bytes_of (record_of p) ++ bytes_of (flat_map part_items ps ++ more)), length-append (bytes_of (record_of p)) (bytes_of (flat_map part_items ps ++ more)), parts_long ps more)
-  where
-    mark_long : (h : MultiHeader) → 0 < length (bytes_of (marked h))
-    mark_long h = omega (arith, length-append (item_bytes (AnInt h.kind)) (bytes_of (ABoolean h.done ∷ AnInt h.err ∷ [])), int_long h.kind)
-      where
-        int_long : (z : ℤ) → length (item_bytes (AnInt z)) ≡ 4
-        int_long z = refl
 
 pub few_parts : (xid : ℤ) (ask : Asked) → length (ops_of_ask ask) ≤ length (client_payload (Ask xid ask))
 unfolding client_payload

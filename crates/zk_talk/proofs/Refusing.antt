@@ -1,5 +1,5 @@
 -- The body in which the fault lies, of a talk that keeps it.
-use Rattle.std.proofs.Common.{◌≡◌, ℕ, List, [], ◌∷◌, ◌++◌, length, refl, sym, subst, ◌∙◌, Option, Some, None, Bor, MatchOption}
+use Rattle.std.proofs.Common.{◌≡◌, ℕ, List, length, refl, sym, subst, ◌∙◌, Option, Some, None, Bor, MatchOption}
 use Rattle.zk_answers.specs.declared.layout.Layout.{Layout}
 use Rattle.zk_frames.specs.Framing.{frame}
 use Rattle.zk_talk.specs.declared.message.Fault.{Fault}
@@ -7,7 +7,6 @@ use Rattle.zk_talk.specs.Held.{Message}
 use Rattle.zk_talk.specs.History.{History}
 use Rattle.zk_talk.specs.Conversation.{Conversation}
 use Rattle.zk_talk.specs.Describes.{Describes}
-use Rattle.zk_talk.specs.Fault.{rest_on}
 use Rattle.zk_talk.specs.Refused.{HasBody, IsInBody, IsRefusedBody}
 use Rattle.zk_talk.specs.Stands.{TalkState, Refuses, held_on}
 use Rattle.zk_talk.proofs.Bodies.{frame_once}
@@ -18,9 +17,6 @@ some_same o x y a b = cc
 module _ (t : TalkState) (h : History) (M : List Message) (f : Fault) (r : Refuses t h M f) where
   abbrev now : Conversation
   now = r.is.conversation
-
-  abbrev last : List ℕ
-  last = rest_on f.side r.is.client_rest r.is.server_rest ++ r.is.byte ∷ []
 
   pub known : Describes (length now.client) (length now.server) t.waiting now
   known = record { client = refl; server = refl; may = r.is.good.conversation.server; queues = r.queues }

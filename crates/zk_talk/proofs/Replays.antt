@@ -122,7 +122,7 @@ replay : (limits : Limits) (h : History) → IsGood limits h → Replay limits h
 replay limits h n = replay_from limits [] h (record { messages = []; client_rest = []; server_rest = []; runs = none_spoken limits; are = EachAfter-nil (MaySay limits) }) n
 
 -- ---- Each side's bytes
-own_bytes : (side : Side) (bs : List ℕ) → side_bytes side (on side bs) ≡ bs
+pub own_bytes : (side : Side) (bs : List ℕ) → side_bytes side (on side bs) ≡ bs
 unfolding side_bytes
 own_bytes Client [] = refl
 own_bytes Server [] = refl

@@ -1,5 +1,5 @@
 -- What one message more does to what is known of those before it.
-use Rattle.std.proofs.Common.{◌≡◌, ◌≢◌, ◌+◌, ◌<◌, ◌≤◌, ◌⊎◌, inl, inr, List, [], ◌∷◌, ◌++◌, length, filter, refl, sym, ap, ◌∙◌, subst, arith, Some, None, ℤ, Bool, true, false, MatchBool, IsTrue, length-drop}
+use Rattle.std.proofs.Common.{◌≡◌, ◌≢◌, ◌+◌, ◌<◌, ◌≤◌, ◌⊎◌, inl, inr, List, [], ◌∷◌, ◌++◌, length, filter, refl, sym, ap, ◌∙◌, subst, arith, Some, ℤ, Bool, true, false, MatchBool, IsTrue, length-drop}
 use Rattle.std.specs.Prelude.{slice_get, negsuc}
 use Rattle.zk_jute.specs.Item.{Fit}
 use Rattle.zk_asks.specs.Held.{ClientFrame}
@@ -32,7 +32,7 @@ use Rattle.zk_talk.proofs.Queues.{weight_is_load, requests-length}
 use Rattle.zk_talk.proofs.Lanes.{remembered, forgotten}
 use Rattle.zk_talk.proofs.Loads.{load_ask}
 use mathlib.Core.Bool.{beq}
-use Rattle.zk_talk.proofs.Judging.{first_may, later_may, heavier, connected_may, event_may, next_waits}
+use Rattle.zk_talk.proofs.Judging.{first_may, later_may, heavier, connected_may, event_may, next_waits, front_none}
 
 opposite : (a b : Bool) → (a ≡ b → ⊥) → (a ≡ true) → b ≡ false
 opposite true true n e = absurd (n refl)
@@ -49,10 +49,6 @@ unequal true true e q = cc
 unequal false false e q = cc
 unequal true false e q = cc
 unequal false true e q = cc
-
-front_none : {X : Type 0} (xs : List X) → slice_get xs 0 ≡ None → xs ≡ []
-front_none [] e = refl
-front_none (x ∷ xs) e = absurd (cc)
 
 zero_length : {X : Type 0} (xs : List X) → xs ≡ [] → length xs ≡ 0
 zero_length xs e = ap length e

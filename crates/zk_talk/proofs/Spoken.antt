@@ -137,10 +137,6 @@ spoken_read limits M N e are z messages ending =
 framed : List (Side × List ℕ) → History
 framed fs = flat_map (λ (x : Side × List ℕ). on x.0 (frame x.1)) fs
 
-framed-cons : (side : Side) (p : List ℕ) (fs : List (Side × List ℕ)) → framed ((side, p) ∷ fs) ≡ on side (frame p) ++ framed fs
-unfolding framed
-framed-cons side p fs = refl
-
 sized_of : (limits : Limits) (M : List Message) (r : History) → IsGood limits (said M ++ r) → AreSized M
 sized_of limits M r good = let n = good_front limits (said M) r good in (n.3.client_size, n.3.server_size)
 

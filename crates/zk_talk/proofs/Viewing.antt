@@ -20,8 +20,8 @@ use Rattle.zk_talk.specs.declared.message.Side.TheVariants.{Client, Server}
 use Rattle.zk_talk.specs.Held.{Message}
 use Rattle.zk_talk.specs.declared.message.MessageOf.TheVariants.{Client as FromClient, Server as FromServer}
 use Rattle.zk_talk.specs.Stands.{TalkState, kept_on}
-use Rattle.zk_talk.proofs.Sides.{carried}
 use Rattle.zk_talk.specs.Viewed.{Shows, ShowsClient, ShowsServer, IsShownAs}
+use Rattle.zk_talk.proofs.Bodies.{frame_once}
 
 one_less : (n : ℕ) → n + 1 ≡ 1 → n ≡ 0
 one_less n e = omega (arith, e)
@@ -52,16 +52,13 @@ server_shown n kept s w told tells due turn sent is = record { kind = kind_of n 
 
 -- ---- what the payload of a kept frame is
 
-pub one_payload : (p q : List ℕ) → frame p ≡ frame q → p ≡ q
-one_payload p q e = carried (frame q) p (sym e) ∙ sym (carried (frame q) q refl)
-
 pub client_bytes : (p : List ℕ) (f : ClientFrame) → frame p ≡ frame (client_payload f) → p ≡ asks.payload f
 unfolding client_payload
-client_bytes p f e = one_payload p (client_payload f) e
+client_bytes p f e = frame_once p (client_payload f) e
 
 pub server_bytes : (p : List ℕ) (s : ServerFrame) → frame p ≡ frame (server_payload s) → p ≡ answers.payload s
 unfolding server_payload
-server_bytes p s e = one_payload p (server_payload s) e
+server_bytes p s e = frame_once p (server_payload s) e
 
 -- ---- what a talk keeps
 

@@ -25,7 +25,7 @@ use Rattle.zk_through.specs.LeftOut.{KeptAfter}
 use Rattle.zk_through.specs.Runs.{ThroughState, Runs, IsRequestOf}
 use Rattle.zk_through.proofs.Frames.{payloads-other, no_payloads, pushed, of_client, of_server, past_client, some_server}
 use Rattle.zk_through.proofs.Seen.{seen_client, client_counts, counts_none}
-use Rattle.zk_through.proofs.Telling.{side_bytes-on}
+use Rattle.zk_talk.proofs.Replays.{own_bytes}
 
 -- ---- The client's frames that the talk was given
 none_on : (bs : List ℕ) → side_bytes Client (on Server bs) ≡ []
@@ -33,7 +33,7 @@ none_on bs = other-on Server bs [] ∙ no_bytes Client
 
 bytes_are : (k : Came) → side_bytes Client (told k) ≡ frames (payloads Client k)
 bytes_are [] = no_bytes Client ∙ ap frames (sym (no_payloads Client))
-bytes_are ((Client, p) ∷ k) = side_bytes-append Client (on Client (frame p)) (told k) ∙ (λ i. side_bytes-on Client (frame p) i ++ bytes_are k i) ∙ ap frames (sym (of_client p k))
+bytes_are ((Client, p) ∷ k) = side_bytes-append Client (on Client (frame p)) (told k) ∙ (λ i. own_bytes Client (frame p) i ++ bytes_are k i) ∙ ap frames (sym (of_client p k))
 bytes_are ((Server, q) ∷ k) = side_bytes-append Client (on Server (frame q)) (told k) ∙ (λ i. none_on (frame q) i ++ bytes_are k i) ∙ ap frames (sym (of_server q k))
 
 weight_more : (p : List ℕ) (k : Came) → length (frames (payloads Client ((Client, p) ∷ k))) ≡ length (frame p) + length (frames (payloads Client k))

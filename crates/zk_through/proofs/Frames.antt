@@ -14,6 +14,7 @@ use Rattle.zk_talk.proofs.Lists.{by_last, IsPushed, FrontOfPushed, front_of_push
 use Rattle.zk_talk.proofs.Lists.FrontOfPushed.{all_of_it, front_of}
 use Rattle.zk_talk.proofs.Standing.{beginning_left, frame_front, on-push}
 use Rattle.zk_through.specs.Came.{Came, payload_on, payloads, AreCut, AreFrames, told}
+use Rattle.zk_frames.proofs.Taking.{frames_push}
 
 -- ---- One frame more
 payloads-append : (side : Side) (a b : Came) → payloads side (a ++ b) ≡ payloads side a ++ payloads side b
@@ -59,9 +60,6 @@ some_server q k e = omega (arith, ap length e)
 pub told-push : (k : Came) (x : Side × List ℕ) → told (k ++ x ∷ []) ≡ told k ++ on x.0 (frame x.1)
 told-push k x = flat_map-append (λ (y : Side × List ℕ). on y.0 (frame y.1)) k (x ∷ []) ∙ ap (λ z. told k ++ z) (append-nil (on x.0 (frame x.1)))
 
-frames-push : (P : List (List ℕ)) (p : List ℕ) → frames (P ++ p ∷ []) ≡ frames P ++ frame p
-frames-push P p = flat_map-append frame P (p ∷ []) ∙ ap (λ z. frames P ++ z) (append-nil (frame p))
-
 -- ---- One byte more
 cut_on : (limit : ℕ) (bytes : List ℕ) (P : List (List ℕ)) (c : List ℕ) (b : ℕ) → IsCut limit bytes P c → IsBeginning limit (c ++ b ∷ []) → IsCut limit (bytes ++ b ∷ []) P (c ++ b ∷ [])
 cut_on limit bytes P c b x begin = record {
@@ -72,7 +70,7 @@ cut_on limit bytes P c b x begin = record {
 
 cut_whole : (limit : ℕ) (bytes : List ℕ) (P : List (List ℕ)) (c p : List ℕ) (b : ℕ) → IsCut limit bytes P c → length p ≤ limit → c ++ b ∷ [] ≡ frame p → IsCut limit (bytes ++ b ∷ []) (P ++ p ∷ []) []
 cut_whole limit bytes P c p b x fits is = record {
-  whole = ap (λ z. z ++ b ∷ []) x.whole ∙ append_assoc (frames P) c (b ∷ []) ∙ ap (λ z. frames P ++ z) is ∙ sym (frames-push P p) ∙ sym (append-nil (frames (P ++ p ∷ [])));
+  whole = ap (λ z. z ++ b ∷ []) x.whole ∙ append_assoc (frames P) c (b ∷ []) ∙ ap (λ z. frames P ++ z) is ∙ sym (frames_push P p) ∙ sym (append-nil (frames (P ++ p ∷ [])));
   within = AllByRecursion-push (λ q. length q ≤ limit) P p x.within fits;
   beginning = inl (omega arith);
 }

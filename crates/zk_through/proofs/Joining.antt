@@ -15,7 +15,8 @@ use Rattle.zk_through.specs.LeftOut.{is_on}
 use Rattle.zk_through.specs.Unseen.{SeenAfter, Seen, made_up}
 use Rattle.zk_through.specs.Runs.{ThroughState, Runs, GoesOnTold}
 use Rattle.zk_through.proofs.Frames.{no_payloads, of_client, of_server, past_client, its_server}
-use Rattle.zk_through.proofs.Telling.{side_bytes-on, bytes_more}
+use Rattle.zk_through.proofs.Telling.{bytes_more}
+use Rattle.zk_talk.proofs.Replays.{own_bytes}
 
 abbrev request : List ℕ
 request = replicate 28 255
@@ -65,7 +66,7 @@ module _ (begun asked joined : ThroughState) (p q : List ℕ) (late : joined.lat
   request_same =
       let limits = joined.talk.limits in
       let cut = after.1.frames.cut.client in
-      let bytes : side_bytes Client history ≡ frame request = other-on Server answer_frame (on Client request_frame) ∙ side_bytes-on Client request_frame ∙ sym request_is in
+      let bytes : side_bytes Client history ≡ frame request = other-on Server answer_frame (on Client request_frame) ∙ own_bytes Client request_frame ∙ sym request_is in
       let ps : payloads Client after.1.all ≡ p ∷ [] = ap (payloads Client) all_is ∙ of_client p ((Server, q) ∷ []) ∙ ap (λ z. p ∷ z) (of_server q [] ∙ no_payloads Client) in
       one_frame limits.client (side_bytes Client history) p request joined.client.held (small_limits limits).0 (omega (arith, limits.in_range)) bytes (subst (λ z. IsCut limits.client (side_bytes Client history) z joined.client.held) ps cut)
 

@@ -17,16 +17,11 @@ use Rattle.zk_talk.proofs.Histories.{side_bytes-append}
 use Rattle.zk_talk.proofs.Standing.{other-on}
 use Rattle.zk_talk.proofs.Small.{AreSmall}
 use Rattle.zk_through.specs.Runs.{IsTold}
+use Rattle.zk_talk.proofs.Replays.{own_bytes}
 
 -- ---- Bytes that are told
-pub side_bytes-on : (side : Side) (bs : List ℕ) → side_bytes side (on side bs) ≡ bs
-unfolding side_bytes
-side_bytes-on side [] = refl
-side_bytes-on Client (b ∷ bs) = ap (λ z. b ∷ z) (side_bytes-on Client bs)
-side_bytes-on Server (b ∷ bs) = ap (λ z. b ∷ z) (side_bytes-on Server bs)
-
 pub bytes_more : (side : Side) (h : History) (bs : List ℕ) → side_bytes side (h ++ on side bs) ≡ side_bytes side h ++ bs
-bytes_more side h bs = side_bytes-append side h (on side bs) ∙ ap (λ z. side_bytes side h ++ z) (side_bytes-on side bs)
+bytes_more side h bs = side_bytes-append side h (on side bs) ∙ ap (λ z. side_bytes side h ++ z) (own_bytes side bs)
 
 -- ---- One frame
 module _ (limit : ℕ) (bytes p : List ℕ) (P P' : List (List ℕ)) (small : limit < 2 ^ 31) (fits : length p ≤ limit) (x : IsCut limit bytes P []) where

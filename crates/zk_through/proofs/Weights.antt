@@ -13,7 +13,7 @@ use Rattle.zk_talk.specs.Payloads.{client_payload}
 use Rattle.zk_talk.specs.Streams.{StreamState}
 use Rattle.zk_talk.proofs.Payloads.{few_parts}
 use Rattle.zk_through.specs.Runs.{IsWeightOf, IsWeighed}
-use Rattle.zk_through.proofs.Carried.{carried}
+use Rattle.zk_talk.proofs.Bodies.{frame_once}
 
 payload_of : (f : ClientFrame) → client_payload f ≡ asks.payload f
 unfolding client_payload
@@ -33,9 +33,9 @@ module _ (s : StreamState) (payload : List ℕ) (f : ClientFrame) (xid : ℤ) (a
   pub weighs_so : (profile : Profile) (w : ℕ) → 0 < s.count → IsOfProfile profile f → IsSent f → w ≡ 1 + length (ops_of_ask ask) →
       ((g : ClientFrame) → IsLater g → IsOfProfile profile g → IsSent g → payload ≡ asks.payload g → f ≡ g) → IsWeightOf profile s w
   weighs_so profile w some of sent e one = record {
-    found = λ more. (some, λ p at. (Ask xid ask, tt, subst IsSent form sent, subst (IsOfProfile profile) form of, sym its_payload ∙ carried payload p (sym is ∙ at), e));
+    found = λ more. (some, λ p at. (Ask xid ask, tt, subst IsSent form sent, subst (IsOfProfile profile) form of, sym its_payload ∙ frame_once payload p (sym is ∙ at), e));
     only = λ begun p n at q.
-        let same = one q.0 q.1 q.3 q.2 (carried payload p (sym is ∙ at) ∙ sym q.4 ∙ payload_of q.0) in
+        let same = one q.0 q.1 q.3 q.2 (frame_once payload p (sym is ∙ at) ∙ sym q.4 ∙ payload_of q.0) in
         q.5 ∙ ap weight (sym same ∙ form) ∙ sym e;
   }
 
@@ -46,7 +46,7 @@ at_most (Ask xid ask) later = omega (arith, few_parts xid ask)
 
 pub payload_weighs : (profile : Profile) (s : StreamState) (payload : List ℕ) (room most : ℕ) → s.held ≡ frame payload → most ≡ 1 + length payload → most ≤ room → IsWeighed profile s room most
 payload_weighs profile s payload room most is e fits = (
-  λ begun p w at q. omega (arith, at_most q.0 q.1, q.5, ap length q.4, ap length (carried payload p (sym is ∙ at)), e),
+  λ begun p w at q. omega (arith, at_most q.0 q.1, q.5, ap length q.4, ap length (frame_once payload p (sym is ∙ at)), e),
   λ more. absurd (omega (arith, more, fits)),
 )
 
@@ -64,7 +64,7 @@ pub none_weighs : (profile : Profile) (s : StreamState) (payload : List ℕ) →
     ((g : ClientFrame) → IsLater g → IsOfProfile profile g → IsSent g → payload ≡ asks.payload g → ⊥) → IsWeightOf profile s 0
 none_weighs profile s payload is none = record {
   found = λ more. absurd (omega (arith, more));
-  only = λ begun p n at q. absurd (none q.0 q.1 q.3 q.2 (carried payload p (sym is ∙ at) ∙ sym q.4 ∙ payload_of q.0));
+  only = λ begun p n at q. absurd (none q.0 q.1 q.3 q.2 (frame_once payload p (sym is ∙ at) ∙ sym q.4 ∙ payload_of q.0));
 }
 
 ok_value : {X E : Type 0} → X → Result X E → X

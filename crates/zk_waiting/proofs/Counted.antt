@@ -1,6 +1,6 @@
 -- The lanes by the numbers of frames.
 use Rattle.std.proofs.Common.{◌≡◌, ◌≢◌, ℕ, ◌+◌, ◌≤◌, List, [], ◌∷◌, ◌++◌, length, map, refl, sym, ◌∙◌, subst, Bool, true, false, arith}
-use Rattle.std.specs.Prelude.{ℤ, negsuc, slice_get, if◌then◌else◌}
+use Rattle.std.specs.Prelude.{ℤ, negsuc, if◌then◌else◌}
 use Rattle.std.specs.Ordering.{int_eq}
 use Rattle.std.proofs.lemmas.Bool.Decides.{Decides-int_eq}
 use Rattle.std.proofs.lemmas.List.{map-append}
@@ -12,7 +12,7 @@ use Rattle.zk_asks.specs.Codes.{ping_xid, auth_xid, watches_xid, IsAllowed}
 use Rattle.zk_waiting.specs.Lane.{lane_of}
 use Rattle.zk_waiting.specs.declared.lane.Lane.{Lane}
 use Rattle.zk_waiting.specs.declared.lane.Lane.TheVariants.{Ping, Auth, Watches, Plain}
-use Rattle.zk_waiting.specs.Awaited.{bare, bare_of, numbered}
+use Rattle.zk_waiting.specs.Awaited.{bare, numbered}
 use Rattle.zk_waiting.specs.Waiting.{Request, Lanes, request_weight, queue_weight, weight_of, IsPut, IsWeighed}
 use Rattle.zk_waiting.proofs.Weights.{queue_weight_push}
 
@@ -25,10 +25,6 @@ weight_alike xid op (n ∷ ns) = omega (arith, sum_by-cons request_weight (bare 
 pub numbered_weight : (max : ℕ) (pings auths watches : List ℕ) (plain : List Request) → weight_of (numbered max pings auths watches plain) ≡ length pings + length auths + length watches + queue_weight plain
 numbered_weight max pings auths watches plain =
     omega (arith, weight_alike ping_xid ops.Ping pings, weight_alike auth_xid ops.Auth auths, weight_alike watches_xid ops.SetWatches watches)
-
-pub oldest_bare : (xid : ℤ) (op : Op) (ns : List ℕ) → bare_of xid op (slice_get ns 0) ≡ slice_get (map (bare xid op) ns) 0
-oldest_bare xid op [] = refl
-oldest_bare xid op (n ∷ ns) = refl
 
 -- ---- a special lane's requests are alike
 

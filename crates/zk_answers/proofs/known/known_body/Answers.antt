@@ -4,6 +4,7 @@ use Rattle.zk_records.specs.declared.op.Op.TheVariants as ops
 use Rattle.zk_records.specs.declared.stat.Stat.{Stat}
 use Rattle.zk_records.specs.Held.{DataBody, AclBody, ChildrenBody, CreateBody}
 use Rattle.zk_records.specs.Records.{acl, data_body_same, acl_body_same, children_body_same, create_body_same}
+use Rattle.zk_answers.proofs.Lying.{done_read, dones_headed}
 use Rattle.zk_answers.proofs.Knowing.{content_there, content_is, field_there, stat_there, both_are}
 use Rattle.zk_answers.proofs.known.known_body.Goals as goal
 
@@ -86,3 +87,6 @@ returns-in-Create2 g c = λ b q of.
     let s = c.known_at-in-Create2 in
     let are = both_are ustring (λ (r : CreateBody). r.path) (λ (r : CreateBody). r.stat) c.args.payload.now c.args.place c.requires.within x.result x.ensures s.result s.ensures in
     content_is ops.Create2 c.args.payload.now c.args.place (record { path = x.result.0; stat = s.result.0 }) (λ r end have at. create_body_same ustring _ _ (are r end have at)) b q (of ∙ c.in-Create2.is)
+
+pub known_multi-requires : goal.known_multi-requires
+known_multi-requires g c = record { within = c.requires.within; headed = dones_headed; told = done_read c.args.payload.now; stand = content_there ops.Multi c.args.payload.now c.args.place c.in-Multi.is c.requires.stands }

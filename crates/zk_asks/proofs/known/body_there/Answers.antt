@@ -3,6 +3,9 @@ use Rattle.zk_records.specs.declared.op.Op.TheVariants as ops
 use Rattle.zk_records.specs.Held.{CreateAsk, SetAclAsk}
 use Rattle.zk_asks.specs.declared.frame.AskOf.TheVariants as ask
 use Rattle.zk_asks.proofs.Judged.{body_one, content_is}
+use Rattle.zk_jute.specs.Standing.{OneStands}
+use Rattle.zk_asks.specs.Parts.{multi_items}
+use Rattle.zk_asks.proofs.Lying.{part_read, parts_headed}
 use Rattle.zk_asks.proofs.known.body_there.Goals as goal
 
 pub returns-in-Create : goal.returns-in-Create
@@ -19,5 +22,10 @@ returns-in-SetAcl g c = λ a q is.
 
 pub returns-in-Multi : goal.returns-in-Multi
 returns-in-Multi g c = λ a q is have stands.
-    let found = c.parts_in.ensures in
-    body_one c.args.payload.now c.args.place (ask.Multi c.parts_in.result) a found.0 q (sym (is ∙ c.in-Multi.is)) found.1 found.2 have stands
+    let src = c.args.payload.now in
+    let there : OneStands multi_items src c.args.place = rw c.in-Multi.is at c.requires.stands in
+    let ps = there.0 in
+    ap ask.Multi (c.known_multi.ensures ps there.1 there.2 there.3) ∙ body_one src c.args.place (ask.Multi ps) a there.1 q (sym (is ∙ c.in-Multi.is)) there.2 there.3 have stands
+
+pub known_multi-requires : goal.known_multi-requires
+known_multi-requires g c = record { within = c.requires.within; headed = parts_headed; told = part_read c.args.payload.now; stand = rw c.in-Multi.is at c.requires.stands }

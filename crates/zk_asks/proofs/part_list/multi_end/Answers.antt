@@ -8,7 +8,8 @@ use Rattle.zk_records.specs.declared.header.MultiHeader.{MultiHeader}
 use Rattle.zk_asks.specs.Parts.{marked, part_header}
 use Rattle.zk_asks.proofs.Knowing.{of_answer}
 use Rattle.zk_asks.proofs.Parts.{multi_mark, multi_bad, multi_part}
-use Rattle.zk_asks.proofs.Lying.{nine, part_passed, all_found}
+use Rattle.zk_asks.proofs.Lying.{part_passed, all_found}
+use Rattle.zk_asks.proofs.Parted.{nine}
 use Rattle.zk_asks.proofs.part_list.multi_end.Goals as goal
 
 pub returns-in_err-header-clause-fault : goal.returns-in_err-header-clause-fault
@@ -51,7 +52,7 @@ loop-header-preserved g c =
     let mark : StandsAt (marked (part_header c.in-Part.op)) src at c.in_ok-header.after = subst (λ (x : MultiHeader). StandsAt (marked x) src at c.in_ok-header.after) c.in-Part.ensures h.1 in
     record {
       within = c.in_ok-next-in-Part.ensures.within;
-      few = omega (arith, i.few, mark.1, nine c.in-Part.op, f.3.1);
+      few = omega (arith, i.few, mark.1, nine (part_header c.in-Part.op), f.3.1);
       passed = part_passed src c.args.place at c.loop-header.count i.passed c.in_ok-header.header c.in_ok-header.after h.0 h.1 c.in-Part.op f.0 c.in_ok-next-in-Part.next c.in-Part.ensures f.1 f.2 f.3;
     }
 

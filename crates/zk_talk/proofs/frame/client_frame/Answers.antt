@@ -5,7 +5,7 @@ use Rattle.zk_jute.specs.declared.fault.ItemFault.{ItemFault}
 use Rattle.zk_jute.specs.declared.fault.Reason.TheVariants.{NoMemory}
 use Rattle.zk_talk.specs.Judged.{TellsClient, HasRoomFor, IsNumbered}
 use Rattle.zk_talk.specs.Settled.{IsAsking}
-use Rattle.zk_talk.proofs.Viewing.{one_payload}
+use Rattle.zk_talk.proofs.Bodies.{frame_once}
 use Rattle.zk_talk.proofs.Seen.{payload_small, client_seen, client_told}
 use Rattle.zk_talk.proofs.Settling.{full_told, bytes_of_it}
 use Rattle.zk_talk.proofs.SayingPayloads.{not_true}
@@ -25,7 +25,7 @@ has_room-requires c =
     let k = c.in_ok-asked.ensures.found in
     let f = k.0 in
     let p = c.payload.result.now in
-    let asks-2 : IsAsking c.in_ok-asked.asked c.payload-2.result.now f = (k.1.asks, k.1.sent, k.1.is ∙ one_payload p c.payload-2.result.now (sym c.payload.ensures ∙ c.payload-2.ensures)) in
+    let asks-2 : IsAsking c.in_ok-asked.asked c.payload-2.result.now f = (k.1.asks, k.1.sent, k.1.is ∙ frame_once p c.payload-2.result.now (sym c.payload.ensures ∙ c.payload-2.ensures)) in
     record { small = payload_small c.args.stream.now c.args.used c.count-count.result c.requires c.payload-2.result.now c.payload-2.ensures c.count-count.ensures c.args.waiting.now; asks = (f, asks-2) }
 
 pub returns-then-not-has_room-clause-fault : goal.returns-then-not-has_room-clause-fault
@@ -34,7 +34,7 @@ returns-then-not-has_room-clause-fault c =
     let f = k.0 in
     let p = c.payload.result.now in
     let w = c.args.waiting.now in
-    let asks-2 : IsAsking c.in_ok-asked.asked c.payload-2.result.now f = (k.1.asks, k.1.sent, k.1.is ∙ one_payload p c.payload-2.result.now (sym c.payload.ensures ∙ c.payload-2.ensures)) in
+    let asks-2 : IsAsking c.in_ok-asked.asked c.payload-2.result.now f = (k.1.asks, k.1.sent, k.1.is ∙ frame_once p c.payload-2.result.now (sym c.payload.ensures ∙ c.payload-2.ensures)) in
     let off : c.has_room.result ≡ false = cc in
     let none : HasRoomFor f w → ⊥ = λ room. not_true c.has_room.result off ((c.has_room.ensures f asks-2).1 room) in
     let full = full_told c.args.profile c.count-count.result p w f k.1.turn k.1.sent k.1.is none in
@@ -45,7 +45,7 @@ judged_ref-seen-requires c =
     let k = c.in_ok-asked.ensures.found in
     let f = k.0 in
     let p = c.payload.result.now in
-    let asks-3 : IsAsking c.in_ok-asked.asked c.payload-3.result.now f = (k.1.asks, k.1.sent, k.1.is ∙ one_payload p c.payload-3.result.now (sym c.payload.ensures ∙ c.payload-3.ensures)) in
+    let asks-3 : IsAsking c.in_ok-asked.asked c.payload-3.result.now f = (k.1.asks, k.1.sent, k.1.is ∙ frame_once p c.payload-3.result.now (sym c.payload.ensures ∙ c.payload-3.ensures)) in
     (f, asks-3.0, asks-3.1, bytes_of_it f c.payload-3.result.now asks-3.2)
 
 pub put_asked-requires : goal.put_asked-requires
@@ -53,7 +53,7 @@ put_asked-requires c =
     let k = c.in_ok-asked.ensures.found in
     let f = k.0 in
     let p = c.payload.result.now in
-    let asks-4 : IsAsking c.in_ok-asked.asked c.payload-in-Ok.result.now f = (k.1.asks, k.1.sent, k.1.is ∙ one_payload p c.payload-in-Ok.result.now (sym c.payload.ensures ∙ c.payload-in-Ok.ensures)) in
+    let asks-4 : IsAsking c.in_ok-asked.asked c.payload-in-Ok.result.now f = (k.1.asks, k.1.sent, k.1.is ∙ frame_once p c.payload-in-Ok.result.now (sym c.payload.ensures ∙ c.payload-in-Ok.ensures)) in
     record { small = payload_small c.args.stream.now c.args.used c.count-count.result c.requires c.payload-in-Ok.result.now c.payload-in-Ok.ensures c.count-count.ensures c.args.waiting.now; asks = (f, asks-4) }
 
 pub returns-in-Ok-clause-found : goal.returns-in-Ok-clause-found
@@ -62,9 +62,9 @@ returns-in-Ok-clause-found c =
     let f = k.0 in
     let p = c.payload.result.now in
     let w = c.args.waiting.now in
-    let asks-2 : IsAsking c.in_ok-asked.asked c.payload-2.result.now f = (k.1.asks, k.1.sent, k.1.is ∙ one_payload p c.payload-2.result.now (sym c.payload.ensures ∙ c.payload-2.ensures)) in
-    let asks-3 : IsAsking c.in_ok-asked.asked c.payload-3.result.now f = (k.1.asks, k.1.sent, k.1.is ∙ one_payload p c.payload-3.result.now (sym c.payload.ensures ∙ c.payload-3.ensures)) in
-    let asks-4 : IsAsking c.in_ok-asked.asked c.payload-in-Ok.result.now f = (k.1.asks, k.1.sent, k.1.is ∙ one_payload p c.payload-in-Ok.result.now (sym c.payload.ensures ∙ c.payload-in-Ok.ensures)) in
+    let asks-2 : IsAsking c.in_ok-asked.asked c.payload-2.result.now f = (k.1.asks, k.1.sent, k.1.is ∙ frame_once p c.payload-2.result.now (sym c.payload.ensures ∙ c.payload-2.ensures)) in
+    let asks-3 : IsAsking c.in_ok-asked.asked c.payload-3.result.now f = (k.1.asks, k.1.sent, k.1.is ∙ frame_once p c.payload-3.result.now (sym c.payload.ensures ∙ c.payload-3.ensures)) in
+    let asks-4 : IsAsking c.in_ok-asked.asked c.payload-in-Ok.result.now f = (k.1.asks, k.1.sent, k.1.is ∙ frame_once p c.payload-in-Ok.result.now (sym c.payload.ensures ∙ c.payload-in-Ok.ensures)) in
     let same : c.judged_ref-seen.result ≡ f = c.judged_ref-seen.ensures f asks-3.0 asks-3.1 (bytes_of_it f c.payload-3.result.now asks-3.2) in
     let on : c.has_room.result ≡ true = cc in
     let room = (c.has_room.ensures f asks-2).0 on in
@@ -78,7 +78,7 @@ returns-in-Err-clause-lacks c =
     let k = c.in_ok-asked.ensures.found in
     let f = k.0 in
     let p = c.payload.result.now in
-    let asks-2 : IsAsking c.in_ok-asked.asked c.payload-2.result.now f = (k.1.asks, k.1.sent, k.1.is ∙ one_payload p c.payload-2.result.now (sym c.payload.ensures ∙ c.payload-2.ensures)) in
+    let asks-2 : IsAsking c.in_ok-asked.asked c.payload-2.result.now f = (k.1.asks, k.1.sent, k.1.is ∙ frame_once p c.payload-2.result.now (sym c.payload.ensures ∙ c.payload-2.ensures)) in
     let on : c.has_room.result ≡ true = cc in
     let room = (c.has_room.ensures f asks-2).0 on in
     λ wanted. (f, client_seen c.args.stream.now c.args.used c.count-count.result c.requires p c.payload.ensures c.count-count.ensures c.args.waiting.now c.args.profile f k.1.turn k.1.sent k.1.is room)

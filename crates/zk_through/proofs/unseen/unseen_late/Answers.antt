@@ -2,7 +2,7 @@ use Rattle.std.proofs.Common.{rules, ◌∙◌, ℕ, List, sym, ap}
 use Rattle.std.proofs.lemmas.Option.{IfSome_then}
 use Rattle.zk_through.specs.LeftOut.{xid_of, zxid_of, err_of}
 use Rattle.zk_through.specs.Turns.{IsEarlier}
-use Rattle.zk_through.proofs.Carried.{carried}
+use Rattle.zk_talk.proofs.Bodies.{frame_once}
 use Rattle.zk_through.proofs.unseen.unseen_late.Goals as goal
 
 pub returns-clause-some : goal.returns-clause-some
@@ -10,5 +10,5 @@ returns-clause-some c =
     let earlier : IsEarlier c.args.matched.now c.args.turns.now c.args.ahead = search rules in
     IfSome_then c.header.result c.header.ensures.some (λ head e. (
       earlier,
-      λ q is. e ∙ ap (λ (z : List ℕ). (xid_of z, zxid_of z, err_of z)) (carried c.payload.result.now q (sym c.payload.ensures ∙ is)),
+      λ q is. e ∙ ap (λ (z : List ℕ). (xid_of z, zxid_of z, err_of z)) (frame_once c.payload.result.now q (sym c.payload.ensures ∙ is)),
     ))
