@@ -197,22 +197,30 @@ C 0000000f0000000400000003000000022f6101 = Some(2)
 S 00000010000000030000000000000005ffffff9b = Some(7)
 S 00000010000000040000000000000005ffffff9b = Some(8)";
 
+/// The number of the frame that the step of a row answers.
+fn answered(alloc: Global, through: &mut Through, asked: &str) -> Result<String, Fail> {
+    told(alloc, through, asked)?;
+    Ok(format!(in alloc; "{:?}", through.answered())?)
+}
+
+/// Each step of the rows answers the frame that its row says.
+fn answers(rt: &impl Abort, alloc: Global, through: &mut Through) -> Result<(), Fail> {
+    for row in ANSWERS.lines() {
+        let (asked, want) = row.split_once(" = ").ok_or("no row")?;
+        let found = answered(alloc, through, asked)?;
+        assert!(rt; found.as_str() == want, "{asked} = {found}");
+    }
+    Ok(())
+}
+
 #[test]
 fn replies_answer_frames(rt: HostRuntime) -> Result<(), Fail> {
     let limits = Limits::new(4_194_304, 4_194_304, 65_536).ok_or("no limits")?;
     let mut through = Through::new(rt.alloc(), limits)?;
     for _ in 0..2 {
         assert!(&rt; through.answered().is_none());
-        for row in CONNECTED.lines() {
-            let (asked, _) = row.split_once(" = ").ok_or("no row")?;
-            told(rt.alloc(), &mut through, asked)?;
-        }
-        for row in ANSWERS.lines() {
-            let (asked, want) = row.split_once(" = ").ok_or("no row")?;
-            let step = told(rt.alloc(), &mut through, asked)?;
-            let found = format!(in rt.alloc(); "{:?}", through.answered())?;
-            assert!(&rt; found.as_str() == want, "{asked} = {found}, {step}");
-        }
+        keeps(&rt, rt.alloc(), &mut through, CONNECTED)?;
+        answers(&rt, rt.alloc(), &mut through)?;
         through.renew();
     }
     Ok(())
@@ -252,21 +260,26 @@ S 00000010000000070000000000000005ffffff9b = Ok(Passed { used: 20, went: Message
 C 0000000f0000000800000003000000022f6101 = Ok(Passed { used: 19, went: Message })
 S 00000010000000060000000000000005ffffff9b = Err(Fault { side: Server, frame: 2, offset: 64, place: 0, reason: XidOrder { expected: 8, got: 6 } }) waiting 1";
 
+/// So does each step of a passage that is seen late; anew, it begins with the connect request.
+fn joins(rt: &impl Abort, alloc: Global, rows: &str) -> Result<(), Fail> {
+    let limits = Limits::new(4_194_304, 4_194_304, 65_536).ok_or("no limits")?;
+    let mut through = Through::join(alloc, limits)?;
+    assert!(rt; through.frames(Side::Client) == 1 && through.frames(Side::Server) == 1);
+    keeps(rt, alloc, &mut through, rows)?;
+    through.renew();
+    keeps(rt, alloc, &mut through, CONNECTED)?;
+    keeps(rt, alloc, &mut through, UNASKED)
+}
+
 #[test]
 fn replies_to_what_was_not_seen(rt: HostRuntime) -> Result<(), Fail> {
-    let limits = Limits::new(4_194_304, 4_194_304, 65_536).ok_or("no limits")?;
     for rows in [
         LATE,
         LATE_BEFORE_ITS_TURN,
         LATE_BEFORE_ANOTHERS,
         LATE_AFTER_ONE,
     ] {
-        let mut through = Through::join(rt.alloc(), limits)?;
-        assert!(&rt; through.frames(Side::Client) == 1 && through.frames(Side::Server) == 1);
-        keeps(&rt, rt.alloc(), &mut through, rows)?;
-        through.renew();
-        keeps(&rt, rt.alloc(), &mut through, CONNECTED)?;
-        keeps(&rt, rt.alloc(), &mut through, UNASKED)?;
+        joins(&rt, rt.alloc(), rows)?;
     }
     Ok(())
 }
