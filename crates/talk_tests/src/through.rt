@@ -197,13 +197,13 @@ C 0000000f0000000400000003000000022f6101 = Some(2)
 S 00000010000000030000000000000005ffffff9b = Some(7)
 S 00000010000000040000000000000005ffffff9b = Some(8)";
 
-/// The number of the frame that the step of a row answers.
+/// The number of the frame that a row's reply answers.
 fn answered(alloc: Global, through: &mut Through, asked: &str) -> Result<String, Fail> {
     told(alloc, through, asked)?;
     Ok(format!(in alloc; "{:?}", through.answered())?)
 }
 
-/// Each step of the rows answers the frame that its row says.
+/// Each step of `ANSWERS` answers the frame that its row says.
 fn answers(rt: &impl Abort, alloc: Global, through: &mut Through) -> Result<(), Fail> {
     for row in ANSWERS.lines() {
         let (asked, want) = row.split_once(" = ").ok_or("no row")?;
@@ -260,7 +260,7 @@ S 00000010000000070000000000000005ffffff9b = Ok(Passed { used: 20, went: Message
 C 0000000f0000000800000003000000022f6101 = Ok(Passed { used: 19, went: Message })
 S 00000010000000060000000000000005ffffff9b = Err(Fault { side: Server, frame: 2, offset: 64, place: 0, reason: XidOrder { expected: 8, got: 6 } }) waiting 1";
 
-/// So does each step of a passage that is seen late; anew, it begins with the connect request.
+/// Each step of a passage that is seen late returns what its row says; begun anew, its first message is the connect request.
 fn joins(rt: &impl Abort, alloc: Global, rows: &str) -> Result<(), Fail> {
     let limits = Limits::new(4_194_304, 4_194_304, 65_536).ok_or("no limits")?;
     let mut through = Through::join(alloc, limits)?;

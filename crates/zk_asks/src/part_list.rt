@@ -73,7 +73,7 @@ fn record_in<'a>(payload: &'a [u8], place: usize, op: PartOp) -> (PartRef<'a>, u
     part_rows!(row, op)
 }
 
-/// The place after the record that is known to be at `place`, of a part of the operation `op`. No record is made.
+/// The place that `record_in` returns. No record is made, which costs less where only parts are passed over.
 fn record_end(payload: &[u8], place: usize, op: PartOp) -> usize
     requires place { place ≤ length payload.now }
     requires known { OneStands (part_row op).wired.items payload.now place }

@@ -24,7 +24,7 @@ pub trait Member: Drop {
     /// The mark of each value.
     ghost mark: { Self → Self.Mark };
 
-    /// The mark of the value that is known to be at `place` of `payload`, and the place after it. The value isn't made.
+    /// The mark of the value that is known to be at `place` of `payload`, and the place after it.
     fn pass(payload: &[u8], place: usize) -> (Self::Mark, usize)
         requires place { place ≤ length payload.now }
         requires known { OneStands items payload.now place }
