@@ -75,10 +75,12 @@ def syncs(paths):
             + making.pieces(b"S", b"".join(making.frame(making.reply(1, path)) for path in told)))
 
 
-def children(names, replies=REPLIES):
-    """Requests for getChildren, whose replies have these names, given as their bytes, and each its length before it."""
+def children(names, replies=REPLIES, size=making.LARGEST_READ):
+    """Requests for getChildren, whose replies have these names, given as their bytes, and each its length before it. They
+    come in pieces of this size."""
     listed = struct.pack(">i", len(names)) + b"".join(names)
-    return making.HEAD + making.CONNECT + replies * exchange(making.GET_CHILDREN, making.text("/a") + b"\0", listed)
+    return (making.HEAD + making.CONNECT
+            + replies * exchange(making.GET_CHILDREN, making.text("/a") + b"\0", listed, size))
 
 
 def names(form, others=None, chosen=lambda number: False):

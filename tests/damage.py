@@ -14,8 +14,8 @@ The program is crates/zkdump/out/zkdump if none is named. For each conversation
 - lengths: with each length and count replaced by 7fffffff, 80000000 and fffffffe it is refused or cut, within 64 MB of
   address space.
 
-And once: ping (a ping and its reply, cut in two in 273 ways), and limit (data of 4,194,216 bytes, and a length of
-4,194,305). It prints what differs, the greatest memory of a run, and one last line. The status is 0 if nothing differs.
+And once: ping (a ping and its reply, cut in two in 273 ways), limit (data of 4,194,216 bytes, and a length of
+4,194,305), and long (frames of more than a read, in pieces of several sizes, which end at several places). It prints what differs, the greatest memory of a run, and one last line. The status is 0 if nothing differs.
 """
 
 import argparse
@@ -35,6 +35,7 @@ LENGTHS = ("7fffffff", "80000000", "fffffffe")
 SMALL = 1_100  # bytes of a recording of captures/ that is small
 MOST_SPACE = 65_536  # kilobytes of address space where a length is replaced
 LIMIT = 4_194_304
+LONG_PIECES = (16_777_216, 200_000, 65_536, 40_000, 32_768, 32_767, 1_460)  # bytes of the pieces of long frames
 
 
 # ---- conversations, by counting and by the tables of docs/FORMATS.md
@@ -287,6 +288,37 @@ class Tests:
                   b". refused side=S frame=1 offset=45 place=0 reason=LengthRange")
 
 
+    def try_long(self):
+        """A request and a reply that are longer than what is read at once, each with a piece of the other side in its
+        midst. They end whole, and near the end of each piece."""
+        def framed(*parts):
+            return struct.pack(">i", sum(map(len, parts))) + b"".join(parts)
+
+        def blob(data):
+            return struct.pack(">i", len(data)) + data
+
+        asked = framed(struct.pack(">ii", 1, 5), blob(b"/a"), blob(bytes(150_000)), struct.pack(">i", -1))
+        done = framed(struct.pack(">iqi", 1, 5, 0), bytes(SIZES["S"]))
+        wanted = framed(struct.pack(">ii", 2, 4), blob(b"/a"), b"\0")
+        given = framed(struct.pack(">iqi", 2, 5, 0), blob(bytes(200_000)), bytes(SIZES["S"]))
+        event = framed(struct.pack(">iqi", -1, -1, 0), struct.pack(">ii", 3, 3), blob(b"/a"))
+        ping = framed(struct.pack(">ii", -2, 11))
+        for size in LONG_PIECES:
+            def cut(side, data):
+                return [(side, data[at:at + size]) for at in range(0, len(data), size)]
+
+            fed = [*self.pieces, *cut(b"C", asked[:90_000]), (b"S", event[:9]), *cut(b"C", asked[90_000:]),
+                   (b"S", event[9:] + done), (b"C", wanted), *cut(b"S", given[:130_000]), (b"C", ping),
+                   *cut(b"S", given[130_000:])]
+            ends, total = {0, 3, 4}, 0
+            for _, data in fed:
+                total += len(data)
+                ends |= {total - 1, total, total + 1}
+            for end in sorted(ends) if size > 1_460 else (total - 1, total):
+                part = prefix(fed, end)
+                self.ends(f"{end} bytes of long frames in pieces of {size}", part, ending(part))
+
+
 def conversations():
     """The worked examples and the small recordings whose recording isn't damaged, each once."""
     seen = set()
@@ -310,14 +342,14 @@ def main():
     parser = argparse.ArgumentParser(description="Damaged input, over the proved program.")
     parser.add_argument("program", nargs="?", default=str(BUILT))
     parser.add_argument("--jobs", type=int, default=os.cpu_count() or 1)
-    parser.add_argument("--only", choices=("prefixes", "cuts", "bytes", "lengths", "ping", "limit"))
+    parser.add_argument("--only", choices=("prefixes", "cuts", "bytes", "lengths", "ping", "limit", "long"))
     options = parser.parse_args()
     if not os.access(options.program, os.X_OK):
         parser.error(f"{options.program} is not a program: build it with ./zkdump")
     every = list(conversations())
     base = next(one for one in every if one[0] == "connect_answered")
     tasks = [(options.program, kind, one) for kind in ("bytes", "prefixes", "cuts", "lengths") for one in every]
-    tasks += [(options.program, kind, base) for kind in ("ping", "limit")]
+    tasks += [(options.program, kind, base) for kind in ("ping", "limit", "long")]
     passed, failures, peak = 0, [], 0
     with concurrent.futures.ProcessPoolExecutor(options.jobs) as pool:
         chosen = [task for task in tasks if options.only in (None, task[1])]

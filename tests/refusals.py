@@ -7,7 +7,8 @@ tests/refuse.c, which a C compiler makes a library of, takes the place of the C 
 alone a program allocates, and refuses the Nth call of a run. For each stored case (crates/zkdump/cases) and N counting
 up from 1 until a run meets no refusal
 
-- show, check, build, migrate: over the stored cases, and `build` over the listings of those of show, too, the run does
+- show, check, build, migrate: over the stored cases, `build` over the listings of those of show, too, and `check` over a
+  list that is longer than what is read at once, in long pieces and in short ones, the run does
   the same as with ample memory; or it ends with status 3, `zkdump: out of memory` on standard error, and a prefix of
   the output that it has with ample memory;
 - calls: over the recordings of the first format that check is stored with, a test of the library
@@ -138,6 +139,9 @@ def runs():
         words = ["build", *args.read_text().splitlines()[1:]]
         if content(args.with_suffix(".out")):
             yield "build", f"show/{args.stem}", words, content(args.with_suffix(".out"))
+    names = costs_inputs.names("member-%010d")
+    yield "check", "a long list", ["check"], costs_inputs.children(names, 2)
+    yield "check", "a long list in short pieces", ["check"], costs_inputs.children(names, 2, 1_460)
     for args in sorted((CASES / "check").glob("*.args")):
         if content(args.with_suffix(".in")).startswith(b"ZKR1"):
             yield "calls", args.stem, [CALLS], content(args.with_suffix(".in"))

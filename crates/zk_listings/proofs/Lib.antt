@@ -6,7 +6,10 @@ pub mod Stops
 pub mod Steps
 pub mod Pieces
 pub mod Found
+pub mod Gathering
+pub mod Runs
 pub mod Opened
+pub mod Reached
 pub mod Stopped
 pub mod Decided
 pub mod Lasting

@@ -14,7 +14,7 @@ use Rattle.zk_recordings.proofs.Any.{longer}
 use Rattle.zk_listings.proofs.Talking.{has-good}
 
 -- what comes to something begins with its messages
-opens-decided : (limits : Limits) (x : List ℕ) (messages : List Message) (talk : Option TalkState) (summary : Summary) → Decides limits x messages talk summary → Opens limits x messages
+pub opens-decided : (limits : Limits) (x : List ℕ) (messages : List Message) (talk : Option TalkState) (summary : Summary) → Decides limits x messages talk summary → Opens limits x messages
 opens-decided limits x messages talk (Ended (Refused fault)) d =
     let m = d.is.messages_are in
     record {

@@ -54,7 +54,7 @@ goes-headed r new used side (ends head pieces piece p n b h) is = record {
   limits_are = λ options. ap (limits_of options) n ∙ ap (limits_at options) (sym p);
 }
 
-none-some : {A : Type 0} (x : A) (B : Type 0) → Some x ≡ None → B
+pub none-some : {A : Type 0} (x : A) (B : Type 0) → Some x ≡ None → B
 none-some x B e = cc
 
 pub goes-content : (r new : Recording) (used : List ℕ) (side : Side) → GoesOn r used (Some side) new → IsHeaded (place_of new)
@@ -64,7 +64,7 @@ goes-content r new used side (ends head pieces piece p n b h) = subst (λ z. IsH
 
 -- ---- the talk
 
-headed-by : (talk : Option TalkState) (place : Place) → IsHeaded place → IsHeadedBy talk place
+pub headed-by : (talk : Option TalkState) (place : Place) → IsHeaded place → IsHeadedBy talk place
 headed-by None place is = tt
 headed-by (Some talk) place is = is
 

@@ -1,8 +1,14 @@
 //! `show_run`, `check_run`: the engines that read a recording and write its listing, or its last line.
-ghost use Rattle.std.specs.Prelude.{◌≡◌, ◌+◌, ◌^◌, ◌<◌, ◌≤◌, false, true, IfOk, OnErr, IsErrOf};
+ghost use Rattle.std.specs.Prelude.{◌≡◌, ◌≢◌, ◌+◌, ◌^◌, ◌<◌, ◌≤◌, ℕ, List, [], false, true, None, Err, length, IfOk, OnErr, IsErrOf};
+ghost use Rattle.std.specs.Io.KnownBytes.{Consumes, IsAtEnd, Keeps};
+ghost use Rattle.zk_recordings.specs.Reading.{place_in};
+ghost use Rattle.zk_listings.specs.declared.listing.RunFault.TheVariants.{Write};
+ghost use Rattle.zk_listings.specs.Gathering.{HasTaken};
 ghost use Rattle.zk_listings.specs.declared.listing.Listing.TheVariants.{All, Last};
 ghost use Rattle.zk_listings.specs.Running.{IsSpent, OnRead, HasFoundWith, HasBegunLines, HasListed, HasReached, HasStopped};
 
+use crate::gather::NextRead;
+use crate::gathered::Gathered;
 use crate::listing::{Listing, RunFault};
 use crate::progress::Progress;
 use crate::streams::{Sink, Source, write_whole};
@@ -16,8 +22,54 @@ pub const MOST_READS: u64 = 4_294_967_296;
 /// How many bytes a run reads at once, at most.
 pub const BLOCK: usize = 65_536;
 
+/// Reads once, takes what came, and appends the lines of its messages. Returns the number of bytes, 0 only at the end, and the
+/// recording's summary if it is known, whatever follows.
+fn read_once<R: Source>(
+    progress: &mut Progress,
+    reader: &mut R,
+    gathered: &mut Gathered,
+    buf: &mut [u8],
+    listing: Listing,
+    lines: &mut Vec<u8>,
+) -> Result<(usize, Option<Summary>), RunFault>
+    requires block { length buf.old ≡ 65536 }
+    requires reader { R.has_failed reader.old ≡ false }
+    requires reads { R.read_count reader.old < 2 ^ 63 }
+    requires room { place_in progress.old.reader + 65536 < 2 ^ 64 }
+    requires listed { listing ≡ All → gathered.old.bytes ≡ [] }
+    ensures block { length buf.new ≡ 65536 }
+    ensures most { IfOk result (λ t. t.0 ≤ 65536) }
+    ensures place { IfOk result (λ t. t.1 ≡ None → place_in progress.new.reader ≤ place_in progress.old.reader + t.0) }
+    ensures listed { IfOk result (λ t. listing ≡ All → gathered.new.bytes ≡ []) }
+    ensures has { IfOk result (λ t. HasTaken listing R.remaining reader.old reader.new gathered.old progress.old lines.old t gathered.new progress.new lines.new) }
+    ensures end { IfOk result (λ t. t.0 ≡ 0 → IsAtEnd (R.remaining reader.new)) }
+    ensures counted { IfOk result (λ t. R.read_count reader.new ≡ R.read_count reader.old + 1) }
+    ensures live { IfOk result (λ t. R.has_failed reader.new ≡ false) }
+    ensures read { IsErrOf result RunFault.Read → Keeps (R.remaining reader.old) (R.remaining reader.new) }
+    ensures failed { IsErrOf result RunFault.Read → R.has_failed reader.new ≡ true }
+    ensures memory { IsErrOf result RunFault.Memory → R.has_failed reader.new ≡ false }
+    ensures begun { OnErr result ((bytes : List ℕ) × Consumes (R.remaining reader.old) (R.remaining reader.new) bytes) }
+    ensures no_write { result ≢ Err Write }
+    ensures bound { R.read_count reader.new ≤ R.read_count reader.old + 1 }
+{
+    match progress.next_read(gathered) {
+        NextRead::Block(most) => {
+            let Ok(count) = reader.read(&mut buf[..most]) else {
+                return Err(RunFault::Read);
+            };
+            let found = progress.feed(&buf[..count], listing, gathered, lines)?;
+            Ok((count, found))
+        }
+        NextRead::Content(most) => {
+            let count = gathered.read(reader, most, buf)?;
+            Ok((count, progress.take_read(gathered, count)))
+        }
+    }
+}
+
 /// Reads until the recording's summary is known, whatever follows, or to the end, and writes the lines of its messages:
 /// those of each read before the next one. One buffer holds them, as long as the run.
+// If no line is listed, the bytes of a long frame wait in `gathered`.
 pub(crate) fn read_on<R: Source, W: Sink>(
     alloc: Global,
     limits: Limits,
@@ -40,20 +92,28 @@ pub(crate) fn read_on<R: Source, W: Sink>(
     ensures bound { R.read_count reader.new ≤ R.read_count reader.old + 4294967296 }
 {
     let mut progress = Progress::new(alloc, limits);
+    let mut gathered = Gathered::new(alloc);
     let mut lines = Vec::new(alloc);
     let mut buf = [0; BLOCK];
     for _turn in 0..MOST_READS {
-        let Ok(count) = reader.read(&mut buf) else {
-            return Err(RunFault::Read);
-        };
-        if count == 0 {
-            return Ok((progress.finish(), progress));
-        }
-        let found = progress.feed(&buf[..count], listing, &mut lines)?;
+        let (count, found) = read_once(
+            &mut progress,
+            reader,
+            &mut gathered,
+            &mut buf,
+            listing,
+            &mut lines,
+        )?;
         write_whole(writer, lines.as_slice())?;
         lines.clear();
         if let Some(summary) = found {
             return Ok((summary, progress));
+        }
+        if count == 0 {
+            if let Some(summary) = progress.give_up(&mut gathered) {
+                return Ok((summary, progress));
+            }
+            return Ok((progress.finish(), progress));
         }
     }
     Err(RunFault::Read)

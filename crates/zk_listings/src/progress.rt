@@ -1,5 +1,5 @@
 //! `Progress`: a recording that is read block by block, and the conversation in it.
-ghost use Rattle.std.specs.Prelude.{◌≡◌, ◌≢◌, ◌+◌, ◌^◌, ◌<◌, ◌≤◌, ℕ, List, [], Some, None, IfOk, IfSome, length, take, drop};
+ghost use Rattle.std.specs.Prelude.{◌≡◌, ◌≢◌, ◌+◌, ◌^◌, ◌<◌, ◌≤◌, ◌++◌, ℕ, List, [], Some, None, IfOk, IfSome, length, take, drop};
 ghost use Rattle.zk_talk.specs.Held.{Message};
 ghost use Rattle.zk_talk.specs.Ending.{IsEnding};
 ghost use Rattle.zk_talk.specs.History.{History, on};
@@ -9,8 +9,10 @@ ghost use Rattle.zk_answers.specs.declared.layout.Layout.TheVariants as layouts;
 ghost use Rattle.zk_listings.specs.declared.listing.Listing.TheVariants.{All, Last};
 ghost use Rattle.zk_listings.specs.Earliest.{TellsBody};
 ghost use Rattle.zk_recordings.specs.Reading.{content_of, place_in};
-ghost use Rattle.zk_listings.specs.Following.{Follows, Finishes, HasRefused, Takes, TakesTo, TakesContent, Has, Advances, Steps};
+ghost use Rattle.zk_listings.specs.Following.{Follows, Finishes, HasRefused, Takes, TakesTo, TakesContent, Has, Steps};
+ghost use Rattle.zk_listings.specs.Gathering.{AdvancesBut, StepsBut};
 
+use crate::gathered::Gathered;
 use crate::listing::{Listing, tell};
 use crate::summary::Summary;
 use std::alloc::{AllocError, Global};
@@ -45,7 +47,7 @@ fn pass_all(talk: &mut Talk, side: Side, bytes: &[u8]) -> Option<Fault>
 
 /// `pass_all`.
 // A loop of its own for each side: a test of the side for each frame is 1 to 2% of the instructions of `check`.
-fn judge(talk: &mut Talk, side: Side, bytes: &[u8]) -> Option<Fault>
+pub(crate) fn judge(talk: &mut Talk, side: Side, bytes: &[u8]) -> Option<Fault>
     ensures limits { talk.new.limits ≡ talk.old.limits }
     ensures taken { (lines : List ℕ) → Takes Last talk.old lines (on side bytes.now) result talk.new lines }
 {
@@ -185,10 +187,10 @@ fn take_content(
 pub(crate) struct Progress {
     alloc: Global,
     /// The limits of a recording that has none.
-    limits: Limits,
-    reader: RecordingReader,
+    pub(crate) limits: Limits,
+    pub(crate) reader: RecordingReader,
     /// The conversation, from the first byte of content on.
-    talk: Option<Talk>,
+    pub(crate) talk: Option<Talk>,
 }
 
 impl Progress {
@@ -243,31 +245,40 @@ impl Progress {
     }
 
     /// `advance`; a piece that is whole at the front of the block is taken at once, head and content, if the conversation
-    /// has begun.
+    /// has begun. If no line is listed, long frames are gathered then.
     // Stands for two calls of `advance` there, which take the head and the content.
     #[inline(always)]
     fn advance_far(
         &mut self,
         block: &[u8],
         listing: Listing,
+        gathered: &mut Gathered,
         lines: &mut Vec<u8>,
         found: &mut Option<Summary>,
     ) -> Result<usize, AllocError>
         requires none { found.old ≡ None }
         requires some { 0 < length block.now }
         requires room { place_in self.old.reader + length block.now < 2 ^ 64 }
+        requires listed { listing ≡ All → gathered.old.bytes ≡ [] }
         ensures within { IfOk result (λ used. (0 < used) × (used ≤ length block.now)) }
         ensures place { IfOk result (λ used. place_in self.new.reader ≤ place_in self.old.reader + used) }
-        ensures steps { IfOk result (λ used. Steps listing self.old lines.old.items block.now used found.new self.new lines.new.items) }
+        ensures listed { IfOk result (λ _. listing ≡ All → gathered.new.bytes ≡ []) }
+        ensures steps { IfOk result (λ used. StepsBut gathered.old listing self.old lines.old.items block.now used found.new gathered.new self.new lines.new.items) }
     {
-        if let Some(talk) = &mut self.talk {
+        let Some(talk) = &mut self.talk else {
+            return self.advance(block, listing, lines, found);
+        };
+        if gathered.is_empty() {
             if let Some(piece) = self.reader.next_piece(block) {
                 let content = &block[piece.head..piece.used];
                 take_piece(talk, piece.side, content, listing, lines, found)?;
                 return Ok(piece.used);
             }
         }
-        self.advance(block, listing, lines, found)
+        match listing {
+            Listing::All => self.advance(block, listing, lines, found),
+            Listing::Last => self.advance_gathering(block, gathered, found),
+        }
     }
 
     /// Takes a block, and appends the lines of its messages. Returns the recording's summary if it is known, whatever follows.
@@ -275,16 +286,19 @@ impl Progress {
         &mut self,
         block: &[u8],
         listing: Listing,
+        gathered: &mut Gathered,
         lines: &mut Vec<u8>,
     ) -> Result<Option<Summary>, AllocError>
         requires room { place_in self.old.reader + length block.now < 2 ^ 64 }
+        requires listed { listing ≡ All → gathered.old.bytes ≡ [] }
         ensures place { IfOk result (λ found. found ≡ None → place_in self.new.reader ≤ place_in self.old.reader + length block.now) }
-        ensures advances { IfOk result (λ found. Advances listing self.old lines.old.items block.now found self.new lines.new.items) }
+        ensures listed { IfOk result (λ _. listing ≡ All → gathered.new.bytes ≡ []) }
+        ensures advances { IfOk result (λ found. AdvancesBut gathered.old listing self.old lines.old.items block.now found gathered.new self.new lines.new.items) }
     {
         let mut at = 0;
         let mut found = None;
         while at < block.len() {
-            at += self.advance_far(rest(block, at), listing, lines, &mut found)?;
+            at += self.advance_far(rest(block, at), listing, gathered, lines, &mut found)?;
             if let Some(summary) = found {
                 return Ok(Some(summary));
             }

@@ -1,6 +1,7 @@
 pub mod Lists
 pub mod Walks
 pub mod Stages
+pub mod Contents
 pub mod Accepts
 pub mod Passing
 pub mod Whole

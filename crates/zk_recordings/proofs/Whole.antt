@@ -59,7 +59,7 @@ module _ (s : ReaderState) (bytes : List ℕ) (stage : s.stage ≡ Fixed SideByt
       let head : HasHead s w.head = subst (λ q. HasHeadAt s (place_of q)) same i.has in
       ((w.head, w.pieces, same), ap (λ q. format_at (place_of q)) same ∙ ap Some (sym head.format_is))
 
-  is-undamaged : IsUndamaged s
+  pub is-undamaged : IsUndamaged s
   is-undamaged x r d i = undamaged-by r x d (subst MayGoOn (sym (fixed-here x r i).part_at.is) tt)
 
 module _ (s : ReaderState) (got : ℕ) (stage : s.stage ≡ Content got) where
@@ -69,7 +69,7 @@ module _ (s : ReaderState) (got : ℕ) (stage : s.stage ≡ Content got) where
       let e = sym c.is ∙ b.2 in
       cc
 
-  never-damaged : IsUndamaged s
+  pub never-damaged : IsUndamaged s
   never-damaged x r d i = undamaged-by r x d (subst MayGoOn (sym (subst (λ q. AtStage s q x r) stage i.stands).is) tt)
 
 -- ---- both steps

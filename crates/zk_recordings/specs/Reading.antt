@@ -197,6 +197,20 @@ IsBetweenOf s format = (x : List ℕ) (r : Recording) → IsAt s x r → IsBetwe
 abbrev pub IsNeverBetween : ReaderState → Type 0
 IsNeverBetween s = (x : List ℕ) (r : Recording) → IsAt s x r → IsBetween r → ⊥
 
+-- the reader is within a content of this side, of which this many bytes are to come; or within none
+pub record IsInContent (s : ReaderState) (side : Side) (left : ℕ) : Type 0 where
+  pub got : ℕ
+  pub stage : s.stage ≡ Content got
+  pub side_is : s.side ≡ side
+  pub size_is : got + left ≡ s.size
+
+abbrev pub IsInNoContent : ReaderState → Type 0
+IsInNoContent s = (got : ℕ) → s.stage ≡ Content got → ⊥
+
+-- whatever was read before, these bytes are content of the side, and this is the state after them
+abbrev pub ReadsContent : ReaderState → Side → List ℕ → ReaderState → Type 0
+ReadsContent old side bytes new = (x : List ℕ) (r : Recording) → IsAt old x r → ReadsOn new x r bytes (Some side)
+
 -- what was read has this damage, whatever follows; or it has none
 abbrev pub IsDamagedBy : ReaderState → DamageAt → Type 0
 IsDamagedBy s d = (x : List ℕ) (r : Recording) → IsAt s x r → IsDecidedBy d x r

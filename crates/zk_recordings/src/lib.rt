@@ -6,7 +6,8 @@
 //!
 //! `RecordingReader::next` is the main call: it takes the first bytes of a block of any size and returns how many it
 //! took, and the side whose content they are, if they are content. `next_piece` takes a piece at once, head and content,
-//! if a block begins with it whole, as two calls of `next` would. `limits` returns the limits of the head, `damage` the
+//! if a block begins with it whole, as two calls of `next` would. Within a content, `content` says how many bytes are to
+//! come, and `take_content` takes bytes that lie elsewhere. `limits` returns the limits of the head, `damage` the
 //! first damage, `finish` the damage of a recording that ends here. Any bytes are one recording, which may be damaged.
 //!
 //! Nothing is allocated. The crate rests on `zk_talk` for sides and limits, and on `zk_records` for profiles.
@@ -27,6 +28,7 @@
 //! the damage.
 #![tactic(auto)]
 
+mod content;
 mod heads;
 mod parts;
 mod recording;

@@ -26,7 +26,7 @@ pub struct Run {
 
 /// What the reader is in: a part, a content, or what comes after a damage.
 #[derive(Clone, Copy)]
-enum Stage {
+pub(crate) enum Stage {
     Fixed {
         part: Part,
         bytes: Bytes,
@@ -40,24 +40,24 @@ enum Stage {
 
 /// Where in a recording the reader is, and what it has read of the head and of the piece.
 #[derive(Clone, Copy)]
-struct State {
+pub(crate) struct State {
     /// The place of the part or content that the reader is in.
     at: u64,
-    stage: Stage,
+    pub(crate) stage: Stage,
     format: Format,
     client: u32,
     server: u32,
     waiting: u32,
     /// The limits of the head, if it is whole and has them.
     limits: Option<Limits>,
-    side: Side,
-    size: u32,
+    pub(crate) side: Side,
+    pub(crate) size: u32,
 }
 
 /// Reads a recording that comes in blocks of any size.
 #[derive(Drop)]
 pub struct RecordingReader {
-    state: State,
+    pub(crate) state: State,
 }
 
 impl Model for RecordingReader {
@@ -242,7 +242,7 @@ impl State {
 
     /// Within a content: takes some of it, so that `got` bytes of it have come.
     #[inline(always)]
-    fn grow(&mut self, got: u32)
+    pub(crate) fn grow(&mut self, got: u32)
         ensures { state_of self.new ≡ record (state_of self.old) { stage = Content got } }
     {
         self.stage = Stage::Content { got };
@@ -250,7 +250,7 @@ impl State {
 
     /// Within a content: takes the last of it.
     #[inline(always)]
-    fn end_piece(&mut self)
+    pub(crate) fn end_piece(&mut self)
         requires { self.old.at + self.old.size < 2 ^ 64 }
         ensures { state_of self.new ≡ then_at (state_of self.old) SideByte self.old.size }
     {

@@ -1,74 +1,125 @@
-use Rattle.std.proofs.Common.{arith, ◌∙◌, ◌++◌, false, true, refl, length-take, ap, ◌||◌, inl, inr, subst}
-use Rattle.std.specs.Io.KnownBytes.{Appends}
+use Rattle.std.proofs.Common.{arith, ◌+◌, ◌<◌, ◌^◌, ◌++◌, ℕ, [], Result, Ok, Err, IsErrOf, refl, sym, ap, length, length-append, subst, append-nil}
+use Rattle.std.specs.Io.KnownBytes.{Appends, Consumes}
 use Rattle.std.proofs.lemmas.Result.{err_from_is_err_and}
+use Rattle.zk_listings.specs.Gathering.{ReachesBut}
 use Rattle.zk_listings.specs.Outcome.{HasGrownIn}
-use Rattle.zk_listings.specs.Following.{Reaches}
-use Rattle.zk_listings.proofs.Bytes.{Consumes-then, Consumes-kept}
-use Rattle.zk_listings.proofs.Feeding.{told-then, grown-then, grown-whole}
-use Rattle.zk_listings.proofs.Found.{found-at_end, found-decided, begun-by, running, running-begun, appended}
-use Rattle.zk_listings.proofs.Opened.{opens-later, opens-reached}
+use Rattle.zk_listings.proofs.Bytes.{Appends-none, Consumes-kept, Consumes-none, Consumes-then}
+use Rattle.zk_listings.proofs.Feeding.{told-then, grown-then}
+use Rattle.zk_listings.proofs.Found.{found-at_end, found-decided, begun-by, appended}
+use Rattle.zk_listings.proofs.Gathering.{but-follows}
+use Rattle.zk_listings.proofs.Runs.{given-up}
+use Rattle.zk_listings.proofs.Reached.{begun-but, begun-more, opens-reached-but, reached-but}
 use Rattle.zk_listings.proofs.engines.read_on.Goals as goal
 
-pub returns-in_default-clause-read : goal.returns-in_default-clause-read
-returns-in_default-clause-read g c = λ _.
-    let i = c.loop-turn.invariant.read in
-    record { messages = i.1; running = running c.args.limits _ _ i.0 i.1 _ (Consumes-kept _ _ _ i.0 i.2 c.in_default.ensures.bytes) i.3; written = i.4 }
+fault-in : {X E : Type 0} → E → Result X E → E
+fault-in e (Ok x) = e
+fault-in e (Err f) = f
 
-pub returns-in_default-clause-spent : goal.returns-in_default-clause-spent
-returns-in_default-clause-spent g c = λ _. inl (c.in_default.ensures.failed ∙ ap (λ b. b || true) c.loop-turn.invariant.live)
+-- the same fault of another result
+same-fault : {X Y E : Type 0} (e f : E) → IsErrOf {T = X} {E = E} (Err e) f → IsErrOf {T = Y} {E = E} (Err e) f
+unfolding fault-in
+same-fault e f is = ap Err (ap (fault-in f) is)
 
-pub returns-in_default-clause-begun : goal.returns-in_default-clause-begun
-returns-in_default-clause-begun g c =
-    let i = c.loop-turn.invariant.read in
-    record {
-      messages = i.1;
-      begun = running-begun c.args.limits _ _ i.1 (running c.args.limits _ _ i.0 i.1 _ (Consumes-kept _ _ _ i.0 i.2 c.in_default.ensures.bytes) i.3);
-      written = grown-whole _ _ _ i.4;
-    }
-
-pub returns-then-count-eq0-clause-ok : goal.returns-then-count-eq0-clause-ok
-returns-then-count-eq0-clause-ok g c =
-    let i = c.loop-turn.invariant.read in
-    let r = c.in-Ok.ensures.bytes in
-    let f = found-at_end c.args.limits _ _ _ i.0 _ i.1 _ c.finish.result i.2 r.0 (rw c.if-count-eq0.true refl)
-    (r.1 c.if-count-eq0.true (omega (arith, c.read.auto.buf, c.loop-turn.invariant.block)))
-    (c.finish.ensures c.args.limits i.0 i.1 i.3) in
-    record { all = record { messages = i.1; found = f.found; written = i.4 }; kept = f.kept }
-
-pub returns-in_err-found-clause-begun : goal.returns-in_err-found-clause-begun
-returns-in_err-found-clause-begun g c =
+pub returns-in_err-count-clause-read : goal.returns-in_err-count-clause-read
+returns-in_err-count-clause-read g c =
     let p = err_from_is_err_and c.from_residual.result c.from_residual.ensures.1 in
     let i = c.loop-turn.invariant.read in
-    rw p.1 (record {
-      messages = i.1;
-      begun = begun-by c.args.limits _ _ _ i.1 (Consumes-then _ _ _ i.0 _ i.2 c.in-Ok.ensures.bytes.0) (opens-later c.args.limits i.0 _ i.1 _ i.3);
-      written = grown-whole _ _ _ i.4;
-    })
+    let size : length i.0 < 2 ^ 62 = omega (arith, i.4, c.loop-turn-test.true) in
+    rw (p.1, p.2) (λ is. reached-but c.loop-turn.gathered c.args.limits i.0 i.1 c.loop-turn.progress i.3 size c.args.listing _ _ _ _ (Consumes-kept _ _ _ i.0 i.2 (c.in_err-count.ensures.read (same-fault _ _ is))) i.5)
+
+pub returns-in_err-count-clause-begun : goal.returns-in_err-count-clause-begun
+returns-in_err-count-clause-begun g c =
+    let p = err_from_is_err_and c.from_residual.result c.from_residual.ensures.1 in
+    let i = c.loop-turn.invariant.read in
+    let size : length i.0 < 2 ^ 62 = omega (arith, i.4, c.loop-turn-test.true) in
+    let b = c.in_err-count.ensures.begun in
+    rw p.1 (begun-more c.loop-turn.gathered c.args.limits i.0 i.1 c.loop-turn.progress i.3 size c.args.listing _ _ _ _ b.0 (Consumes-then _ _ _ i.0 b.0 i.2 b.1) i.5)
 
 pub returns-in_err-write_whole-clause-begun : goal.returns-in_err-write_whole-clause-begun
 returns-in_err-write_whole-clause-begun g c =
     let p = err_from_is_err_and c.from_residual-in_err-write_whole.result c.from_residual-in_err-write_whole.ensures.1 in
     let i = c.loop-turn.invariant.read in
-    let a = c.in_ok-found.ensures.advances c.args.limits i.0 i.1 i.3 in
+    let t = c.in_ok-count.ensures.has in
+    let size : length i.0 + length t.0 < 2 ^ 62 = omega (arith, i.4, t.1, c.in_ok-count.ensures.most, c.loop-turn-test.true) in
+    let all : length (i.0 ++ t.0) < 2 ^ 62 = omega (arith, size, length-append i.0 t.0) in
+    let a = t.3 c.args.limits i.0 i.1 i.3 size in
     let text = appended _ _ _ _ c.as_slice.ensures.value a.2 c.loop-turn.invariant.empty in
     rw p.1 (record {
       messages = i.1 ++ a.0;
-      begun = begun-by c.args.limits _ _ _ (i.1 ++ a.0) (Consumes-then _ _ _ i.0 _ i.2 c.in-Ok.ensures.bytes.0) (opens-reached c.args.limits _ _ _ _ a.1);
-      written = grown-then c.args.listing _ _ _ i.1 a.0 i.4 (subst (HasGrownIn (g.W.Sink.contents c.loop-turn.writer) (g.W.Sink.contents c.write_whole.new.writer)) text c.in_err-write_whole.ensures.err);
+      begun = begun-by c.args.limits _ _ _ (i.1 ++ a.0) (Consumes-then _ _ _ i.0 t.0 i.2 t.2) (opens-reached-but c.read_once.new.gathered c.args.limits _ _ c.read_once.new.progress _ all a.1);
+      written = grown-then c.args.listing _ _ _ i.1 a.0 i.5 (subst (HasGrownIn (g.W.Sink.contents c.loop-turn.writer) (g.W.Sink.contents c.write_whole.new.writer)) text c.in_err-write_whole.ensures.err);
     })
 
 pub returns-in-Some-clause-ok : goal.returns-in-Some-clause-ok
 returns-in-Some-clause-ok g c =
     let i = c.loop-turn.invariant.read in
-    let a = c.in_ok-found.ensures.advances c.args.limits i.0 i.1 i.3 in
+    let t = c.in_ok-count.ensures.has in
+    let size : length i.0 + length t.0 < 2 ^ 62 = omega (arith, i.4, t.1, c.in_ok-count.ensures.most, c.loop-turn-test.true) in
+    let a = t.3 c.args.limits i.0 i.1 i.3 size in
     let text = appended _ _ _ _ c.as_slice.ensures.value a.2 c.loop-turn.invariant.empty in
-    let f = found-decided c.args.limits _ _ _ (i.1 ++ a.0) c.feed.new.self.talk c.in-Some.summary (Consumes-then _ _ _ i.0 _ i.2 c.in-Ok.ensures.bytes.0)
-    (subst (Reaches c.args.limits _ (i.1 ++ a.0) c.feed.new.self) c.in-Some.is a.1) in
+    let f = found-decided c.args.limits _ _ _ (i.1 ++ a.0) c.read_once.new.progress.talk c.in-Some.summary (Consumes-then _ _ _ i.0 t.0 i.2 t.2)
+    (subst (ReachesBut c.read_once.new.gathered c.args.limits _ (i.1 ++ a.0) c.read_once.new.progress) c.in-Some.is a.1) in
     record {
       all = record {
         messages = i.1 ++ a.0;
         found = f.found;
-        written = told-then c.args.listing _ _ _ i.1 a.0 i.4 (subst (Appends (g.W.Sink.contents c.loop-turn.writer) (g.W.Sink.contents c.write_whole.new.writer)) text c.in_ok-write_whole.ensures.ok);
+        written = told-then c.args.listing _ _ _ i.1 a.0 i.5 (subst (Appends (g.W.Sink.contents c.loop-turn.writer) (g.W.Sink.contents c.write_whole.new.writer)) text c.in_ok-write_whole.ensures.ok);
+      };
+      kept = f.kept;
+    }
+
+pub returns-in-Some-give_up-clause-ok : goal.returns-in-Some-give_up-clause-ok
+returns-in-Some-give_up-clause-ok g c =
+    let i = c.loop-turn.invariant.read in
+    let t = c.in_ok-count.ensures.has in
+    let limits = c.args.limits in
+    let listing = c.args.listing in
+    let size : length i.0 + length t.0 < 2 ^ 62 = omega (arith, i.4, t.1, c.in_ok-count.ensures.most, c.loop-turn-test.true) in
+    let x = i.0 ++ t.0 in
+    let all : length x + length {A = ℕ} [] < 2 ^ 62 = omega (arith, size, length-append i.0 t.0) in
+    let a = t.3 limits i.0 i.1 i.3 size in
+    let text = appended _ _ _ _ c.as_slice.ensures.value a.2 c.loop-turn.invariant.empty in
+    let follows = subst (ReachesBut c.read_once.new.gathered limits x (i.1 ++ a.0) c.read_once.new.progress) c.in_default.is a.1 in
+    let gave = given-up c.read_once.new.gathered c.give_up.new.gathered listing c.read_once.new.progress c.give_up.new.self [] c.give_up.result c.in_ok-count.ensures.listed c.give_up.ensures.none c.give_up.ensures.empty (c.give_up.ensures.advances []) in
+    let b = gave limits x (i.1 ++ a.0) follows all in
+    let consumed = subst (Consumes (g.R.Source.remaining c.args.reader.now) (g.R.Source.remaining c.read_once.new.reader)) (sym (append-nil x)) (Consumes-then _ _ _ i.0 t.0 i.2 t.2) in
+    let f = found-decided limits _ _ _ ((i.1 ++ a.0) ++ b.0) c.give_up.new.self.talk c.in-Some-give_up.summary consumed
+    (subst (ReachesBut c.give_up.new.gathered limits (x ++ []) ((i.1 ++ a.0) ++ b.0) c.give_up.new.self) c.in-Some-give_up.is b.1) in
+    let told = told-then listing _ _ _ i.1 a.0 i.5 (subst (Appends (g.W.Sink.contents c.loop-turn.writer) (g.W.Sink.contents c.write_whole.new.writer)) text c.in_ok-write_whole.ensures.ok) in
+    record {
+      all = record {
+        messages = (i.1 ++ a.0) ++ b.0;
+        found = f.found;
+        written = told-then listing _ _ _ (i.1 ++ a.0) b.0 told (subst (Appends (g.W.Sink.contents c.write_whole.new.writer) (g.W.Sink.contents c.write_whole.new.writer)) b.2 (Appends-none _));
+      };
+      kept = f.kept;
+    }
+
+pub returns-then-count-eq0-clause-ok : goal.returns-then-count-eq0-clause-ok
+returns-then-count-eq0-clause-ok g c =
+    let i = c.loop-turn.invariant.read in
+    let t = c.in_ok-count.ensures.has in
+    let limits = c.args.limits in
+    let listing = c.args.listing in
+    let size : length i.0 + length t.0 < 2 ^ 62 = omega (arith, i.4, t.1, c.in_ok-count.ensures.most, c.loop-turn-test.true) in
+    let x = i.0 ++ t.0 in
+    let all : length x + length {A = ℕ} [] < 2 ^ 62 = omega (arith, size, length-append i.0 t.0) in
+    let a = t.3 limits i.0 i.1 i.3 size in
+    let text = appended _ _ _ _ c.as_slice.ensures.value a.2 c.loop-turn.invariant.empty in
+    let follows = subst (ReachesBut c.read_once.new.gathered limits x (i.1 ++ a.0) c.read_once.new.progress) c.in_default.is a.1 in
+    let gave = given-up c.read_once.new.gathered c.give_up.new.gathered listing c.read_once.new.progress c.give_up.new.self [] c.give_up.result c.in_ok-count.ensures.listed c.give_up.ensures.none c.give_up.ensures.empty (c.give_up.ensures.advances []) in
+    let b = gave limits x (i.1 ++ a.0) follows all in
+    let last = subst (ReachesBut c.give_up.new.gathered limits (x ++ []) ((i.1 ++ a.0) ++ b.0) c.give_up.new.self) c.in_default-give_up.is b.1 in
+    let whole = but-follows c.give_up.new.gathered limits (x ++ []) ((i.1 ++ a.0) ++ b.0) c.give_up.new.self c.give_up.ensures.empty last in
+    let consumed = subst (Consumes (g.R.Source.remaining c.args.reader.now) (g.R.Source.remaining c.read_once.new.reader)) (sym (append-nil x)) (Consumes-then _ _ _ i.0 t.0 i.2 t.2) in
+    let f = found-at_end limits _ _ _ (x ++ []) [] ((i.1 ++ a.0) ++ b.0) c.give_up.new.self.talk c.finish.result consumed (Consumes-none _) refl (c.in_ok-count.ensures.end c.if-count-eq0.true)
+    (c.finish.ensures limits (x ++ []) ((i.1 ++ a.0) ++ b.0) whole) in
+    let told = told-then listing _ _ _ i.1 a.0 i.5 (subst (Appends (g.W.Sink.contents c.loop-turn.writer) (g.W.Sink.contents c.write_whole.new.writer)) text c.in_ok-write_whole.ensures.ok) in
+    record {
+      all = record {
+        messages = (i.1 ++ a.0) ++ b.0;
+        found = f.found;
+        written = told-then listing _ _ _ (i.1 ++ a.0) b.0 told (subst (Appends (g.W.Sink.contents c.write_whole.new.writer) (g.W.Sink.contents c.write_whole.new.writer)) b.2 (Appends-none _));
       };
       kept = f.kept;
     }
@@ -76,33 +127,36 @@ returns-in-Some-clause-ok g c =
 pub loop-turn-preserved : goal.loop-turn-preserved
 loop-turn-preserved g c =
     let i = c.loop-turn.invariant.read in
-    let a = c.in_ok-found.ensures.advances c.args.limits i.0 i.1 i.3 in
+    let t = c.in_ok-count.ensures.has in
+    let size : length i.0 + length t.0 < 2 ^ 62 = omega (arith, i.4, t.1, c.in_ok-count.ensures.most, c.loop-turn-test.true) in
+    let a = t.3 c.args.limits i.0 i.1 i.3 size in
     let text = appended _ _ _ _ c.as_slice.ensures.value a.2 c.loop-turn.invariant.empty in
     record {
-      block = c.read.auto.buf ∙ c.loop-turn.invariant.block;
+      block = c.read_once.ensures.block;
       empty = c.clear.ensures.items;
-      live = c.in-Ok.ensures.failed ∙ ap (λ b. b || false) c.loop-turn.invariant.live;
+      live = c.in_ok-count.ensures.live;
       writer_live = c.in_ok-write_whole.ensures.failed;
-      count = omega (arith, c.in-Ok.ensures.counted, c.loop-turn.invariant.count, c.requires.reads, c.loop-turn-test.true);
-      place = omega (arith, c.in_ok-found.ensures.place c.in_default-found.is, c.loop-turn.invariant.place, c.read.auto.buf, c.loop-turn.invariant.block, length-take c.in-Ok.count c.read.new.buf);
+      count = omega (arith, c.in_ok-count.ensures.counted, c.loop-turn.invariant.count);
+      place = omega (arith, c.in_ok-count.ensures.place c.in_default.is, c.in_ok-count.ensures.most, c.loop-turn.invariant.place);
+      listed = c.in_ok-count.ensures.listed;
       read = (
-        _,
+        i.0 ++ t.0,
         i.1 ++ a.0,
-        Consumes-then _ _ _ i.0 _ i.2 c.in-Ok.ensures.bytes.0,
-        subst (Reaches c.args.limits _ (i.1 ++ a.0) _) c.in_default-found.is a.1,
-        told-then c.args.listing _ _ _ i.1 a.0 i.4 (subst (Appends (g.W.Sink.contents c.loop-turn.writer) (g.W.Sink.contents c.write_whole.new.writer)) text c.in_ok-write_whole.ensures.ok),
+        Consumes-then _ _ _ i.0 t.0 i.2 t.2,
+        subst (ReachesBut c.read_once.new.gathered c.args.limits _ (i.1 ++ a.0) _) c.in_default.is a.1,
+        omega (arith, i.4, t.1, c.in_ok-count.ensures.most, length-append i.0 t.0),
+        told-then c.args.listing _ _ _ i.1 a.0 i.5 (subst (Appends (g.W.Sink.contents c.loop-turn.writer) (g.W.Sink.contents c.write_whole.new.writer)) text c.in_ok-write_whole.ensures.ok),
       );
     }
 
 pub returns-clause-read : goal.returns-clause-read
 returns-clause-read g c = λ _.
     let i = c.loop-turn.invariant.read in
-    record { messages = i.1; running = running c.args.limits _ _ i.0 i.1 _ i.2 i.3; written = i.4 }
-
-pub returns-clause-spent : goal.returns-clause-spent
-returns-clause-spent g c = λ _. inr (omega (arith, c.loop-turn.invariant.count, c.loop-turn-test.false))
+    let size : length i.0 < 2 ^ 62 = omega (arith, i.4, c.loop-turn.auto._turn-end) in
+    reached-but c.loop-turn.gathered c.args.limits i.0 i.1 c.loop-turn.progress i.3 size c.args.listing _ _ _ _ i.2 i.5
 
 pub returns-clause-begun : goal.returns-clause-begun
 returns-clause-begun g c =
     let i = c.loop-turn.invariant.read in
-    record { messages = i.1; begun = running-begun c.args.limits _ _ i.1 (running c.args.limits _ _ i.0 i.1 _ i.2 i.3); written = grown-whole _ _ _ i.4 }
+    let size : length i.0 < 2 ^ 62 = omega (arith, i.4, c.loop-turn.auto._turn-end) in
+    begun-but c.loop-turn.gathered c.args.limits i.0 i.1 c.loop-turn.progress i.3 size c.args.listing _ _ _ _ i.2 i.5

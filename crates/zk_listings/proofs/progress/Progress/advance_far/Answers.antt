@@ -1,6 +1,13 @@
-use Rattle.std.proofs.Common.{◌≤◌, Some, refl, arith}
+use Rattle.std.proofs.Common.{◌≡◌, ◌∙◌, ◌≤◌, Some, IfOk, refl, sym, subst, arith}
+use Rattle.zk_talk.specs.Stands.{TalkState}
+use Rattle.zk_recordings.specs.Reader.{ReaderState}
+use Rattle.zk_listings.specs.declared.progress.Progress.{Progress}
+use Rattle.zk_listings.specs.Following.{Steps}
+use Rattle.zk_listings.specs.Gathering.{StepsBut}
 use Rattle.zk_listings.proofs.Pieces.{piece-steps}
+use Rattle.zk_listings.proofs.Runs.{lines-ok, none-begun, steps-but, steps-but-ok}
 use Rattle.zk_listings.proofs.progress.Progress.advance_far.Goals as goal
+use Rattle.zk_listings.proofs.progress.Progress.advance_far.Goals.{then-is_empty+in_default-next_piece, else-is_empty}
 
 pub returns-in-Some-next_piece-clause-steps : goal.returns-in-Some-next_piece-clause-steps
 returns-in-Some-next_piece-clause-steps c =
@@ -10,6 +17,37 @@ returns-in-Some-next_piece-clause-steps c =
     let new = c.take_piece.new.talk in
     let now = c.take_piece.new.lines.items in
     let taken = c.in_ok-take_piece.ensures.taken in
-    piece-steps c.args.listing c.args.self.now c.in-Some.talk new c.args.lines.now.items now c.args.block.now p.head p.used p.side c.next_piece.new.self taken.0
+    let after = record c.args.self.now { reader = c.next_piece.new.self; talk = Some new } in
+    steps-but c.args.gathered.now c.args.listing c.args.self.now after c.args.lines.now.items now c.args.block.now p.used c.take_piece.new.found (λ limits x messages i. c.is_empty.ensures.0 c.if-is_empty.true)
+    (piece-steps c.args.listing c.args.self.now c.in-Some.talk new c.args.lines.now.items now c.args.block.now p.head p.used p.side c.next_piece.new.self taken.0
     c.in-Some.is order e.reads c.take_piece.ensures.limits taken.2 c.take_piece.new.found taken.1
-    (record c.args.self.now { reader = c.next_piece.new.self; talk = Some new }) refl refl refl
+    after refl refl refl)
+
+same-reader : (p now : Progress) (r : ReaderState) (t : TalkState) → now ≡ record p { reader = r; talk = Some t } → p.talk ≡ Some t → r ≡ p.reader → now ≡ p
+same-reader p now r t e q f = e ∙ (λ i. record p { reader = f i; talk = sym q i })
+
+pub returns-in_default-clause-steps : goal.returns-in_default-clause-steps
+returns-in_default-clause-steps c =
+    steps-but-ok c.args.gathered.now c.args.listing c.args.self.now c.advance.new.self c.args.lines.now.items c.advance.new.lines.items c.args.block.now c.advance.new.found c.advance.result
+    (none-begun c.args.gathered.now c.args.self.now c.in_default.is) c.advance.ensures.steps
+
+pub returns-in-All-clause-steps : goal.returns-in-All-clause-steps
+returns-in-All-clause-steps c =
+    let now = c.advance-in-All.new in
+    let same : c.if-is_empty.self ≡ c.args.self.now = elim c.if-is_empty.branch [
+      | then-is_empty+in_default-next_piece w ↦ same-reader c.args.self.now c.if-is_empty.self w.next_piece.new.self c.in-Some.talk w.self-is c.in-Some.is w.in_default-next_piece.ensures.none
+      | else-is_empty w ↦ same-reader c.args.self.now c.if-is_empty.self c.args.self.now.reader c.in-Some.talk w.self-is c.in-Some.is refl
+    ] in
+    let steps = subst (λ p. IfOk c.advance-in-All.result (λ used. Steps c.args.listing p c.args.lines.now.items c.args.block.now used now.found now.self now.lines.items)) same c.advance-in-All.ensures.steps in
+    steps-but-ok c.args.gathered.now c.args.listing c.args.self.now now.self c.args.lines.now.items now.lines.items c.args.block.now now.found c.advance-in-All.result
+    (λ limits x messages i. c.requires.listed c.in-All.is) steps
+
+pub returns-in-Last-clause-steps : goal.returns-in-Last-clause-steps
+returns-in-Last-clause-steps c =
+    let now = c.advance_gathering.new in
+    let same : c.if-is_empty.self ≡ c.args.self.now = elim c.if-is_empty.branch [
+      | then-is_empty+in_default-next_piece w ↦ same-reader c.args.self.now c.if-is_empty.self w.next_piece.new.self c.in-Some.talk w.self-is c.in-Some.is w.in_default-next_piece.ensures.none
+      | else-is_empty w ↦ same-reader c.args.self.now c.if-is_empty.self c.args.self.now.reader c.in-Some.talk w.self-is c.in-Some.is refl
+    ] in
+    subst (λ p. IfOk c.advance_gathering.result (λ used. StepsBut c.args.gathered.now c.args.listing p c.args.lines.now.items c.args.block.now used now.found now.gathered now.self c.args.lines.now.items)) same
+    (lines-ok c.args.gathered.now now.gathered c.args.listing c.if-is_empty.self now.self c.args.lines.now.items c.args.block.now now.found c.advance_gathering.result c.in-Last.is c.advance_gathering.ensures.steps)

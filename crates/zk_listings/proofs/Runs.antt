@@ -1,0 +1,224 @@
+-- What a block does to a recording whose last bytes may be gathered.
+use Rattle.std.proofs.Common.{◌≡◌, ℕ, ◌≤◌, ◌<◌, ◌^◌, List, [], ◌++◌, length, take, Option, None, Some, Result, Ok, Err, IfOk, refl, sym, ap, ◌∙◌, subst, append_assoc, append-nil, arith, length-append}
+use Rattle.std.proofs.Math.Seq.{take-length}
+use Rattle.std.proofs.lemmas.List.{length-take-le}
+use Rattle.zk_talk.specs.declared.limits.Limits.{Limits}
+use Rattle.zk_talk.specs.declared.message.Fault.{Fault}
+use Rattle.zk_talk.specs.declared.message.Side.{Side}
+use Rattle.zk_talk.specs.declared.message.Ending.TheVariants.{Refused}
+use Rattle.zk_talk.specs.Held.{Message}
+use Rattle.zk_talk.specs.History.{on}
+use Rattle.zk_talk.specs.Stands.{TalkState}
+use Rattle.zk_recordings.specs.declared.parts.DamageAt.{DamageAt}
+use Rattle.zk_recordings.specs.Reader.{ReaderState}
+use Rattle.zk_recordings.specs.Reading.{IsAt, IsDecidedBy, IsHeaded, IsUndamaged, ReadsContent, ReadsOn, content_of}
+use Rattle.zk_recordings.specs.Recording.{Place, Recording, Spells, history_of, limits_of, place_of}
+use Rattle.zk_listings.specs.declared.listing.Listing.{Listing}
+use Rattle.zk_listings.specs.declared.listing.Listing.TheVariants.{All, Last}
+use Rattle.zk_listings.specs.declared.progress.Progress.{Progress}
+use Rattle.zk_listings.specs.declared.summary.Summary.{Summary}
+use Rattle.zk_listings.specs.declared.summary.Summary.TheVariants.{Ended, Broken}
+use Rattle.zk_listings.specs.Following.{Decides, IsHeadedBy, Steps, Takes}
+use Rattle.zk_listings.specs.Gathered.{SideBytes}
+use Rattle.zk_listings.specs.Gathering.{AdvancesBut, FollowsBut, Gathers, GathersIn, HasAllBut, HasAllButOr, IsGathered, ReachesBut, StepsBut}
+use Rattle.zk_listings.specs.Outcome.{IsBroken}
+use Rattle.zk_listings.proofs.Decided.{broken-by}
+use Rattle.zk_listings.proofs.Feeding.{listed-none, listed-then}
+use Rattle.zk_listings.proofs.Stops.{decides-by_damage, decides-by_fault}
+use Rattle.zk_listings.proofs.Talking.{goes-headed, goes-history, headed-by, none-some}
+use Rattle.zk_listings.proofs.Gathering.{append-gathers, but-follows, follows-but, gathers-in, given-all, good-but, history-within}
+
+-- ---- one block after another
+
+-- nothing is gathered then, wherever the talk stands
+abbrev pub IsNoneBut : SideBytes → Progress → Type 0
+IsNoneBut g p = (limits : Limits) (x : List ℕ) (messages : List Message) → FollowsBut g limits x messages p → g.bytes ≡ []
+
+pub none-begun : (g : SideBytes) (p : Progress) → p.talk ≡ None → IsNoneBut g p
+none-begun g p e limits x messages i = subst (λ z. IsGathered (limits_of limits i.recording) z g) e i.gathered
+
+pub steps-but : (g : SideBytes) (listing : Listing) (p now : Progress) (lines lines_now block : List ℕ) (used : ℕ) (found : Option Summary) → IsNoneBut g p →
+    Steps listing p lines block used found now lines_now → StepsBut g listing p lines block used found g now lines_now
+steps-but g listing p now lines lines_now block used None none steps = λ limits x messages i size.
+    let e = none limits x messages i in
+    let r = steps limits x messages (but-follows g limits x messages p e i) in
+    (r.0, follows-but g limits (x ++ take used block) (messages ++ r.0) now e r.1, r.2)
+steps-but g listing p now lines lines_now block used (Some summary) none steps = λ limits x messages i size.
+    steps limits x messages (but-follows g limits x messages p (none limits x messages i) i)
+
+pub steps-but-ok : {E : Type 0} (g : SideBytes) (listing : Listing) (p now : Progress) (lines lines_now block : List ℕ) (found : Option Summary) (result : Result ℕ E) → IsNoneBut g p →
+    IfOk result (λ used. Steps listing p lines block used found now lines_now) → IfOk result (λ used. StepsBut g listing p lines block used found g now lines_now)
+steps-but-ok g listing p now lines lines_now block found (Ok used) none steps = steps-but g listing p now lines lines_now block used found none steps
+steps-but-ok g listing p now lines lines_now block found (Err e) none steps = tt
+
+-- whatever lines came before
+pub lines-ok : {E : Type 0} (g now : SideBytes) (listing : Listing) (p new : Progress) (lines block : List ℕ) (found : Option Summary) (result : Result ℕ E) → listing ≡ Last →
+    IfOk result (λ used. (lines : List ℕ) → StepsBut g Last p lines block used found now new lines) → IfOk result (λ used. StepsBut g listing p lines block used found now new lines)
+lines-ok g now listing p new lines block found (Ok used) e steps = subst (λ l. StepsBut g l p lines block used found now new lines) (sym e) (steps lines)
+lines-ok g now listing p new lines block found (Err e) is steps = tt
+
+pub advances-but-none : (g : SideBytes) (listing : Listing) (p : Progress) (lines : List ℕ) → AdvancesBut g listing p lines [] None g p lines
+advances-but-none g listing p lines limits x messages i size =
+    ([], subst (λ m. FollowsBut g limits (x ++ []) m p) (sym (append-nil messages)) (subst (λ y. FollowsBut g limits y messages p) (sym (append-nil x)) i), listed-none listing lines)
+
+pub advances-but-then : (g between after : SideBytes) (listing : Listing) (p mid new : Progress) (lines during now a b : List ℕ) (found : Option Summary) →
+    AdvancesBut g listing p lines a None between mid during → AdvancesBut between listing mid during b found after new now → AdvancesBut g listing p lines (a ++ b) found after new now
+advances-but-then g between after listing p mid new lines during now a b found first second limits x messages i size =
+    let one = first limits x messages i (omega (arith, size, length-append a b)) in
+    let two = second limits (x ++ a) (messages ++ one.0) one.1 (omega (arith, size, length-append a b, length-append x a)) in
+    let joined = subst (λ m. ReachesBut after limits ((x ++ a) ++ b) m new found) (append_assoc messages one.0 two.0) two.1 in (
+      one.0 ++ two.0,
+      subst (λ y. ReachesBut after limits y (messages ++ (one.0 ++ two.0)) new found) (append_assoc x a b) joined,
+      listed-then listing lines during now one.0 two.0 one.2 two.2,
+    )
+
+-- ---- a run of bytes
+
+headed-some : (talk : Option TalkState) (place : Place) → (talk ≡ None → ⊥) → IsHeadedBy talk place → IsHeaded place
+headed-some None place some i = absurd (some refl)
+headed-some (Some t) place some i = i
+
+module _ (g now : SideBytes) (p : Progress) (lines block : List ℕ) (used : ℕ) (side : Option Side) (state : ReaderState) (now_limits : Limits) (refused : Option Fault) (talk : Option TalkState)
+    (begun : p.talk ≡ None → ⊥)
+    (part : used ≤ length block)
+    (reads : (x : List ℕ) (r : Recording) → IsAt p.reader x r → ReadsOn state x r (take used block) side)
+    (limits_are : (x : List ℕ) (r : Recording) → IsAt state x r → IsHeaded (place_of r) → now_limits ≡ limits_of p.limits r)
+    (gathers : GathersIn now_limits p.talk g (content_of side (take used block)) refused talk now)
+    (p' : Progress) (options : p'.limits ≡ p.limits) (talk_is : p'.talk ≡ talk) where
+  module _ (limits : Limits) (x : List ℕ) (messages : List Message) (i : FollowsBut g limits x messages p) where
+    abbrev next : ReadsOn state x i.recording (take used block) side
+    next = reads x i.recording i.at
+
+    comes : (other : Option Fault) → refused ≡ other →
+        (more : List Message) × IsHeaded (place_of next.new) × HasAllButOr now (limits_of limits next.new) talk other (history_of next.new) (messages ++ more)
+    comes other same_fault =
+        let r = next in
+        let stays = goes-headed i.recording r.new (take used block) side r.goes_on (headed-some p.talk (place_of i.recording) begun i.headed) in
+        let e : now_limits ≡ limits_of limits r.new = limits_are _ r.new r.is stays.headed ∙ ap (λ l. limits_of l r.new) i.options in
+        let same = sym (e ∙ stays.limits_are limits) in
+        let m = gathers (history_of i.recording) messages (subst (λ l. HasAllBut g l p.talk (history_of i.recording) messages) same i.has) (subst (λ l. IsGathered l p.talk g) same i.gathered) in
+        let here = subst (λ z. HasAllButOr now now_limits talk z (history_of i.recording ++ content_of side (take used block)) (messages ++ m.0)) same_fault m.1 in
+        let there = subst (λ h. HasAllButOr now now_limits talk other h (messages ++ m.0)) (sym (goes-history i.recording r.new (take used block) side r.goes_on)) here in
+        (m.0, stays.headed, subst (λ l. HasAllButOr now l talk other (history_of r.new) (messages ++ m.0)) e there)
+
+  pub run-refused : (fault : Fault) → refused ≡ Some fault → StepsBut g Last p lines block used (Some (Ended (Refused fault))) now p' lines
+  run-refused fault e = λ limits x messages i size.
+      let r = next limits x messages i in
+      let c = comes limits x messages i (Some fault) e in (
+        c.0,
+        subst (λ z. Decides limits (x ++ block) (messages ++ c.0) z (Ended (Refused fault))) (sym talk_is)
+            (decides-by_fault limits x block used r.new (messages ++ c.0) talk fault r.is.spells c.1 c.2),
+        sym (append-nil lines),
+      )
+
+  pub run-broken : refused ≡ None → (d : DamageAt) → ((x : List ℕ) (r : Recording) → IsAt state x r → IsDecidedBy d x r) → StepsBut g Last p lines block used (Some (Broken d)) now p' lines
+  run-broken e d damaged = λ limits x messages i size.
+      let r = next limits x messages i in
+      let c = comes limits x messages i None e in
+      let read : length (x ++ take used block) < 2 ^ 62 = omega (arith, size, part, length-append x (take used block), length-take-le used block part) in
+      let good = good-but now (limits_of limits r.new) talk (history_of r.new) (messages ++ c.0) c.2.0 c.2.1 (omega (arith, read, history-within now.side r.new _ r.is.spells)) in (
+        c.0,
+        decides-by_damage limits x block used r.new (messages ++ c.0) p'.talk d r.is.spells (damaged _ r.new r.is) good,
+        sym (append-nil lines),
+      )
+
+  pub run-on : refused ≡ None → IsUndamaged state → p'.reader ≡ state → StepsBut g Last p lines block used None now p' lines
+  run-on e undamaged reader = λ limits x messages i size.
+      let r = next limits x messages i in
+      let c = comes limits x messages i None e in (
+        c.0,
+        record {
+          options = options ∙ i.options;
+          recording = r.new;
+          at = subst (λ s. IsAt s (x ++ take used block) r.new) (sym reader) r.is;
+          unbroken = λ b. undamaged _ r.new b.damage r.is (broken-by r.new _ b r.is.spells);
+          headed = headed-by p'.talk (place_of r.new) c.1;
+          has = subst (λ z. HasAllBut now (limits_of limits r.new) z (history_of r.new) (messages ++ c.0)) (sym talk_is) c.2.0;
+          gathered = subst (λ z. IsGathered (limits_of limits r.new) z now) (sym talk_is) c.2.1;
+        },
+        sym (append-nil lines),
+      )
+
+-- ---- content that was read behind what is gathered
+
+module _ (before now : SideBytes) (p p' : Progress) (t u : TalkState) (bytes : List ℕ) (now_limits : Limits) (refused : Option Fault)
+    (talk : p.talk ≡ Some t) (options : p'.limits ≡ p.limits) (talk_is : p'.talk ≡ Some u)
+    (reads : ReadsContent p.reader before.side bytes p'.reader) (still : IsUndamaged p'.reader)
+    (limits_are : (x : List ℕ) (r : Recording) → IsAt p'.reader x r → IsHeaded (place_of r) → now_limits ≡ limits_of p.limits r)
+    (gathers : Gathers now_limits t (record before { bytes = before.bytes ++ bytes }) [] refused u now) where
+  begun : p.talk ≡ None → ⊥
+  begun e = none-some t _ (sym talk ∙ e)
+
+  within : GathersIn now_limits p.talk before (content_of (Some before.side) (take (length bytes) bytes)) refused (Some u) now
+  within =
+      let all = append-gathers now_limits t u before now bytes refused gathers in
+      subst (λ b. GathersIn now_limits p.talk before (on before.side b) refused (Some u) now) (sym (take-length bytes))
+      (subst (λ z. GathersIn now_limits z before (on before.side bytes) refused (Some u) now) (sym talk) (gathers-in now_limits t u before now (on before.side bytes) refused all))
+
+  reads-all : (x : List ℕ) (r : Recording) → IsAt p.reader x r → ReadsOn p'.reader x r (take (length bytes) bytes) (Some before.side)
+  reads-all x r i = subst (λ b. ReadsOn p'.reader x r b (Some before.side)) (sym (take-length bytes)) (reads x r i)
+
+  pub read-refused : (lines : List ℕ) (fault : Fault) → refused ≡ Some fault → AdvancesBut before Last p lines bytes (Some (Ended (Refused fault))) now p' lines
+  read-refused lines fault e =
+      run-refused before now p lines bytes (length bytes) (Some before.side) p'.reader now_limits refused (Some u) begun (omega arith) reads-all limits_are within p' options talk_is fault e
+
+  pub read-on : (lines : List ℕ) → refused ≡ None → AdvancesBut before Last p lines bytes None now p' lines
+  read-on lines e =
+      subst (λ b. AdvancesBut before Last p lines b None now p' lines) (take-length bytes)
+      (run-on before now p lines bytes (length bytes) (Some before.side) p'.reader now_limits refused (Some u) begun (omega arith) reads-all limits_are within p' options talk_is e still refl)
+
+-- ---- all is given to the talk
+
+module _ (g now : SideBytes) (p p' : Progress) (t u : TalkState) (refused : Option Fault) (talk : p.talk ≡ Some t) (options : p'.limits ≡ p.limits) (reader : p'.reader ≡ p.reader) (talk_is : p'.talk ≡ Some u)
+    (empty : now.bytes ≡ []) (same : u.limits ≡ t.limits) (taken : (lines : List ℕ) → Takes Last t lines (on g.side g.bytes) refused u lines) where
+  given : (limits : Limits) (x : List ℕ) (messages : List Message) (i : FollowsBut g limits x messages p) → (other : Option Fault) → refused ≡ other →
+      (more : List Message) × HasAllButOr now (limits_of limits i.recording) (Some u) other (history_of i.recording) (messages ++ more)
+  given limits x messages i other e =
+      let l = limits_of limits i.recording in
+      given-all l t u g now other empty same (subst (λ z. (lines : List ℕ) → Takes Last t lines (on g.side g.bytes) z u lines) e taken) (history_of i.recording) messages
+      (subst (λ z. HasAllBut g l z (history_of i.recording) messages) talk i.has)
+
+  pub all-refused : (lines : List ℕ) (fault : Fault) → refused ≡ Some fault → AdvancesBut g Last p lines [] (Some (Ended (Refused fault))) now p' lines
+  all-refused lines fault e limits x messages i size =
+      let c = given limits x messages i (Some fault) e in
+      let headed = subst (λ z. IsHeadedBy z (place_of i.recording)) talk i.headed in (
+        c.0,
+        subst (λ z. Decides limits (x ++ []) (messages ++ c.0) z (Ended (Refused fault))) (sym talk_is)
+            (decides-by_fault limits x [] 0 i.recording (messages ++ c.0) (Some u) fault (subst (λ y. Spells y i.recording) (sym (append-nil x)) i.at.spells) headed c.1),
+        sym (append-nil lines),
+      )
+
+  pub all-on : (lines : List ℕ) → refused ≡ None → AdvancesBut g Last p lines [] None now p' lines
+  all-on lines e limits x messages i size =
+      let c = given limits x messages i None e in (
+        c.0,
+        record {
+          options = options ∙ i.options;
+          recording = i.recording;
+          at = subst (λ y. IsAt p'.reader y i.recording) (sym (append-nil x)) (subst (λ s. IsAt s x i.recording) (sym reader) i.at);
+          unbroken = λ b. i.unbroken (subst (λ y. IsBroken y i.recording) (append-nil x) b);
+          headed = subst (λ z. IsHeadedBy z (place_of i.recording)) (sym talk_is) (subst (λ z. IsHeadedBy z (place_of i.recording)) talk i.headed);
+          has = subst (λ z. HasAllBut now (limits_of limits i.recording) z (history_of i.recording) (messages ++ c.0)) (sym talk_is) c.1.0;
+          gathered = subst (λ z. IsGathered (limits_of limits i.recording) z now) (sym talk_is) c.1.1;
+        },
+        sym (append-nil lines),
+      )
+
+pub empty-on : (g now : SideBytes) (listing : Listing) (p : Progress) (lines : List ℕ) → g.bytes ≡ [] → now.bytes ≡ [] → AdvancesBut g listing p lines [] None now p lines
+empty-on g now listing p lines e empty limits x messages i size =
+    let all = follows-but now limits x messages p empty (but-follows g limits x messages p e i) in
+    ([], subst (λ m. FollowsBut now limits (x ++ []) m p) (sym (append-nil messages)) (subst (λ y. FollowsBut now limits y messages p) (sym (append-nil x)) all), listed-none listing lines)
+
+-- with lines nothing is gathered
+pub given-up : (g now : SideBytes) (listing : Listing) (p p' : Progress) (lines : List ℕ) (found : Option Summary) → (listing ≡ All → g.bytes ≡ []) → (g.bytes ≡ [] → (found ≡ None) × (p' ≡ p)) →
+    now.bytes ≡ [] → AdvancesBut g Last p lines [] found now p' lines → AdvancesBut g listing p lines [] found now p' lines
+given-up g now All p p' lines found listed none empty advances =
+    let e = listed refl in
+    let n = none e in
+    subst (λ z. AdvancesBut g All p lines [] z now p' lines) (sym n.0) (subst (λ q. AdvancesBut g All p lines [] None now q lines) (sym n.1) (empty-on g now All p lines e empty))
+given-up g now Last p p' lines found listed none empty advances = advances
+
+pub none-on : (g now : SideBytes) (p : Progress) (lines : List ℕ) → p.talk ≡ None → now.bytes ≡ [] → AdvancesBut g Last p lines [] None now p lines
+none-on g now p lines e empty limits x messages i size =
+    let all = follows-but now limits x messages p empty (but-follows g limits x messages p (none-begun g p e limits x messages i) i) in
+    ([], subst (λ m. FollowsBut now limits (x ++ []) m p) (sym (append-nil messages)) (subst (λ y. FollowsBut now limits y messages p) (sym (append-nil x)) all), sym (append-nil lines))

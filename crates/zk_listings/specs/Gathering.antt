@@ -1,0 +1,103 @@
+-- A recording whose last content, the beginning of a frame, isn't given to the talk yet.
+use Rattle.std.specs.Prelude.{Vec, ◌≡◌, ◌≢◌, ℕ, ◌^◌, ◌+◌, ◌<◌, ◌≤◌, ◌⊎◌, List, [], ◌++◌, length, take, Option, None, Some}
+use Rattle.std.specs.Io.KnownBytes.{Consumes}
+use Rattle.zk_frames.specs.Framing.{IsBeginning}
+use Rattle.zk_talk.specs.declared.limits.Limits.{Limits}
+use Rattle.zk_talk.specs.declared.message.Fault.{Fault}
+use Rattle.zk_talk.specs.Fault.{side_limit}
+use Rattle.zk_talk.specs.Held.{Message}
+use Rattle.zk_talk.specs.History.{History, on}
+use Rattle.zk_talk.specs.Stands.{TalkState, held_on}
+use Rattle.zk_recordings.specs.Recording.{Recording, history_of, limits_of, place_of}
+use Rattle.zk_recordings.specs.Reading.{IsAt, IsInContent}
+use Rattle.zk_listings.specs.declared.gather.NextRead.{NextRead}
+use Rattle.zk_listings.specs.declared.gather.NextRead.TheVariants.{Block, Content}
+use Rattle.zk_listings.specs.declared.listing.Listing.{Listing}
+use Rattle.zk_listings.specs.declared.listing.Listing.TheVariants.{Last}
+use Rattle.zk_listings.specs.declared.progress.Progress.{Progress}
+use Rattle.zk_listings.specs.declared.summary.Summary.{Summary}
+use Rattle.zk_listings.specs.Lines.{text_of}
+use Rattle.zk_listings.specs.Outcome.{IsBroken}
+use Rattle.zk_listings.specs.Following.{Decides, Has, HasRefused, IsHeadedBy}
+use Rattle.zk_listings.specs.Gathered.{SideBytes}
+
+-- the talk has come through the history before these bytes
+abbrev pub HasAllBut : SideBytes → Limits → Option TalkState → History → List Message → Type 0
+HasAllBut g limits talk h messages = (before : History) × (h ≡ before ++ on g.side g.bytes) × Has limits talk before messages
+
+-- the bytes begin a frame of a side of which the talk holds none
+abbrev pub Begins : Limits → TalkState → SideBytes → Type 0
+Begins limits talk g = (held_on g.side talk ≡ []) × IsBeginning (side_limit limits g.side) g.bytes
+
+-- there are none, or they are the beginning of a frame
+abbrev pub IsGathered : Limits → Option TalkState → SideBytes → Type 0
+IsGathered limits None g = g.bytes ≡ []
+IsGathered limits (Some talk) g = (g.bytes ≡ []) ⊎ Begins limits talk g
+
+-- the bytes x were read, and all but these are given to the talk
+pub record FollowsBut (g : SideBytes) (limits : Limits) (x : List ℕ) (messages : List Message) (p : Progress) : Type 0 where
+  pub options : p.limits ≡ limits
+  pub recording : Recording
+  pub at : IsAt p.reader x recording
+  pub unbroken : IsBroken x recording → ⊥
+  pub headed : IsHeadedBy p.talk (place_of recording)
+  pub has : HasAllBut g (limits_of limits recording) p.talk (history_of recording) messages
+  pub gathered : IsGathered (limits_of limits recording) p.talk g
+
+-- ---- what some bytes of a side do to a talk and to the bytes before them
+
+abbrev pub HasAllButOr : SideBytes → Limits → Option TalkState → Option Fault → History → List Message → Type 0
+HasAllButOr g limits talk None h messages = HasAllBut g limits talk h messages × IsGathered limits talk g
+HasAllButOr g limits talk (Some fault) h messages = HasRefused limits talk h messages fault
+
+abbrev pub HasAllButUnless : SideBytes → Limits → Option TalkState → Option Fault → History → List Message → Type 0
+HasAllButUnless g limits talk None h messages = HasAllBut g limits talk h messages
+HasAllButUnless g limits talk (Some fault) h messages = HasRefused limits talk h messages fault
+
+abbrev pub Gathers : Limits → TalkState → SideBytes → History → Option Fault → TalkState → SideBytes → Type 0
+Gathers limits old g bytes refused new now = (h : History) (messages : List Message) → HasAllBut g limits (Some old) h messages →
+    (more : List Message) × HasAllButOr now limits (Some new) refused (h ++ bytes) (messages ++ more)
+
+-- the same of bytes that are given to the talk, if any are
+abbrev pub Turns : Limits → TalkState → SideBytes → Option Fault → TalkState → SideBytes → Type 0
+Turns limits old g refused new now = (h : History) (messages : List Message) → HasAllBut g limits (Some old) h messages →
+    (more : List Message) × HasAllButUnless now limits (Some new) refused h (messages ++ more)
+
+-- the same of content, or of bytes that are none, behind the beginning of a frame
+abbrev pub GathersIn : Limits → Option TalkState → SideBytes → History → Option Fault → Option TalkState → SideBytes → Type 0
+GathersIn limits old g bytes refused new now = (h : History) (messages : List Message) → HasAllBut g limits old h messages → IsGathered limits old g →
+    (more : List Message) × HasAllButOr now limits new refused (h ++ bytes) (messages ++ more)
+
+-- ---- what a block does to a recording that is read
+
+abbrev pub ReachesBut : SideBytes → Limits → List ℕ → List Message → Progress → Option Summary → Type 0
+ReachesBut g limits x messages p None = FollowsBut g limits x messages p
+ReachesBut g limits x messages p (Some summary) = Decides limits x messages p.talk summary
+
+-- behind less than 2^62 bytes with it, the block was read: the recording goes on, or its summary is known
+abbrev pub AdvancesBut : SideBytes → Listing → Progress → List ℕ → List ℕ → Option Summary → SideBytes → Progress → List ℕ → Type 0
+AdvancesBut g listing p lines block found g_now now lines_now =
+    (limits : Limits) (x : List ℕ) (messages : List Message) → FollowsBut g limits x messages p → length x + length block < 2 ^ 62 →
+    (more : List Message) × ReachesBut g_now limits (x ++ block) (messages ++ more) now found × (lines_now ≡ lines ++ text_of listing more)
+
+-- this number of first bytes of a block was taken, or the recording's summary was found in the block
+abbrev pub StepsBut : SideBytes → Listing → Progress → List ℕ → List ℕ → ℕ → Option Summary → SideBytes → Progress → List ℕ → Type 0
+StepsBut g listing p lines block used None g_now now lines_now = AdvancesBut g listing p lines (take used block) None g_now now lines_now
+StepsBut g listing p lines block used (Some summary) g_now now lines_now = AdvancesBut g listing p lines block (Some summary) g_now now lines_now
+
+-- some bytes were read and taken, as many as it says, and the lines of their messages were appended
+abbrev pub HasTaken : {R Z : Type 0} → Listing → (R → Option (List ℕ)) → R → R → SideBytes → Progress → Vec ℕ Z → ℕ × Option Summary → SideBytes → Progress → Vec ℕ Z → Type 0
+HasTaken listing remaining reader reader_now g p lines t g_now now lines_now = (bytes : List ℕ) × (length bytes ≡ t.0) ×
+    Consumes (remaining reader) (remaining reader_now) bytes × AdvancesBut g listing p lines.items bytes t.1 g_now now lines_now.items
+
+-- this number of the bytes was read after others, which waited, and taken; no lines are listed
+abbrev pub TakesRead : Progress → SideBytes → ℕ → Option Summary → Progress → SideBytes → Type 0
+TakesRead p g count found now g_now = (before : SideBytes) (bytes lines : List ℕ) → length bytes ≡ count →
+    g ≡ record before { bytes = before.bytes ++ bytes } → AdvancesBut before Last p lines bytes found g_now now lines
+
+-- ---- the next read
+
+-- a block, or content of the side of these bytes, and not more than is to come
+abbrev pub IsNextRead : Progress → SideBytes → NextRead → Type 0
+IsNextRead p g (Block most) = (0 < most) × (most ≤ 65536)
+IsNextRead p g (Content most) = (0 < most) × (most ≤ 65536) × ((left : ℕ) × IsInContent p.reader g.side left × (most ≤ left)) × (p.talk ≢ None) × (g.bytes ≢ [])
