@@ -25,7 +25,8 @@ from printer import Printer
 
 BLOCK = 65536
 READ, WRITE = selectors.EVENT_READ, selectors.EVENT_WRITE
-AT_ONCE = 16                # the most clients that are accepted, and that end, before the connections come again
+AT_ONCE = 16                # the most clients that are accepted, that begin, and that end, before the connections come again
+MOMENT = 0.01               # the seconds after which no more of them begin and end, where files or processes take long
 REST = 0.1                  # the seconds without new clients, once the system has no room for one
 LAST_WORDS = 30             # the seconds that observers have to end, unless a second signal comes
 
@@ -34,6 +35,14 @@ def set_options(end):
     """Sets what a socket has to have: small messages go at once, and an end that is gone is noticed."""
     end.setsockopt(socket.IPPROTO_TCP, socket.TCP_NODELAY, 1)
     end.setsockopt(socket.SOL_SOCKET, socket.SO_KEEPALIVE, 1)
+
+
+def some(waiting, until):
+    """Takes some of these from the left: one, others until that moment, and AT_ONCE in all."""
+    for number in range(min(AT_ONCE, len(waiting))):
+        if number and time.monotonic() > until:
+            return
+        yield waiting.popleft()
 
 
 class Way:
@@ -214,14 +223,14 @@ class Proxy:
     connection has ended.
 
     `connected` has those whose server has answered at once, and which begin together: many steps of one kind take less
-    time than as many by turns. `ended` has those that are not over yet."""
+    time than as many by turns. `ended` has those that are not over yet. Each turn takes some of both."""
 
     descriptors = 0         # the most descriptors of an observer
 
     def __init__(self, name, server):
         self.server, self.ready = server, selectors.DefaultSelector()
         self.connections, self.listeners, self.waits, self.due = set(), [], set(), {}
-        self.connected, self.ended = [], collections.deque()
+        self.connected, self.ended = collections.deque(), collections.deque()
         self.signals, self.over = 0, False
         self.numbers = itertools.count(1)
         self.heard, self.bell = socket.socketpair()
@@ -294,22 +303,18 @@ class Proxy:
         if self.due:
             left = max(0, min(self.due.values()) - time.monotonic())
             seconds = left if seconds is None else min(seconds, left)
-        for key, events in self.ready.select(0 if self.ended else seconds):
+        for key, events in self.ready.select(0 if self.connected or self.ended else seconds):
             if key.fileobj in self.waits:
                 key.data.step(key.fileobj, events)
-        connected, self.connected = self.connected, []
-        for connection in connected:
+        until = time.monotonic() + MOMENT
+        for connection in some(self.connected, until):
             connection.begin()
-        self.end_some(AT_ONCE)
+        for connection in some(self.ended, until):
+            connection.over()
         now = time.monotonic()
         for call in [call for call, moment in self.due.items() if moment <= now]:
             del self.due[call]
             call()
-
-    def end_some(self, most):
-        """Does what is left to do of connections that have ended, in their order."""
-        for _ in range(min(most, len(self.ended))):
-            self.ended.popleft().over()
 
     def stop(self):
         """Ends every connection, and gives the observers time for their last lines."""
@@ -318,7 +323,9 @@ class Proxy:
         self.listeners = []
         for connection in self.connections.difference(self.ended):
             connection.close()
-        self.end_some(len(self.ended))
+        self.connected.clear()
+        while self.ended:
+            self.ended.popleft().over()
         until, self.signals = time.monotonic() + LAST_WORDS, 0
         while self.busy() and time.monotonic() < until and not self.signals:
             self.turn(0.05)
@@ -344,8 +351,8 @@ class Proxy:
 
     def accept(self, listener):
         """Accepts clients that wait, if there are descriptors for all that belongs to them; not too many, since each
-        takes as long as several messages do."""
-        for number in range(AT_ONCE):
+        takes as long as several messages do, and none while others have to begin."""
+        for number in range(AT_ONCE - len(self.connected)):
             room = None
             try:
                 room = Room(1 + self.descriptors, listener)

@@ -67,10 +67,13 @@ class Descriptors(TroubleCase):
 
 
 class Passing(proxy.Proxy):
-    """A proxy that observes nothing."""
+    """A proxy that observes nothing; its observers take `seconds` to begin, and as many to end."""
+
+    seconds = 0
 
     def observer_of(self, connection):
-        return unittest.mock.Mock()
+        time.sleep(self.seconds)
+        return unittest.mock.Mock(over=lambda: time.sleep(self.seconds))
 
 
 class Crowd(TroubleCase):
@@ -130,6 +133,22 @@ class Crowd(TroubleCase):
         self.assertLessEqual(max(over), proxy.AT_ONCE)
         self.pass_on()
         self.assertEqual(receive(steady, 5), b"hello")
+
+    def test_observers_that_take_long(self):
+        """As on a slow disk: one of the clients that wait begins, and one ends, between the turns of the others."""
+        self.passing.seconds = 2 * proxy.MOMENT
+        clients = [self.client(self.passing.listeners[0].getsockname()[1]) for _ in range(20)]
+        for begun in range(1, 21):
+            self.passing.turn(1)
+            self.assertEqual(len([each for each in self.passing.connections if each.observer]), begun)
+        for client in clients:
+            client.close()
+        self.passing.turn(1)
+        time.sleep(0.5)         # the server ends each connection, too
+        while self.passing.connections:
+            before = len(self.passing.connections)
+            self.passing.turn(1)
+            self.assertLessEqual(before - len(self.passing.connections), 1)
 
 
 class Ends(TroubleCase):
