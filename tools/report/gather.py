@@ -4,11 +4,12 @@ import collections
 import json
 
 import listing
+import operations
 import zkjson
 from histogram import Histogram
 from report import kept, paths
 
-WATCHING = ("exists", "getData", "getChildren", "getChildren2")
+WATCHING = {operation.name for operation in operations.ALL if "watch:bit" in operation.request.split()}
 WATCH_LISTS = ("dataWatches", "existWatches", "childWatches")
 NO_CONNECTION = '{"connection": 0'
 MOST_WATCHES = 20_000
