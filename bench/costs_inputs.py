@@ -77,7 +77,7 @@ def syncs(paths):
 
 def children(names, replies=REPLIES, size=making.LARGEST_READ):
     """Requests for getChildren, whose replies have these names, given as their bytes, and each its length before it. They
-    come in pieces of this size."""
+    come in pieces of at most `size` bytes."""
     listed = struct.pack(">i", len(names)) + b"".join(names)
     return (making.HEAD + making.CONNECT
             + replies * exchange(making.GET_CHILDREN, making.text("/a") + b"\0", listed, size))

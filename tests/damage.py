@@ -15,7 +15,8 @@ The program is crates/zkdump/out/zkdump if none is named. For each conversation
   address space.
 
 And once: ping (a ping and its reply, cut in two in 273 ways), limit (data of 4,194,216 bytes, and a length of
-4,194,305), and long (frames of more than a read, in pieces of several sizes, which end at several places). It prints what differs, the greatest memory of a run, and one last line. The status is 0 if nothing differs.
+4,194,305), and long (frames of more than a read, in pieces of several sizes, which end at several places). It prints
+what differs, the greatest memory of a run, and one last line. The status is 0 if nothing differs.
 """
 
 import argparse
@@ -286,7 +287,6 @@ class Tests:
         self.hold("the line of a reply of the usual limit", status == 0 and output.endswith(expected))
         self.ends("a length above the usual limit", [*pieces[:-1], (b"S", struct.pack(">i", LIMIT + 1))],
                   b". refused side=S frame=1 offset=45 place=0 reason=LengthRange")
-
 
     def try_long(self):
         """A request and a reply that are longer than what is read at once, each with a piece of the other side in its

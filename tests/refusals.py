@@ -8,9 +8,9 @@ alone a program allocates, and refuses the Nth call of a run. For each stored ca
 up from 1 until a run meets no refusal
 
 - show, check, build, migrate: over the stored cases, `build` over the listings of those of show, too, and `check` over a
-  list that is longer than what is read at once, in long pieces and in short ones, the run does
-  the same as with ample memory; or it ends with status 3, `zkdump: out of memory` on standard error, and a prefix of
-  the output that it has with ample memory;
+  list that is longer than what is read at once, in long pieces and in short ones, the run does the same as with ample
+  memory; or it ends with status 3, `zkdump: out of memory` on standard error, and a prefix of the output that it has
+  with ample memory;
 - calls: over the recordings of the first format that check is stored with, a test of the library
   (crates/talk_tests/src/growth.rt) passes, with the example on its standard input: each call of read_all, Talk::new,
   Talk::take, Speaker::new, Speaker::say, MessageRef::to_message, line_of, line_of_ref, read_line and ending_line that

@@ -4,14 +4,12 @@ use Rattle.std.specs.Io.KnownBytes.{Consumes, IsAtEnd, Appends}
 use Rattle.zk_talk.specs.declared.limits.Limits.{Limits}
 use Rattle.zk_talk.specs.Held.{Message}
 use Rattle.zk_talk.specs.Stands.{TalkState}
-use Rattle.zk_listings.specs.declared.progress.Progress.{Progress}
 use Rattle.zk_listings.specs.declared.summary.Summary.{Summary}
 use Rattle.zk_recordings.specs.Recording.{Recording, Spells, history_of, limits_of}
-use Rattle.zk_listings.specs.Outcome.{Reads, IsFound, IsRunning, HasBegun, HasGrownIn}
-use Rattle.zk_listings.specs.Following.{Follows, IsKept, Finishes, Decides, Opens}
+use Rattle.zk_listings.specs.Outcome.{IsBroken, IsGoodWith, Reads, IsFound, IsRunning, HasBegun, HasGrownIn}
+use Rattle.zk_listings.specs.Following.{IsKept, Finishes, Decides, Opens}
 use Rattle.std.proofs.Math.Seq.{take-append-add, take-append_seam}
 use Rattle.zk_listings.proofs.Bytes.{Consumes-then, Appends-then}
-use Rattle.zk_listings.proofs.Talking.{has-good}
 use Rattle.zk_listings.proofs.Outcomes.{outcome-once, outcome-good}
 use Rattle.zk_recordings.proofs.Once.{spells-once}
 
@@ -38,19 +36,16 @@ found-at_end limits before mid after x none messages talk summary p q nothing en
 }
 
 -- what was read has these messages and no fault
-pub running : (limits : Limits) (before after : Option (List ℕ)) (x : List ℕ) (messages : List Message) (now : Progress) →
-    Consumes before after x → Follows limits x messages now → IsRunning limits before after messages
-running limits before after x messages now p i =
-    let r = i.recording in
-    let good = has-good (limits_of limits r) now.talk (history_of r) messages i.talks.has in
-    record {
-      bytes = x;
-      recording = r;
-      reads = reads before after x r p i.at.spells;
-      unbroken = i.unbroken;
-      good = good;
-      only = λ others summary o. outcome-good limits r messages others summary good o;
-    }
+pub running : (limits : Limits) (before after : Option (List ℕ)) (x : List ℕ) (messages : List Message) (r : Recording) → Consumes before after x → Spells x r →
+    (IsBroken x r → ⊥) → IsGoodWith (limits_of limits r) (history_of r) messages → IsRunning limits before after messages
+running limits before after x messages r p i unbroken good = record {
+  bytes = x;
+  recording = r;
+  reads = reads before after x r p i;
+  unbroken = unbroken;
+  good = good;
+  only = λ others summary o. outcome-good limits r messages others summary good o;
+}
 
 pub running-begun : (limits : Limits) (before after : Option (List ℕ)) (messages : List Message) → IsRunning limits before after messages → HasBegun limits before after messages
 running-begun limits before after messages i = record {

@@ -93,9 +93,6 @@ good-more Server t h messages block st none begins size =
 
 -- ---- what is gathered
 
-none : Side → SideBytes
-none side = record { side = side; bytes = [] }
-
 -- nothing is gathered
 but-none : (g : SideBytes) (h before : History) → g.bytes ≡ [] → h ≡ before ++ on g.side g.bytes → h ≡ before
 but-none g h before e is = is ∙ ap (λ b. before ++ on g.side b) e ∙ append-nil before
@@ -190,7 +187,7 @@ refuses-gathers limits old new g now bytes fault turns h messages i =
     let r = turns h messages i in
     (r.0, (refuses_more new h bytes (messages ++ r.0) fault r.1.0, r.1.1))
 
--- content goes to the talk, behind nothing
+-- content goes to the talk, after nothing
 judge-gathers : (limits : Limits) (old new : TalkState) (g : SideBytes) (bytes : History) (refused : Option Fault) → g.bytes ≡ [] → new.limits ≡ old.limits →
     ((lines : List ℕ) → Takes Last old lines bytes refused new lines) → Gathers limits old g bytes refused new g
 judge-gathers limits old new g bytes refused e same taken h messages i =
@@ -198,7 +195,7 @@ judge-gathers limits old new g bytes refused e same taken h messages i =
     let r = taken [] h messages (subst (λ z. Stands old z messages) (sym was) i.2.0) in
     (r.0, judges-has g limits new (h ++ bytes) (messages ++ r.0) refused e (same ∙ i.2.1) r.1)
 
--- bytes come behind what is gathered
+-- bytes come after what is gathered
 more-but : (g : SideBytes) (bytes : List ℕ) (limits : Limits) (talk : Option TalkState) (h : History) (messages : List Message) → HasAllBut g limits talk h messages →
     HasAllBut (record g { bytes = g.bytes ++ bytes }) limits talk (h ++ on g.side bytes) messages
 more-but g bytes limits talk h messages i = (i.0, ap (λ z. z ++ on g.side bytes) i.1 ∙ on-append g.side g.bytes bytes i.0, i.2)
@@ -235,7 +232,3 @@ pub gathers-in-ok : {E : Type 0} (limits : Limits) (old new : TalkState) (g now 
     IfOk result (λ refused. Gathers limits old g bytes refused new now) → IfOk result (λ refused. GathersIn limits (Some old) g bytes refused (Some new) now)
 gathers-in-ok limits old new g now bytes (Ok refused) i = gathers-in limits old new g now bytes refused i
 gathers-in-ok limits old new g now bytes (Err e) i = tt
-
-pub stays-in : (limits : Limits) (talk : Option TalkState) (g : SideBytes) → GathersIn limits talk g [] None talk g
-stays-in limits talk g h messages i e =
-    ([], (subst (λ m. HasAllBut g limits talk (h ++ []) m) (sym (append-nil messages)) (subst (λ z. HasAllBut g limits talk z messages) (sym (append-nil h)) i), e))

@@ -1,11 +1,10 @@
 -- What a run of reads comes to, whose last bytes aren't given to the talk yet.
-use Rattle.std.proofs.Common.{◌≡◌, ℕ, ◌<◌, ◌^◌, List, [], ◌++◌, length, Option, None, Some, refl, sym, subst, append-nil}
+use Rattle.std.proofs.Common.{◌≡◌, ℕ, ◌<◌, ◌^◌, List, ◌++◌, length, Option, None, Some, refl, subst}
 use Rattle.std.specs.Io.KnownBytes.{Appends, Consumes}
 use Rattle.zk_talk.specs.declared.limits.Limits.{Limits}
 use Rattle.zk_talk.specs.Held.{Message}
 use Rattle.zk_talk.specs.Stands.{TalkState}
-use Rattle.zk_recordings.specs.Recording.{history_of, place_of}
-use Rattle.zk_recordings.proofs.Any.{longer}
+use Rattle.zk_recordings.specs.Recording.{place_of}
 use Rattle.zk_listings.specs.declared.listing.Listing.{Listing}
 use Rattle.zk_listings.specs.declared.progress.Progress.{Progress}
 use Rattle.zk_listings.specs.declared.summary.Summary.{Summary}
@@ -13,28 +12,17 @@ use Rattle.zk_listings.specs.Lines.{text_of}
 use Rattle.zk_listings.specs.Following.{IsHeadedBy, Opens}
 use Rattle.zk_listings.specs.Gathered.{SideBytes}
 use Rattle.zk_listings.specs.Gathering.{FollowsBut, ReachesBut}
-use Rattle.zk_listings.specs.Outcome.{IsGoodWith, IsRunning}
+use Rattle.zk_listings.specs.Outcome.{IsRunning}
 use Rattle.zk_listings.specs.Running.{HasBegunLines, HasReached}
 use Rattle.zk_listings.proofs.Feeding.{grown-whole}
-use Rattle.zk_listings.proofs.Found.{begun-by, reads, running-begun}
+use Rattle.zk_listings.proofs.Found.{begun-by, running, running-begun}
 use Rattle.zk_listings.proofs.Gathering.{but-follows, good-here-but}
 use Rattle.zk_listings.proofs.Runs.{none-begun}
-use Rattle.zk_listings.proofs.Opened.{opens-decided, opens-later}
-use Rattle.zk_listings.proofs.Outcomes.{outcome-good}
+use Rattle.zk_listings.proofs.Opened.{opens-decided, opens-later, opens-longer, opens-whole}
 
 module _ (g : SideBytes) (limits : Limits) (x : List ℕ) (messages : List Message) (p : Progress) (i : FollowsBut g limits x messages p) (size : length x < 2 ^ 62) where
   running-but : (before after : Option (List ℕ)) → Consumes before after x → IsRunning limits before after messages
-  running-but before after consumed =
-      let r = i.recording in
-      let good = good-here-but g limits x messages p i size in
-      record {
-        bytes = x;
-        recording = r;
-        reads = reads before after x r consumed i.at.spells;
-        unbroken = i.unbroken;
-        good = good;
-        only = λ others summary o. outcome-good limits r messages others summary good o;
-      }
+  running-but before after consumed = running limits before after x messages i.recording consumed i.at.spells i.unbroken (good-here-but g limits x messages p i size)
 
   -- the run ends here
   pub reached-but : (listing : Listing) (before after contents contents_now : Option (List ℕ)) → Consumes before after x → Appends contents contents_now (text_of listing messages) →
@@ -47,32 +35,14 @@ module _ (g : SideBytes) (limits : Limits) (x : List ℕ) (messages : List Messa
       record { messages = messages; begun = running-begun limits before after messages (running-but before after consumed); written = grown-whole contents contents_now _ written }
 
   opens-here : Opens limits x messages
-  opens-here = record {
-    recording = i.recording;
-    spells = i.at.spells;
-    front = history_of i.recording;
-    rest = [];
-    splits = sym (append-nil (history_of i.recording));
-    good = good-here-but g limits x messages p i size;
-  }
+  opens-here = opens-whole limits x messages i.recording i.at.spells (good-here-but g limits x messages p i size)
 
   -- and whatever follows
   pub opens-but : (more : List ℕ) → Opens limits (x ++ more) messages
   opens-but more = go p.talk refl where
     go : (talk : Option TalkState) → p.talk ≡ talk → Opens limits (x ++ more) messages
     go None e = opens-later limits x more messages p (but-follows g limits x messages p (none-begun g p e limits x messages i) i)
-    go (Some t) e =
-        let r = i.recording in
-        let l = longer r x more i.at.spells in
-        let headed = subst (λ z. IsHeadedBy z (place_of r)) e i.headed in
-        record {
-          recording = l.new;
-          spells = l.spells;
-          front = history_of r;
-          rest = l.after;
-          splits = l.history;
-          good = subst (λ z. IsGoodWith z (history_of r) messages) (sym (l.limits_are headed limits)) (good-here-but g limits x messages p i size);
-        }
+    go (Some t) e = opens-longer limits x more messages i.recording i.at.spells (subst (λ z. IsHeadedBy z (place_of i.recording)) e i.headed) (good-here-but g limits x messages p i size)
 
   -- more bytes were read, and none of them counts
   pub begun-more : (listing : Listing) (before after contents contents_now : Option (List ℕ)) (more : List ℕ) → Consumes before after (x ++ more) → Appends contents contents_now (text_of listing messages) →

@@ -5,20 +5,18 @@ use Rattle.std.proofs.lemmas.List.{length-take-le}
 use Rattle.zk_talk.specs.declared.limits.Limits.{Limits}
 use Rattle.zk_talk.specs.declared.message.Fault.{Fault}
 use Rattle.zk_talk.specs.declared.message.Side.{Side}
-use Rattle.zk_talk.specs.declared.message.Ending.TheVariants.{Refused}
 use Rattle.zk_talk.specs.Held.{Message}
 use Rattle.zk_talk.specs.History.{on}
 use Rattle.zk_talk.specs.Stands.{TalkState}
-use Rattle.zk_recordings.specs.declared.parts.DamageAt.{DamageAt}
 use Rattle.zk_recordings.specs.Reader.{ReaderState}
-use Rattle.zk_recordings.specs.Reading.{IsAt, IsDecidedBy, IsHeaded, IsUndamaged, ReadsContent, ReadsOn, content_of}
+use Rattle.zk_recordings.specs.Reading.{IsAt, IsHeaded, IsUndamaged, ReadsContent, ReadsOn, content_of}
 use Rattle.zk_recordings.specs.Recording.{Place, Recording, Spells, history_of, limits_of, place_of}
 use Rattle.zk_listings.specs.declared.listing.Listing.{Listing}
 use Rattle.zk_listings.specs.declared.listing.Listing.TheVariants.{All, Last}
 use Rattle.zk_listings.specs.declared.progress.Progress.{Progress}
 use Rattle.zk_listings.specs.declared.summary.Summary.{Summary}
 use Rattle.zk_listings.specs.declared.summary.Summary.TheVariants.{Ended, Broken}
-use Rattle.zk_listings.specs.Following.{Decides, IsHeadedBy, Steps, Takes}
+use Rattle.zk_listings.specs.Following.{IsHeadedBy, IsKnown, Steps, Takes, ended_by}
 use Rattle.zk_listings.specs.Gathered.{SideBytes}
 use Rattle.zk_listings.specs.Gathering.{AdvancesBut, FollowsBut, Gathers, GathersIn, HasAllBut, HasAllButOr, IsGathered, ReachesBut, StepsBut}
 use Rattle.zk_listings.specs.Outcome.{IsBroken}
@@ -78,76 +76,72 @@ headed-some : (talk : Option TalkState) (place : Place) → (talk ≡ None → �
 headed-some None place some i = absurd (some refl)
 headed-some (Some t) place some i = i
 
-module _ (g now : SideBytes) (p : Progress) (lines block : List ℕ) (used : ℕ) (side : Option Side) (state : ReaderState) (now_limits : Limits) (refused : Option Fault) (talk : Option TalkState)
+module _ (g now : SideBytes) (p p' : Progress) (lines block : List ℕ) (used : ℕ) (side : Option Side) (now_limits : Limits) (refused : Option Fault)
     (begun : p.talk ≡ None → ⊥)
     (part : used ≤ length block)
-    (reads : (x : List ℕ) (r : Recording) → IsAt p.reader x r → ReadsOn state x r (take used block) side)
-    (limits_are : (x : List ℕ) (r : Recording) → IsAt state x r → IsHeaded (place_of r) → now_limits ≡ limits_of p.limits r)
-    (gathers : GathersIn now_limits p.talk g (content_of side (take used block)) refused talk now)
-    (p' : Progress) (options : p'.limits ≡ p.limits) (talk_is : p'.talk ≡ talk) where
+    (options : p'.limits ≡ p.limits)
+    (reads : (x : List ℕ) (r : Recording) → IsAt p.reader x r → ReadsOn p'.reader x r (take used block) side)
+    (limits_are : (x : List ℕ) (r : Recording) → IsAt p'.reader x r → IsHeaded (place_of r) → now_limits ≡ limits_of p.limits r)
+    (gathers : GathersIn now_limits p.talk g (content_of side (take used block)) refused p'.talk now) where
   module _ (limits : Limits) (x : List ℕ) (messages : List Message) (i : FollowsBut g limits x messages p) where
-    abbrev next : ReadsOn state x i.recording (take used block) side
+    abbrev next : ReadsOn p'.reader x i.recording (take used block) side
     next = reads x i.recording i.at
 
     comes : (other : Option Fault) → refused ≡ other →
-        (more : List Message) × IsHeaded (place_of next.new) × HasAllButOr now (limits_of limits next.new) talk other (history_of next.new) (messages ++ more)
+        (more : List Message) × IsHeaded (place_of next.new) × HasAllButOr now (limits_of limits next.new) p'.talk other (history_of next.new) (messages ++ more)
     comes other same_fault =
         let r = next in
         let stays = goes-headed i.recording r.new (take used block) side r.goes_on (headed-some p.talk (place_of i.recording) begun i.headed) in
         let e : now_limits ≡ limits_of limits r.new = limits_are _ r.new r.is stays.headed ∙ ap (λ l. limits_of l r.new) i.options in
         let same = sym (e ∙ stays.limits_are limits) in
         let m = gathers (history_of i.recording) messages (subst (λ l. HasAllBut g l p.talk (history_of i.recording) messages) same i.has) (subst (λ l. IsGathered l p.talk g) same i.gathered) in
-        let here = subst (λ z. HasAllButOr now now_limits talk z (history_of i.recording ++ content_of side (take used block)) (messages ++ m.0)) same_fault m.1 in
-        let there = subst (λ h. HasAllButOr now now_limits talk other h (messages ++ m.0)) (sym (goes-history i.recording r.new (take used block) side r.goes_on)) here in
-        (m.0, stays.headed, subst (λ l. HasAllButOr now l talk other (history_of r.new) (messages ++ m.0)) e there)
+        let here = subst (λ z. HasAllButOr now now_limits p'.talk z (history_of i.recording ++ content_of side (take used block)) (messages ++ m.0)) same_fault m.1 in
+        let there = subst (λ h. HasAllButOr now now_limits p'.talk other h (messages ++ m.0)) (sym (goes-history i.recording r.new (take used block) side r.goes_on)) here in
+        (m.0, stays.headed, subst (λ l. HasAllButOr now l p'.talk other (history_of r.new) (messages ++ m.0)) e there)
 
-  pub run-refused : (fault : Fault) → refused ≡ Some fault → StepsBut g Last p lines block used (Some (Ended (Refused fault))) now p' lines
-  run-refused fault e = λ limits x messages i size.
+  -- a fault or a damage stands, whatever follows the block
+  pub run-known : (other : Option Fault) (found : Option Summary) → refused ≡ other → IsKnown p'.reader other found → StepsBut g Last p lines block used found now p' lines
+  run-known (Some fault) found e known = subst (λ z. StepsBut g Last p lines block used z now p' lines) (sym known) (λ limits x messages i size.
       let r = next limits x messages i in
-      let c = comes limits x messages i (Some fault) e in (
-        c.0,
-        subst (λ z. Decides limits (x ++ block) (messages ++ c.0) z (Ended (Refused fault))) (sym talk_is)
-            (decides-by_fault limits x block used r.new (messages ++ c.0) talk fault r.is.spells c.1 c.2),
-        sym (append-nil lines),
-      )
-
-  pub run-broken : refused ≡ None → (d : DamageAt) → ((x : List ℕ) (r : Recording) → IsAt state x r → IsDecidedBy d x r) → StepsBut g Last p lines block used (Some (Broken d)) now p' lines
-  run-broken e d damaged = λ limits x messages i size.
+      let c = comes limits x messages i (Some fault) e in
+      (c.0, decides-by_fault limits x block used r.new (messages ++ c.0) p'.talk fault r.is.spells c.1 c.2, sym (append-nil lines)))
+  run-known None (Some (Broken d)) e damaged = λ limits x messages i size.
       let r = next limits x messages i in
       let c = comes limits x messages i None e in
       let read : length (x ++ take used block) < 2 ^ 62 = omega (arith, size, part, length-append x (take used block), length-take-le used block part) in
-      let good = good-but now (limits_of limits r.new) talk (history_of r.new) (messages ++ c.0) c.2.0 c.2.1 (omega (arith, read, history-within now.side r.new _ r.is.spells)) in (
-        c.0,
-        decides-by_damage limits x block used r.new (messages ++ c.0) p'.talk d r.is.spells (damaged _ r.new r.is) good,
-        sym (append-nil lines),
-      )
-
-  pub run-on : refused ≡ None → IsUndamaged state → p'.reader ≡ state → StepsBut g Last p lines block used None now p' lines
-  run-on e undamaged reader = λ limits x messages i size.
+      let good = good-but now (limits_of limits r.new) p'.talk (history_of r.new) (messages ++ c.0) c.2.0 c.2.1 (omega (arith, read, history-within now.side r.new _ r.is.spells)) in
+      (c.0, decides-by_damage limits x block used r.new (messages ++ c.0) p'.talk d r.is.spells (damaged _ r.new r.is) good, sym (append-nil lines))
+  run-known None (Some (Ended ending)) e known = absurd known
+  run-known None None e undamaged = λ limits x messages i size.
       let r = next limits x messages i in
       let c = comes limits x messages i None e in (
         c.0,
         record {
           options = options ∙ i.options;
           recording = r.new;
-          at = subst (λ s. IsAt s (x ++ take used block) r.new) (sym reader) r.is;
+          at = r.is;
           unbroken = λ b. undamaged _ r.new b.damage r.is (broken-by r.new _ b r.is.spells);
           headed = headed-by p'.talk (place_of r.new) c.1;
-          has = subst (λ z. HasAllBut now (limits_of limits r.new) z (history_of r.new) (messages ++ c.0)) (sym talk_is) c.2.0;
-          gathered = subst (λ z. IsGathered (limits_of limits r.new) z now) (sym talk_is) c.2.1;
+          has = c.2.0;
+          gathered = c.2.1;
         },
         sym (append-nil lines),
       )
 
--- ---- content that was read behind what is gathered
+-- ---- content that was read after what is gathered
 
-module _ (before now : SideBytes) (p p' : Progress) (t u : TalkState) (bytes : List ℕ) (now_limits : Limits) (refused : Option Fault)
-    (talk : p.talk ≡ Some t) (options : p'.limits ≡ p.limits) (talk_is : p'.talk ≡ Some u)
-    (reads : ReadsContent p.reader before.side bytes p'.reader) (still : IsUndamaged p'.reader)
-    (limits_are : (x : List ℕ) (r : Recording) → IsAt p'.reader x r → IsHeaded (place_of r) → now_limits ≡ limits_of p.limits r)
+-- what a reader of which no damage is known adds
+known-by : (reader : ReaderState) (refused : Option Fault) → IsUndamaged reader → IsKnown reader refused (ended_by refused)
+known-by reader None undamaged = undamaged
+known-by reader (Some fault) undamaged = refl
+
+module _ (before now : SideBytes) (p : Progress) (state : ReaderState) (t u : TalkState) (bytes : List ℕ) (now_limits : Limits) (refused : Option Fault)
+    (talk : p.talk ≡ Some t)
+    (reads : ReadsContent p.reader before.side bytes state) (still : IsUndamaged state)
+    (limits_are : (x : List ℕ) (r : Recording) → IsAt state x r → IsHeaded (place_of r) → now_limits ≡ limits_of p.limits r)
     (gathers : Gathers now_limits t (record before { bytes = before.bytes ++ bytes }) [] refused u now) where
-  begun : p.talk ≡ None → ⊥
-  begun e = none-some t _ (sym talk ∙ e)
+  abbrev taken-to : Progress
+  taken-to = record p { reader = state; talk = Some u }
 
   within : GathersIn now_limits p.talk before (content_of (Some before.side) (take (length bytes) bytes)) refused (Some u) now
   within =
@@ -155,70 +149,64 @@ module _ (before now : SideBytes) (p p' : Progress) (t u : TalkState) (bytes : L
       subst (λ b. GathersIn now_limits p.talk before (on before.side b) refused (Some u) now) (sym (take-length bytes))
       (subst (λ z. GathersIn now_limits z before (on before.side bytes) refused (Some u) now) (sym talk) (gathers-in now_limits t u before now (on before.side bytes) refused all))
 
-  reads-all : (x : List ℕ) (r : Recording) → IsAt p.reader x r → ReadsOn p'.reader x r (take (length bytes) bytes) (Some before.side)
-  reads-all x r i = subst (λ b. ReadsOn p'.reader x r b (Some before.side)) (sym (take-length bytes)) (reads x r i)
+  reads-all : (x : List ℕ) (r : Recording) → IsAt p.reader x r → ReadsOn state x r (take (length bytes) bytes) (Some before.side)
+  reads-all x r i = subst (λ b. ReadsOn state x r b (Some before.side)) (sym (take-length bytes)) (reads x r i)
 
-  pub read-refused : (lines : List ℕ) (fault : Fault) → refused ≡ Some fault → AdvancesBut before Last p lines bytes (Some (Ended (Refused fault))) now p' lines
-  read-refused lines fault e =
-      run-refused before now p lines bytes (length bytes) (Some before.side) p'.reader now_limits refused (Some u) begun (omega arith) reads-all limits_are within p' options talk_is fault e
-
-  pub read-on : (lines : List ℕ) → refused ≡ None → AdvancesBut before Last p lines bytes None now p' lines
-  read-on lines e =
-      subst (λ b. AdvancesBut before Last p lines b None now p' lines) (take-length bytes)
-      (run-on before now p lines bytes (length bytes) (Some before.side) p'.reader now_limits refused (Some u) begun (omega arith) reads-all limits_are within p' options talk_is e still refl)
+  pub read-known : (lines : List ℕ) → AdvancesBut before Last p lines bytes (ended_by refused) now taken-to lines
+  read-known lines = advances (ended_by refused) (run-known before now p taken-to lines bytes (length bytes) (Some before.side) now_limits refused (λ e. none-some t _ (sym talk ∙ e)) (omega arith) refl reads-all limits_are within refused
+      (ended_by refused) refl (known-by state refused still)) where
+        advances : (found : Option Summary) → StepsBut before Last p lines bytes (length bytes) found now taken-to lines → AdvancesBut before Last p lines bytes found now taken-to lines
+        advances None steps = subst (λ b. AdvancesBut before Last p lines b None now taken-to lines) (take-length bytes) steps
+        advances (Some summary) steps = steps
 
 -- ---- all is given to the talk
 
-module _ (g now : SideBytes) (p p' : Progress) (t u : TalkState) (refused : Option Fault) (talk : p.talk ≡ Some t) (options : p'.limits ≡ p.limits) (reader : p'.reader ≡ p.reader) (talk_is : p'.talk ≡ Some u)
+module _ (g now : SideBytes) (p : Progress) (t u : TalkState) (refused : Option Fault) (talk : p.talk ≡ Some t)
     (empty : now.bytes ≡ []) (same : u.limits ≡ t.limits) (taken : (lines : List ℕ) → Takes Last t lines (on g.side g.bytes) refused u lines) where
-  given : (limits : Limits) (x : List ℕ) (messages : List Message) (i : FollowsBut g limits x messages p) → (other : Option Fault) → refused ≡ other →
-      (more : List Message) × HasAllButOr now (limits_of limits i.recording) (Some u) other (history_of i.recording) (messages ++ more)
-  given limits x messages i other e =
+  abbrev given-to : Progress
+  given-to = record p { talk = Some u }
+
+  reaches : (limits : Limits) (x : List ℕ) (earlier messages : List Message) (i : FollowsBut g limits x earlier p) (other : Option Fault) →
+      HasAllButOr now (limits_of limits i.recording) (Some u) other (history_of i.recording) messages → ReachesBut now limits (x ++ []) messages given-to (ended_by other)
+  reaches limits x earlier messages i None has = record {
+    options = i.options;
+    recording = i.recording;
+    at = subst (λ y. IsAt p.reader y i.recording) (sym (append-nil x)) i.at;
+    unbroken = λ b. i.unbroken (subst (λ y. IsBroken y i.recording) (append-nil x) b);
+    headed = subst (λ z. IsHeadedBy z (place_of i.recording)) talk i.headed;
+    has = has.0;
+    gathered = has.1;
+  }
+  reaches limits x earlier messages i (Some fault) has =
+      decides-by_fault limits x [] 0 i.recording messages (Some u) fault (subst (λ y. Spells y i.recording) (sym (append-nil x)) i.at.spells)
+      (subst (λ z. IsHeadedBy z (place_of i.recording)) talk i.headed) has
+
+  pub all-known : (lines : List ℕ) → AdvancesBut g Last p lines [] (ended_by refused) now given-to lines
+  all-known lines limits x messages i size =
       let l = limits_of limits i.recording in
-      given-all l t u g now other empty same (subst (λ z. (lines : List ℕ) → Takes Last t lines (on g.side g.bytes) z u lines) e taken) (history_of i.recording) messages
-      (subst (λ z. HasAllBut g l z (history_of i.recording) messages) talk i.has)
+      let c = given-all l t u g now refused empty same taken (history_of i.recording) messages (subst (λ z. HasAllBut g l z (history_of i.recording) messages) talk i.has) in
+      (c.0, reaches limits x messages (messages ++ c.0) i refused c.1, sym (append-nil lines))
 
-  pub all-refused : (lines : List ℕ) (fault : Fault) → refused ≡ Some fault → AdvancesBut g Last p lines [] (Some (Ended (Refused fault))) now p' lines
-  all-refused lines fault e limits x messages i size =
-      let c = given limits x messages i (Some fault) e in
-      let headed = subst (λ z. IsHeadedBy z (place_of i.recording)) talk i.headed in (
-        c.0,
-        subst (λ z. Decides limits (x ++ []) (messages ++ c.0) z (Ended (Refused fault))) (sym talk_is)
-            (decides-by_fault limits x [] 0 i.recording (messages ++ c.0) (Some u) fault (subst (λ y. Spells y i.recording) (sym (append-nil x)) i.at.spells) headed c.1),
-        sym (append-nil lines),
-      )
-
-  pub all-on : (lines : List ℕ) → refused ≡ None → AdvancesBut g Last p lines [] None now p' lines
-  all-on lines e limits x messages i size =
-      let c = given limits x messages i None e in (
-        c.0,
-        record {
-          options = options ∙ i.options;
-          recording = i.recording;
-          at = subst (λ y. IsAt p'.reader y i.recording) (sym (append-nil x)) (subst (λ s. IsAt s x i.recording) (sym reader) i.at);
-          unbroken = λ b. i.unbroken (subst (λ y. IsBroken y i.recording) (append-nil x) b);
-          headed = subst (λ z. IsHeadedBy z (place_of i.recording)) (sym talk_is) (subst (λ z. IsHeadedBy z (place_of i.recording)) talk i.headed);
-          has = subst (λ z. HasAllBut now (limits_of limits i.recording) z (history_of i.recording) (messages ++ c.0)) (sym talk_is) c.1.0;
-          gathered = subst (λ z. IsGathered (limits_of limits i.recording) z now) (sym talk_is) c.1.1;
-        },
-        sym (append-nil lines),
-      )
-
-pub empty-on : (g now : SideBytes) (listing : Listing) (p : Progress) (lines : List ℕ) → g.bytes ≡ [] → now.bytes ≡ [] → AdvancesBut g listing p lines [] None now p lines
-empty-on g now listing p lines e empty limits x messages i size =
-    let all = follows-but now limits x messages p empty (but-follows g limits x messages p e i) in
+-- where nothing is gathered
+pub none-on : (g now : SideBytes) (listing : Listing) (p : Progress) (lines : List ℕ) → IsNoneBut g p → now.bytes ≡ [] → AdvancesBut g listing p lines [] None now p lines
+none-on g now listing p lines none empty limits x messages i size =
+    let all = follows-but now limits x messages p empty (but-follows g limits x messages p (none limits x messages i) i) in
     ([], subst (λ m. FollowsBut now limits (x ++ []) m p) (sym (append-nil messages)) (subst (λ y. FollowsBut now limits y messages p) (sym (append-nil x)) all), listed-none listing lines)
 
 -- with lines nothing is gathered
-pub given-up : (g now : SideBytes) (listing : Listing) (p p' : Progress) (lines : List ℕ) (found : Option Summary) → (listing ≡ All → g.bytes ≡ []) → (g.bytes ≡ [] → (found ≡ None) × (p' ≡ p)) →
-    now.bytes ≡ [] → AdvancesBut g Last p lines [] found now p' lines → AdvancesBut g listing p lines [] found now p' lines
-given-up g now All p p' lines found listed none empty advances =
+given-up : (g now : SideBytes) (listing : Listing) (p new : Progress) (lines : List ℕ) (found : Option Summary) → (listing ≡ All → g.bytes ≡ []) → (g.bytes ≡ [] → (found ≡ None) × (new ≡ p)) →
+    now.bytes ≡ [] → AdvancesBut g Last p lines [] found now new lines → AdvancesBut g listing p lines [] found now new lines
+given-up g now All p new lines found listed none empty advances =
     let e = listed refl in
     let n = none e in
-    subst (λ z. AdvancesBut g All p lines [] z now p' lines) (sym n.0) (subst (λ q. AdvancesBut g All p lines [] None now q lines) (sym n.1) (empty-on g now All p lines e empty))
-given-up g now Last p p' lines found listed none empty advances = advances
+    subst (λ z. AdvancesBut g All p lines [] z now new lines) (sym n.0) (subst (λ q. AdvancesBut g All p lines [] None now q lines) (sym n.1) (none-on g now All p lines (λ limits x messages i. e) empty))
+given-up g now Last p new lines found listed none empty advances = advances
 
-pub none-on : (g now : SideBytes) (p : Progress) (lines : List ℕ) → p.talk ≡ None → now.bytes ≡ [] → AdvancesBut g Last p lines [] None now p lines
-none-on g now p lines e empty limits x messages i size =
-    let all = follows-but now limits x messages p empty (but-follows g limits x messages p (none-begun g p e limits x messages i) i) in
-    ([], subst (λ m. FollowsBut now limits (x ++ []) m p) (sym (append-nil messages)) (subst (λ y. FollowsBut now limits y messages p) (sym (append-nil x)) all), sym (append-nil lines))
+-- a block, and then what is gathered
+pub given-last : (g between now : SideBytes) (listing : Listing) (p mid new : Progress) (lines during block : List ℕ) (found last : Option Summary) → found ≡ None →
+    AdvancesBut g listing p lines block found between mid during → (listing ≡ All → between.bytes ≡ []) → (between.bytes ≡ [] → (last ≡ None) × (new ≡ mid)) →
+    now.bytes ≡ [] → AdvancesBut between Last mid during [] last now new during → AdvancesBut g listing p lines block last now new during
+given-last g between now listing p mid new lines during block found last goes_on taken listed none empty advances =
+    let first = subst (λ z. AdvancesBut g listing p lines block z between mid during) goes_on taken in
+    let second = given-up between now listing mid new during last listed none empty advances in
+    subst (λ b. AdvancesBut g listing p lines b last now new during) (append-nil block) (advances-but-then g between now listing p mid new lines during during block [] last first second)

@@ -1,5 +1,5 @@
 -- What a run finds before the end.
-use Rattle.std.proofs.Common.{◌≡◌, ℕ, List, [], ◌++◌, take, drop, Option, Some, None, inl, inr, refl, sym, ap, ◌∙◌, subst, append_assoc, append-nil}
+use Rattle.std.proofs.Common.{◌≡◌, ℕ, List, ◌++◌, take, drop, Option, Some, None, inl, inr, refl, sym, ap, ◌∙◌, subst, append_assoc, append-nil}
 use Rattle.std.proofs.lemmas.List.{take-append-drop}
 use Rattle.zk_talk.specs.declared.limits.Limits.{Limits}
 use Rattle.zk_talk.specs.Held.{Message}
@@ -13,16 +13,12 @@ use Rattle.zk_talk.specs.Answer.{AreMessages}
 use Rattle.zk_talk.specs.Stands.{TalkState, Refuses}
 use Rattle.zk_talk.proofs.Headline.{fault_is_bad, refused, refuses_more, stands_messages}
 use Rattle.zk_recordings.specs.declared.parts.DamageAt.{DamageAt}
-use Rattle.zk_listings.specs.declared.progress.Progress.{Progress}
-use Rattle.zk_listings.specs.declared.listing.Listing.{Listing}
-use Rattle.zk_listings.specs.declared.summary.Summary.{Summary}
 use Rattle.zk_listings.specs.declared.summary.Summary.TheVariants.{Ended, Broken}
 use Rattle.zk_recordings.specs.Recording.{Recording, Spells, place_of, begun_history, history_at, history_of, limits_at, limits_of, damage_of}
 use Rattle.zk_recordings.specs.Reading.{IsDecidedBy, IsHeaded}
 use Rattle.zk_listings.specs.Outcome.{HasNoFault, ComesTo, IsGoodWith}
-use Rattle.zk_listings.specs.Following.{Has, HasRefused, IsKept, Decides, Finishes, Reaches, Advances}
+use Rattle.zk_listings.specs.Following.{Has, HasRefused, IsKept, Decides, Finishes}
 use Rattle.zk_recordings.proofs.Any.{longer}
-use Rattle.zk_listings.proofs.Feeding.{listed-none, listed-then}
 use Rattle.zk_recordings.proofs.Stages.{damaged-more}
 use Rattle.zk_listings.proofs.Talking.{talk_now, has-stands, has-good}
 
@@ -66,22 +62,6 @@ decides-by_damage limits x block n r messages talk d s i good =
       decided = inr (record { damage = d; is = j.damage; decided = j.decided; head_read = j.head_read });
       kept = tt;
     }
-
--- ---- one block after another
-
-pub advances-none : (listing : Listing) (p : Progress) (lines : List ℕ) → Advances listing p lines [] None p lines
-advances-none listing p lines limits x messages i = ([], rw append-nil (rw append-nil i), listed-none listing lines)
-
-pub advances-then : (listing : Listing) (p mid after : Progress) (lines during now a b : List ℕ) (found : Option Summary) →
-    Advances listing p lines a None mid during → Advances listing mid during b found after now → Advances listing p lines (a ++ b) found after now
-advances-then listing p mid after lines during now a b found f g limits x messages i =
-    let one = f limits x messages i in
-    let two = g limits (x ++ a) (messages ++ one.0) one.1 in
-    let joined = subst (λ m. Reaches limits ((x ++ a) ++ b) m after found) (append_assoc messages one.0 two.0) two.1 in (
-      one.0 ++ two.0,
-      subst (λ y. Reaches limits y (messages ++ (one.0 ++ two.0)) after found) (append_assoc x a b) joined,
-      listed-then listing lines during now one.0 two.0 one.2 two.2,
-    )
 
 comes-to_end : (limits : Limits) (h : History) (ending : Ending) → IsEnding limits h ending → ComesTo limits h None (Ended ending)
 comes-to_end limits h (Refused f) i = i

@@ -11,7 +11,8 @@ use Rattle.zk_listings.specs.declared.progress.Progress.{Progress}
 use Rattle.zk_listings.specs.declared.summary.Summary.{Summary}
 use Rattle.zk_listings.specs.declared.summary.Summary.TheVariants.{Ended, Broken}
 use Rattle.zk_recordings.specs.Recording.{Place, Recording, Spells, place_of, history_of, limits_of}
-use Rattle.zk_recordings.specs.Reading.{IsAt, IsHeaded}
+use Rattle.zk_recordings.specs.Reader.{ReaderState}
+use Rattle.zk_recordings.specs.Reading.{IsAt, IsDamagedBy, IsHeaded, IsUndamaged}
 use Rattle.zk_listings.specs.Lines.{text_of}
 use Rattle.zk_listings.specs.Outcome.{IsGoodWith, IsOutcome, IsBroken, IsDecided}
 
@@ -105,6 +106,13 @@ TakesContent limits listing old lines bytes refused new lines_now = (h : History
     (more : List Message) × HasOr limits new refused (h ++ bytes) (messages ++ more) × (lines_now ≡ lines ++ text_of listing more)
 
 -- ---- what a block does to a recording that is read
+
+-- what is known of the summary, whatever follows, from a fault of the talk and a damage of what was read
+abbrev pub IsKnown : ReaderState → Option Fault → Option Summary → Type 0
+IsKnown reader (Some fault) found = found ≡ ended_by (Some fault)
+IsKnown reader None None = IsUndamaged reader
+IsKnown reader None (Some (Broken damage)) = IsDamagedBy reader damage
+IsKnown reader None (Some (Ended ending)) = ⊥
 
 -- the recording goes on, or its summary is known
 abbrev pub Reaches : Limits → List ℕ → List Message → Progress → Option Summary → Type 0

@@ -46,14 +46,17 @@ pub record FollowsBut (g : SideBytes) (limits : Limits) (x : List ℕ) (messages
 
 -- ---- what some bytes of a side do to a talk and to the bytes before them
 
+-- the bytes were given to the talk but for the beginning of a frame, or the talk has refused them
 abbrev pub HasAllButOr : SideBytes → Limits → Option TalkState → Option Fault → History → List Message → Type 0
 HasAllButOr g limits talk None h messages = HasAllBut g limits talk h messages × IsGathered limits talk g
 HasAllButOr g limits talk (Some fault) h messages = HasRefused limits talk h messages fault
 
+-- the same, whatever the last ones are
 abbrev pub HasAllButUnless : SideBytes → Limits → Option TalkState → Option Fault → History → List Message → Type 0
 HasAllButUnless g limits talk None h messages = HasAllBut g limits talk h messages
 HasAllButUnless g limits talk (Some fault) h messages = HasRefused limits talk h messages fault
 
+-- the talk has taken the bytes or refused them, but for those that wait after them
 abbrev pub Gathers : Limits → TalkState → SideBytes → History → Option Fault → TalkState → SideBytes → Type 0
 Gathers limits old g bytes refused new now = (h : History) (messages : List Message) → HasAllBut g limits (Some old) h messages →
     (more : List Message) × HasAllButOr now limits (Some new) refused (h ++ bytes) (messages ++ more)
@@ -63,18 +66,19 @@ abbrev pub Turns : Limits → TalkState → SideBytes → Option Fault → TalkS
 Turns limits old g refused new now = (h : History) (messages : List Message) → HasAllBut g limits (Some old) h messages →
     (more : List Message) × HasAllButUnless now limits (Some new) refused h (messages ++ more)
 
--- the same of content, or of bytes that are none, behind the beginning of a frame
+-- the same of content, or of bytes that are none, after the beginning of a frame
 abbrev pub GathersIn : Limits → Option TalkState → SideBytes → History → Option Fault → Option TalkState → SideBytes → Type 0
 GathersIn limits old g bytes refused new now = (h : History) (messages : List Message) → HasAllBut g limits old h messages → IsGathered limits old g →
     (more : List Message) × HasAllButOr now limits new refused (h ++ bytes) (messages ++ more)
 
 -- ---- what a block does to a recording that is read
 
+-- the recording goes on, but for the bytes that wait, or its summary is known
 abbrev pub ReachesBut : SideBytes → Limits → List ℕ → List Message → Progress → Option Summary → Type 0
 ReachesBut g limits x messages p None = FollowsBut g limits x messages p
 ReachesBut g limits x messages p (Some summary) = Decides limits x messages p.talk summary
 
--- behind less than 2^62 bytes with it, the block was read: the recording goes on, or its summary is known
+-- with less than 2^62 bytes in all, the block was read: the recording goes on, or its summary is known
 abbrev pub AdvancesBut : SideBytes → Listing → Progress → List ℕ → List ℕ → Option Summary → SideBytes → Progress → List ℕ → Type 0
 AdvancesBut g listing p lines block found g_now now lines_now =
     (limits : Limits) (x : List ℕ) (messages : List Message) → FollowsBut g limits x messages p → length x + length block < 2 ^ 62 →

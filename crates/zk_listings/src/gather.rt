@@ -1,23 +1,24 @@
 //! Long frames that go on after a block: their bytes are read one after another, and given to the conversation when they are
 //! whole, so that they aren't copied.
-ghost use Rattle.std.specs.Prelude.{◌≡◌, ◌≢◌, ◌+◌, ◌^◌, ◌<◌, ◌≤◌, ◌++◌, [], None, List, ℕ, pos, IfOk, IsTrue, IfSome, length, take};
-ghost use Rattle.zk_frames.specs.Framing.{IsBeginning, int_bytes};
+ghost use Rattle.std.specs.Prelude.{◌≡◌, ◌≢◌, ◌+◌, ◌^◌, ◌<◌, ◌≤◌, ◌++◌, [], None, List, ℕ, pos, IfOk, IsTrue, IfSome, length};
+ghost use Rattle.zk_frames.specs.Framing.{IsBeginning};
 ghost use Rattle.zk_talk.specs.Fault.{side_limit};
 ghost use Rattle.zk_talk.specs.History.{on};
+ghost use Rattle.zk_talk.specs.declared.limits.Limits.{Limits as limits_of};
 ghost use Rattle.zk_listings.specs.declared.listing.Listing.TheVariants.{Last};
 ghost use Rattle.zk_listings.specs.Following.{Takes};
 ghost use Rattle.zk_listings.specs.Gathering.{AdvancesBut, Begins, Gathers, GathersIn, IsNextRead, StepsBut, TakesRead, Turns};
 ghost use Rattle.zk_recordings.specs.Reading.{IsInContent, content_of, place_in};
-ghost use Rattle.zk_talk.specs.declared.limits.Limits.{Limits as limits_of};
 
 use crate::engines::BLOCK;
 use crate::gathered::Gathered;
-use crate::progress::{Progress, judge};
+use crate::progress::{Progress, ended_by, judge};
 use crate::summary::Summary;
 use std::alloc::AllocError;
-use zk_talk::{Ending, Fault, Limits, Side, Talk};
+use zk_jute::int_at;
+use zk_talk::{Fault, Limits, Side, Talk};
 
-/// A piece of this many bytes is long: one more read for its head costs less than a copy of its bytes.
+/// The least number of bytes of a long piece, for whose head a read of its own is worth while.
 const LONG: u32 = 32_768;
 
 /// The number of bytes that are read for the head of a piece; it has 5 or 13.
@@ -42,14 +43,6 @@ fn limit_of(limits: &Limits, side: Side) -> u32
     }
 }
 
-/// The int that the first four of `bytes` spell, big-endian.
-fn first_int(bytes: &[u8]) -> i32
-    requires { 4 ≤ length bytes.now }
-    ensures { take 4 bytes.now ≡ int_bytes result }
-{
-    i32::from_be_bytes([bytes[0], bytes[1], bytes[2], bytes[3]])
-}
-
 /// `length`, if it is that of a payload of at least a block, and of at most `limit` bytes.
 fn long_within(limit: u32, length: i32) -> Option<u32>
     ensures { IfSome result (λ n. (length ≡ pos n) × (n ≤ limit)) }
@@ -64,11 +57,11 @@ fn long_within(limit: u32, length: i32) -> Option<u32>
 fn begins_long(limit: u32, bytes: &[u8]) -> bool
     ensures { IsTrue result → IsBeginning limit bytes.now }
 {
-    if bytes.len() < 4 {
+    let Ok((length, place)) = int_at(bytes, 0) else {
         return false;
-    }
-    match long_within(limit, first_int(bytes)) {
-        Some(length) => bytes.len() - 4 < length as usize,
+    };
+    match long_within(limit, length) {
+        Some(length) => bytes.len() - place < length as usize,
         None => false,
     }
 }
@@ -176,18 +169,12 @@ impl Progress {
         let limits = self.reader.limits(self.limits);
         let bytes = &block[..run.used];
         let refused = gather_run(&mut self.talk, gathered, &limits, run.side, bytes)?;
-        *found = match refused {
-            Some(fault) => Some(Summary::Ended(Ending::Refused(fault))),
-            None => match self.reader.damage() {
-                Some(lasting) => Some(Summary::Broken(lasting)),
-                None => None,
-            },
-        };
+        *found = self.known(refused);
         Ok(run.used)
     }
 
-    /// What is read next: where a long frame is gathered, and its pieces are long, its content as far as the piece has it,
-    /// and then no more than the head of the next one and some bytes; else a block.
+    /// What is read next: where a long frame is gathered, its pieces are long and earlier frames left room, its content as far
+    /// as the piece has it, and then no more than the head of the next one and some bytes; else a block.
     pub fn next_read(&self, gathered: &Gathered) -> NextRead
         ensures { IsNextRead self.now gathered.now result }
     {
@@ -226,10 +213,7 @@ impl Progress {
         let Some(talk) = &mut self.talk else {
             unreachable!()
         };
-        match hand_over(talk, gathered, &limits) {
-            Some(fault) => Some(Summary::Ended(Ending::Refused(fault))),
-            None => None,
-        }
+        ended_by(hand_over(talk, gathered, &limits))
     }
 
     /// Gives what is gathered to the conversation. Returns the recording's summary if it is known, whatever follows.
@@ -246,9 +230,6 @@ impl Progress {
             gathered.begin(side);
             return None;
         };
-        match settle(talk, gathered, side) {
-            Some(fault) => Some(Summary::Ended(Ending::Refused(fault))),
-            None => None,
-        }
+        ended_by(settle(talk, gathered, side))
     }
 }

@@ -2,7 +2,7 @@
 ghost use Rattle.std.specs.Prelude.{◌≡◌, ◌≢◌, ◌+◌, ◌-◌, ◌^◌, ◌<◌, ◌≤◌, ◌++◌, ◌↔◌, [], true, Err, min, length, take, IsTrue, IfOk, OnOk, OnErr, IsErrOf};
 ghost use Rattle.std.specs.Io.KnownBytes.{IsAtEnd, Keeps};
 ghost use Rattle.zk_listings.specs.declared.listing.RunFault.TheVariants.{Read, Write, Memory};
-ghost use Rattle.zk_listings.specs.Gathered.{ReadsBehind};
+ghost use Rattle.zk_listings.specs.Gathered.{ReadsAfter};
 
 use crate::engines::BLOCK;
 use crate::listing::RunFault;
@@ -14,7 +14,7 @@ use zk_talk::Side;
 /// The bytes that are asked for first: a block that the C library makes longer without a copy.
 const ROOM: usize = 262_144;
 
-/// Bytes of one side.
+/// Bytes of one side, in room for more.
 #[derive(Drop)]
 pub(crate) struct Gathered {
     side: Side,
@@ -68,7 +68,7 @@ fn read_to<R: Source>(
     requires room { at + most ≤ length room.old }
     ensures long { length room.new ≡ length room.old }
     ensures bound { IfOk result (λ n. n ≤ most) }
-    ensures bytes { IfOk result (λ n. ReadsBehind (R.remaining reader.old) (R.remaining reader.new) (take at room.old) n (take (at + n) room.new)) }
+    ensures bytes { IfOk result (λ n. ReadsAfter (R.remaining reader.old) (R.remaining reader.new) (take at room.old) n (take (at + n) room.new)) }
     ensures end { IfOk result (λ n. n ≡ 0 → IsAtEnd (R.remaining reader.new)) }
     ensures same { OnErr result (take at room.new ≡ take at room.old) }
     ensures kept { OnErr result (Keeps (R.remaining reader.old) (R.remaining reader.new)) }
@@ -148,8 +148,8 @@ impl Gathered {
         Ok(())
     }
 
-    /// Reads at most `most` bytes, at most a block, after these, and returns how many came; 0 only at the end. Where earlier
-    /// bytes have left no room, some is made of those of `block`.
+    /// Reads at most `most` bytes, which are at most a block, after these, and returns how many came: 0 only at the end. Where
+    /// earlier bytes have left no room, those of `block` make some.
     pub fn read<R: Source>(
         &mut self,
         reader: &mut R,
@@ -160,7 +160,7 @@ impl Gathered {
         requires block { length block.now ≡ 65536 }
         ensures bound { IfOk result (λ n. n ≤ most) }
         ensures side { self.new.side ≡ self.old.side }
-        ensures bytes { IfOk result (λ n. ReadsBehind (R.remaining reader.old) (R.remaining reader.new) self.old.bytes n self.new.bytes) }
+        ensures bytes { IfOk result (λ n. ReadsAfter (R.remaining reader.old) (R.remaining reader.new) self.old.bytes n self.new.bytes) }
         ensures end { IfOk result (λ n. n ≡ 0 → IsAtEnd (R.remaining reader.new)) }
         ensures same { OnErr result (self.new.bytes ≡ self.old.bytes) }
         ensures kept { OnErr result (Keeps (R.remaining reader.old) (R.remaining reader.new)) }

@@ -26,10 +26,10 @@
 //! no fault.
 //!
 //! **A long frame is gathered where no line is listed.** A frame that a block holds whole is judged there. Of one that goes
-//! on, and has at least a block, the bytes are gathered. The first such frame is copied from the blocks; later ones are read
-//! into the room that it leaves, where the pieces are long, with a read of its own for each head. The conversation is given
-//! them when the frame is whole, a byte of the other side comes, or the recording ends. Until then they are the beginning
-//! of a frame, which adds no message.
+//! on, and whose payload has at least 65,536 bytes, the bytes are gathered. The first such frame is copied from the blocks;
+//! later ones are read into the room that it leaves, where the pieces are long, with a read of its own for each head. The
+//! conversation is given them when the frame is whole, a byte of the other side comes, or the input ends. Until then they
+//! are the beginning of a frame, which adds no message.
 //!
 //! **`show` and `check` are one loop**, and differ in which lines they write. `show` keeps the lines of a block in one
 //! buffer and writes them before the next read. If memory runs out within a block, its lines are not written.

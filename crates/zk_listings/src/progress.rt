@@ -9,7 +9,8 @@ ghost use Rattle.zk_answers.specs.declared.layout.Layout.TheVariants as layouts;
 ghost use Rattle.zk_listings.specs.declared.listing.Listing.TheVariants.{All, Last};
 ghost use Rattle.zk_listings.specs.Earliest.{TellsBody};
 ghost use Rattle.zk_recordings.specs.Reading.{content_of, place_in};
-ghost use Rattle.zk_listings.specs.Following.{Follows, Finishes, HasRefused, Takes, TakesTo, TakesContent, Has, Steps};
+ghost use Rattle.zk_listings.specs.Following as following;
+ghost use Rattle.zk_listings.specs.Following.{Follows, Finishes, HasRefused, IsKnown, Takes, TakesTo, TakesContent, Has, Steps};
 ghost use Rattle.zk_listings.specs.Gathering.{AdvancesBut, StepsBut};
 
 use crate::gathered::Gathered;
@@ -234,14 +235,22 @@ impl Progress {
             listing,
             lines,
         )?;
-        *found = match refused {
+        *found = self.known(refused);
+        Ok(run.used)
+    }
+
+    /// The recording's summary, if it is known, whatever follows: that of a fault of the conversation, or of a damage.
+    #[inline(always)]
+    pub fn known(&self, refused: Option<Fault>) -> Option<Summary>
+        ensures { IsKnown self.now.reader refused result }
+    {
+        match refused {
             Some(fault) => Some(Summary::Ended(Ending::Refused(fault))),
             None => match self.reader.damage() {
                 Some(damage) => Some(Summary::Broken(damage)),
                 None => None,
             },
-        };
-        Ok(run.used)
+        }
     }
 
     /// `advance`; a piece that is whole at the front of the block is taken at once, head and content, if the conversation
@@ -326,6 +335,17 @@ impl Progress {
             Some(damage) => Summary::Broken(damage),
             None => Summary::Ended(ending(&self.talk)),
         }
+    }
+}
+
+/// The summary of a recording whose conversation has this fault.
+#[inline(always)]
+pub(crate) fn ended_by(refused: Option<Fault>) -> Option<Summary>
+    ensures { result ≡ following.ended_by refused }
+{
+    match refused {
+        Some(fault) => Some(Summary::Ended(Ending::Refused(fault))),
+        None => None,
     }
 }
 

@@ -20,7 +20,8 @@ impl RecordingReader {
         }
     }
 
-    /// Takes the next `count` bytes, which are content and of no account here.
+    /// Takes the next `count` bytes of the content that the reader is within, wherever they lie: at most as many as `content`
+    /// returns.
     // Stands for `next` with these bytes.
     pub fn take_content(&mut self, count: u32)
         requires within { (side : side_of) × (left : ℕ) × IsInContent self.old side left × (count ≤ left) }
@@ -38,7 +39,7 @@ impl RecordingReader {
         }
     }
 
-    /// The number of bytes that the newest piece has, as far as its head is read.
+    /// The number of bytes of the newest piece whose head is read; 0 before the first.
     pub fn piece_size(&self) -> u32
         ensures { result ≡ self.now.size }
     {

@@ -1,13 +1,13 @@
-use Rattle.std.proofs.Common.{arith, ◌+◌, ◌<◌, ◌^◌, ◌++◌, ℕ, [], Result, Ok, Err, IsErrOf, refl, sym, ap, length, length-append, subst, append-nil}
-use Rattle.std.specs.Io.KnownBytes.{Appends, Consumes}
+use Rattle.std.proofs.Common.{arith, ◌+◌, ◌<◌, ◌^◌, ◌++◌, [], Result, Ok, Err, IsErrOf, refl, ap, length, length-append, subst}
+use Rattle.std.specs.Io.KnownBytes.{Appends}
 use Rattle.std.proofs.lemmas.Result.{err_from_is_err_and}
 use Rattle.zk_listings.specs.Gathering.{ReachesBut}
 use Rattle.zk_listings.specs.Outcome.{HasGrownIn}
-use Rattle.zk_listings.proofs.Bytes.{Appends-none, Consumes-kept, Consumes-none, Consumes-then}
+use Rattle.zk_listings.proofs.Bytes.{Consumes-kept, Consumes-none, Consumes-then}
 use Rattle.zk_listings.proofs.Feeding.{told-then, grown-then}
 use Rattle.zk_listings.proofs.Found.{found-at_end, found-decided, begun-by, appended}
 use Rattle.zk_listings.proofs.Gathering.{but-follows}
-use Rattle.zk_listings.proofs.Runs.{given-up}
+use Rattle.zk_listings.proofs.Runs.{given-last}
 use Rattle.zk_listings.proofs.Reached.{begun-but, begun-more, opens-reached-but, reached-but}
 use Rattle.zk_listings.proofs.engines.read_on.Goals as goal
 
@@ -72,25 +72,17 @@ pub returns-in-Some-give_up-clause-ok : goal.returns-in-Some-give_up-clause-ok
 returns-in-Some-give_up-clause-ok g c =
     let i = c.loop-turn.invariant.read in
     let t = c.in_ok-count.ensures.has in
-    let limits = c.args.limits in
-    let listing = c.args.listing in
     let size : length i.0 + length t.0 < 2 ^ 62 = omega (arith, i.4, t.1, c.in_ok-count.ensures.most, c.loop-turn-test.true) in
-    let x = i.0 ++ t.0 in
-    let all : length x + length {A = ℕ} [] < 2 ^ 62 = omega (arith, size, length-append i.0 t.0) in
-    let a = t.3 limits i.0 i.1 i.3 size in
+    let given = given-last c.loop-turn.gathered c.read_once.new.gathered c.give_up.new.gathered c.args.listing c.loop-turn.progress c.read_once.new.progress c.give_up.new.self _ _ t.0 _ c.give_up.result c.in_default.is t.3 in
+    let a = given c.in_ok-count.ensures.listed c.give_up.ensures.none c.give_up.ensures.empty (c.give_up.ensures.advances _) c.args.limits i.0 i.1 i.3 size in
     let text = appended _ _ _ _ c.as_slice.ensures.value a.2 c.loop-turn.invariant.empty in
-    let follows = subst (ReachesBut c.read_once.new.gathered limits x (i.1 ++ a.0) c.read_once.new.progress) c.in_default.is a.1 in
-    let gave = given-up c.read_once.new.gathered c.give_up.new.gathered listing c.read_once.new.progress c.give_up.new.self [] c.give_up.result c.in_ok-count.ensures.listed c.give_up.ensures.none c.give_up.ensures.empty (c.give_up.ensures.advances []) in
-    let b = gave limits x (i.1 ++ a.0) follows all in
-    let consumed = subst (Consumes (g.R.Source.remaining c.args.reader.now) (g.R.Source.remaining c.read_once.new.reader)) (sym (append-nil x)) (Consumes-then _ _ _ i.0 t.0 i.2 t.2) in
-    let f = found-decided limits _ _ _ ((i.1 ++ a.0) ++ b.0) c.give_up.new.self.talk c.in-Some-give_up.summary consumed
-    (subst (ReachesBut c.give_up.new.gathered limits (x ++ []) ((i.1 ++ a.0) ++ b.0) c.give_up.new.self) c.in-Some-give_up.is b.1) in
-    let told = told-then listing _ _ _ i.1 a.0 i.5 (subst (Appends (g.W.Sink.contents c.loop-turn.writer) (g.W.Sink.contents c.write_whole.new.writer)) text c.in_ok-write_whole.ensures.ok) in
+    let f = found-decided c.args.limits _ _ _ (i.1 ++ a.0) c.give_up.new.self.talk c.in-Some-give_up.summary (Consumes-then _ _ _ i.0 t.0 i.2 t.2)
+    (subst (ReachesBut c.give_up.new.gathered c.args.limits _ (i.1 ++ a.0) c.give_up.new.self) c.in-Some-give_up.is a.1) in
     record {
       all = record {
-        messages = (i.1 ++ a.0) ++ b.0;
+        messages = i.1 ++ a.0;
         found = f.found;
-        written = told-then listing _ _ _ (i.1 ++ a.0) b.0 told (subst (Appends (g.W.Sink.contents c.write_whole.new.writer) (g.W.Sink.contents c.write_whole.new.writer)) b.2 (Appends-none _));
+        written = told-then c.args.listing _ _ _ i.1 a.0 i.5 (subst (Appends (g.W.Sink.contents c.loop-turn.writer) (g.W.Sink.contents c.write_whole.new.writer)) text c.in_ok-write_whole.ensures.ok);
       };
       kept = f.kept;
     }
@@ -99,27 +91,19 @@ pub returns-then-count-eq0-clause-ok : goal.returns-then-count-eq0-clause-ok
 returns-then-count-eq0-clause-ok g c =
     let i = c.loop-turn.invariant.read in
     let t = c.in_ok-count.ensures.has in
-    let limits = c.args.limits in
-    let listing = c.args.listing in
     let size : length i.0 + length t.0 < 2 ^ 62 = omega (arith, i.4, t.1, c.in_ok-count.ensures.most, c.loop-turn-test.true) in
-    let x = i.0 ++ t.0 in
-    let all : length x + length {A = ℕ} [] < 2 ^ 62 = omega (arith, size, length-append i.0 t.0) in
-    let a = t.3 limits i.0 i.1 i.3 size in
+    let given = given-last c.loop-turn.gathered c.read_once.new.gathered c.give_up.new.gathered c.args.listing c.loop-turn.progress c.read_once.new.progress c.give_up.new.self _ _ t.0 _ c.give_up.result c.in_default.is t.3 in
+    let a = given c.in_ok-count.ensures.listed c.give_up.ensures.none c.give_up.ensures.empty (c.give_up.ensures.advances _) c.args.limits i.0 i.1 i.3 size in
     let text = appended _ _ _ _ c.as_slice.ensures.value a.2 c.loop-turn.invariant.empty in
-    let follows = subst (ReachesBut c.read_once.new.gathered limits x (i.1 ++ a.0) c.read_once.new.progress) c.in_default.is a.1 in
-    let gave = given-up c.read_once.new.gathered c.give_up.new.gathered listing c.read_once.new.progress c.give_up.new.self [] c.give_up.result c.in_ok-count.ensures.listed c.give_up.ensures.none c.give_up.ensures.empty (c.give_up.ensures.advances []) in
-    let b = gave limits x (i.1 ++ a.0) follows all in
-    let last = subst (ReachesBut c.give_up.new.gathered limits (x ++ []) ((i.1 ++ a.0) ++ b.0) c.give_up.new.self) c.in_default-give_up.is b.1 in
-    let whole = but-follows c.give_up.new.gathered limits (x ++ []) ((i.1 ++ a.0) ++ b.0) c.give_up.new.self c.give_up.ensures.empty last in
-    let consumed = subst (Consumes (g.R.Source.remaining c.args.reader.now) (g.R.Source.remaining c.read_once.new.reader)) (sym (append-nil x)) (Consumes-then _ _ _ i.0 t.0 i.2 t.2) in
-    let f = found-at_end limits _ _ _ (x ++ []) [] ((i.1 ++ a.0) ++ b.0) c.give_up.new.self.talk c.finish.result consumed (Consumes-none _) refl (c.in_ok-count.ensures.end c.if-count-eq0.true)
-    (c.finish.ensures limits (x ++ []) ((i.1 ++ a.0) ++ b.0) whole) in
-    let told = told-then listing _ _ _ i.1 a.0 i.5 (subst (Appends (g.W.Sink.contents c.loop-turn.writer) (g.W.Sink.contents c.write_whole.new.writer)) text c.in_ok-write_whole.ensures.ok) in
+    let last = subst (ReachesBut c.give_up.new.gathered c.args.limits (i.0 ++ t.0) (i.1 ++ a.0) c.give_up.new.self) c.in_default-give_up.is a.1 in
+    let whole = but-follows c.give_up.new.gathered c.args.limits (i.0 ++ t.0) (i.1 ++ a.0) c.give_up.new.self c.give_up.ensures.empty last in
+    let f = found-at_end c.args.limits _ _ _ (i.0 ++ t.0) [] (i.1 ++ a.0) c.give_up.new.self.talk c.finish.result (Consumes-then _ _ _ i.0 t.0 i.2 t.2) (Consumes-none _) refl (c.in_ok-count.ensures.end c.if-count-eq0.true)
+    (c.finish.ensures c.args.limits (i.0 ++ t.0) (i.1 ++ a.0) whole) in
     record {
       all = record {
-        messages = (i.1 ++ a.0) ++ b.0;
+        messages = i.1 ++ a.0;
         found = f.found;
-        written = told-then listing _ _ _ (i.1 ++ a.0) b.0 told (subst (Appends (g.W.Sink.contents c.write_whole.new.writer) (g.W.Sink.contents c.write_whole.new.writer)) b.2 (Appends-none _));
+        written = told-then c.args.listing _ _ _ i.1 a.0 i.5 (subst (Appends (g.W.Sink.contents c.loop-turn.writer) (g.W.Sink.contents c.write_whole.new.writer)) text c.in_ok-write_whole.ensures.ok);
       };
       kept = f.kept;
     }
