@@ -1,8 +1,10 @@
 //! Tests of which of the client's frames a reply answers, by `Talk::answered`.
-use crate::frames::piece;
+use crate::calls::called;
+use crate::frames::{parts, piece, usual};
+use std::alloc::Global;
 use std::process::Abort;
 use std::test::Fail;
-use zk_talk::{Limits, Talk};
+use zk_talk::Talk;
 
 /// The number after each of these steps, or takes. The client's frames are the connect request (0), exists
 /// (1, 3, 7, 9) under the xids 1 to 4, pings (2, 4, 8), setWatches (5), and an auth (6), which comes in two pieces, as the
@@ -37,27 +39,45 @@ const REFUSED: &str = "\
 step C 000000080000000500000000 = Some(9)
 step S 00000010fffffffe000000000000000500000000 = None";
 
-#[test]
-fn replies_answer_frames(rt: HostRuntime) -> Result<(), Fail> {
-    let limits = Limits::new(4_194_304, 4_194_304, 65_536).ok_or("no limits")?;
-    let mut talk = Talk::new(rt.alloc(), limits)?;
+/// Whether the call of a row refuses its piece.
+fn is_refused(alloc: Global, talk: &mut Talk, asked: &str) -> Result<bool, Fail> {
+    let (call, asked) = asked.split_once(' ').ok_or("no call")?;
+    let (side, bytes) = piece(alloc, asked)?;
+    Ok(called(talk, call, side, &bytes).is_err())
+}
+
+/// The number after the call of a row is what the row says.
+fn row_answers(rt: &impl Abort, alloc: Global, talk: &mut Talk, row: &str) -> Result<(), Fail> {
+    let (asked, want) = parts(row)?;
+    let fault = is_refused(alloc, talk, asked)?;
+    let found = format!(in alloc; "{:?}", talk.answered())?;
+    assert!(rt; found.as_str() == want, "{row}: {found}, refused: {fault}");
+    Ok(())
+}
+
+/// So it is after each call of the rows.
+fn answers(rt: &impl Abort, alloc: Global, talk: &mut Talk, rows: &str) -> Result<(), Fail> {
+    for row in rows.lines() {
+        row_answers(rt, alloc, talk, row)?;
+    }
+    Ok(())
+}
+
+/// So it is in a new conversation, and anew.
+fn answers_anew(rt: &impl Abort, alloc: Global, talk: &mut Talk) -> Result<(), Fail> {
     for _ in 0..2 {
-        assert!(&rt; talk.answered().is_none());
-        for rows in [ANSWERED, REFUSED] {
-            for row in rows.lines() {
-                let (asked, want) = row.split_once(" = ").ok_or("no row")?;
-                let (call, asked) = asked.split_once(' ').ok_or("no call")?;
-                let (side, bytes) = piece(rt.alloc(), asked)?;
-                let fault = if call == "take" {
-                    talk.take(side, &bytes).is_err()
-                } else {
-                    talk.step(side, &bytes).is_err()
-                };
-                let found = format!(in rt.alloc(); "{:?}", talk.answered())?;
-                assert!(&rt; found.as_str() == want, "{row}: {found}, refused: {fault}");
-            }
-        }
+        assert!(rt; talk.answered().is_none());
+        answers(rt, alloc, talk, ANSWERED)?;
+        answers(rt, alloc, talk, REFUSED)?;
         talk.renew();
     }
     Ok(())
+}
+
+#[test]
+fn replies_answer_frames(rt: HostRuntime) -> Result<(), Fail> {
+    let mut talk = Talk::new(rt.alloc(), usual()?)?;
+    let answered = answers_anew(&rt, rt.alloc(), &mut talk);
+    drop(talk);
+    answered
 }

@@ -1,19 +1,46 @@
 //! Tests of `Talk`, call by call: what each returns, and what the sides then hold.
-use crate::frames::piece;
+use crate::frames::{begins, parts, piece, usual};
 use std::alloc::Global;
 use std::process::Abort;
 use std::test::Fail;
 use zk_records::Profile;
 use zk_talk::{Fault, Limits, Side, Talk};
 
-/// How much of the piece is used, and whether a message came.
-fn called(talk: &mut Talk, call: &str, side: Side, piece: &[u8]) -> Result<(usize, bool), Fault> {
+/// How much of the piece is used, and whether a message came, by `take`.
+fn took(talk: &mut Talk, side: Side, piece: &[u8]) -> Result<(usize, bool), Fault> {
+    let taken = talk.take(side, piece)?;
+    let told = (taken.used, taken.message.is_some());
+    drop(taken);
+    Ok(told)
+}
+
+/// How much of the piece is used, and whether a message came, by the call of this name.
+pub(crate) fn called(
+    talk: &mut Talk,
+    call: &str,
+    side: Side,
+    piece: &[u8],
+) -> Result<(usize, bool), Fault> {
     if call == "take" {
-        let taken = talk.take(side, piece)?;
-        return Ok((taken.used, taken.message.is_some()));
+        return took(talk, side, piece);
     }
     let stepped = talk.step(side, piece)?;
     Ok((stepped.used, stepped.whole))
+}
+
+/// How much is held of the client, and of the server.
+fn held(talk: &Talk) -> (u32, u32) {
+    (talk.held(Side::Client), talk.held(Side::Server))
+}
+
+/// Whether a message of the side is shown.
+fn is_shown(talk: &Talk, side: Side) -> bool {
+    talk.view(side).is_some()
+}
+
+/// Whether a message of the client is shown, and one of the server.
+fn shown(talk: &Talk) -> (bool, bool) {
+    (is_shown(talk, Side::Client), is_shown(talk, Side::Server))
 }
 
 /// What the call of a row returns, how much is then held of the client and of the server, what waits, and whether a
@@ -22,25 +49,32 @@ fn told(alloc: Global, talk: &mut Talk, asked: &str) -> Result<String, Fail> {
     let (call, row) = asked.split_once(' ').ok_or("no call")?;
     let (side, bytes) = piece(alloc, row)?;
     let answer = called(talk, call, side, &bytes);
-    let shown = (
-        talk.view(Side::Client).is_some(),
-        talk.view(Side::Server).is_some(),
-    );
-    let held = (talk.held(Side::Client), talk.held(Side::Server));
-    let waiting = talk.waiting();
+    let (held, waiting, shown) = (held(talk), talk.waiting(), shown(talk));
     Ok(format!(in alloc; "{answer:?} held {held:?} waiting {waiting} shown {shown:?}")?)
 }
 
+/// The call of a row returns what the row says.
+fn goes_on(rt: &impl Abort, alloc: Global, talk: &mut Talk, row: &str) -> Result<(), Fail> {
+    let (asked, want) = parts(row)?;
+    let told = told(alloc, talk, asked)?;
+    begins(rt, asked, &told, want);
+    Ok(())
+}
+
 /// Each call of the rows returns what its row says.
-fn goes(rt: &impl Abort, alloc: Global, rows: &str) -> Result<(), Fail> {
-    let limits = Limits::new(4_194_304, 4_194_304, 65_536).ok_or("no limits")?;
-    let mut talk = Talk::new(alloc, limits)?;
+fn keeps(rt: &impl Abort, alloc: Global, talk: &mut Talk, rows: &str) -> Result<(), Fail> {
     for row in rows.lines() {
-        let (asked, want) = row.split_once(" = ").ok_or("no row")?;
-        let told = told(alloc, &mut talk, asked)?;
-        assert!(rt; told.starts_with(want), "{asked} = {told}");
+        goes_on(rt, alloc, talk, row)?;
     }
     Ok(())
+}
+
+/// So does each call of a new conversation.
+fn goes(rt: &impl Abort, alloc: Global, rows: &str) -> Result<(), Fail> {
+    let mut talk = Talk::new(alloc, usual()?)?;
+    let kept = keeps(rt, alloc, &mut talk, rows);
+    drop(talk);
+    kept
 }
 
 /// Within a request and after it, by `take`, which keeps no frame.

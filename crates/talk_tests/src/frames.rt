@@ -1,5 +1,6 @@
 //! Frames and limits that the tests share.
 use std::alloc::Global;
+use std::process::Abort;
 use std::test::Fail;
 use zk_records::Profile;
 use zk_talk::{Limits, Side};
@@ -18,15 +19,37 @@ pub(crate) const EXISTS: &[u8] = b"\0\0\0\x0f\0\0\0\x01\0\0\0\x03\0\0\0\x02/a\x0
 /// The reply to it: there is no such node.
 pub(crate) const NO_NODE: &[u8] = b"\0\0\0\x10\0\0\0\x01\0\0\0\0\0\0\0\x05\xff\xff\xff\x9b";
 
+/// The first worked example that has a reply.
+pub(crate) const EXAMPLE: [(Side, &[u8]); 4] = [
+    (Side::Client, CONNECT),
+    (Side::Server, CONNECTED),
+    (Side::Client, EXISTS),
+    (Side::Server, NO_NODE),
+];
+
+/// The usual limits.
+pub(crate) fn usual() -> Result<Limits, Fail> {
+    Ok(Limits::new(4_194_304, 4_194_304, 65_536).ok_or("no limits")?)
+}
+
 /// The usual limits, with the newer profile.
 pub(crate) fn newer() -> Result<Limits, Fail> {
-    let limits = Limits::new(4_194_304, 4_194_304, 65_536).ok_or("no limits")?;
-    Ok(limits.with_profile(Profile::V35))
+    Ok(usual()?.with_profile(Profile::V35))
 }
 
 /// The bytes of hexadecimal digits.
 pub(crate) fn hex(alloc: Global, digits: &str) -> Result<Vec<u8>, Fail> {
     Ok(hex::decode(alloc, digits)?)
+}
+
+/// What a row asks, and what it says of the answer.
+pub(crate) fn parts(row: &str) -> Result<(&str, &str), Fail> {
+    Ok(row.split_once(" = ").ok_or("no row")?)
+}
+
+/// The words begin as their row says.
+pub(crate) fn begins(rt: &impl Abort, asked: &str, told: &str, want: &str) {
+    assert!(rt; told.starts_with(want), "{asked} = {told}");
 }
 
 /// The side of a row, `C` or `S`, and the bytes of the hexadecimal digits after it.

@@ -3,7 +3,7 @@
 //! A call that runs out of memory returns what it does with ample memory when it is called again, and a step allocates
 //! nothing. tests/refusals.py runs the test over each worked example, which is on its standard input, and refuses one
 //! growth a run; with no input it goes over the first example that has a reply.
-use crate::frames::{CONNECT, CONNECTED, EXISTS, NO_NODE, newer};
+use crate::frames::{EXAMPLE, newer};
 use std::alloc::{AllocError, Global};
 use std::io::Read;
 use std::process::Abort;
@@ -93,15 +93,19 @@ fn append(lines: &mut Vec<u8>, bytes: &[u8]) -> Result<(), AllocError> {
 /// The line of a copy of the message.
 fn copied_line(alloc: Global, message: &MessageRef<'_>) -> Result<Vec<u8>, AllocError> {
     let copy = copied(alloc, message)?;
-    line(alloc, &copy)
+    let line = line(alloc, &copy);
+    drop(copy);
+    line
 }
 
 /// The line of the message that `shown` is read as; nothing if it is no line.
 fn line_again(alloc: Global, shown: &[u8]) -> Result<Vec<u8>, AllocError> {
-    match message(alloc, shown) {
-        Ok(message) => line(alloc, &message),
-        Err(_) => Ok(Vec::new(alloc)),
-    }
+    let Ok(message) = message(alloc, shown) else {
+        return Ok(Vec::new(alloc));
+    };
+    let line = line(alloc, &message);
+    drop(message);
+    line
 }
 
 /// A conversation that is read by `take` and by `step`, and said again by its messages and by its payloads.
@@ -113,12 +117,23 @@ struct Reading {
     payloads: Speaker,
 }
 
+/// Both values, if neither was refused.
+fn both<A: Drop, B: Drop>(
+    first: Result<A, AllocError>,
+    second: Result<B, AllocError>,
+) -> Result<(A, B), AllocError> {
+    Ok((first?, second?))
+}
+
 fn begun(alloc: Global, limits: Limits) -> Result<Reading, AllocError> {
+    let talks = both(talk(alloc, limits), talk(alloc, limits));
+    let speakers = both(speaker(alloc, limits), speaker(alloc, limits));
+    let ((taking, stepping), (speaker, payloads)) = both(talks, speakers)?;
     Ok(Reading {
-        taking: talk(alloc, limits)?,
-        stepping: talk(alloc, limits)?,
-        speaker: speaker(alloc, limits)?,
-        payloads: speaker(alloc, limits)?,
+        taking,
+        stepping,
+        speaker,
+        payloads,
     })
 }
 
@@ -148,22 +163,19 @@ fn taken_line(
     message: Option<Message>,
     out: &mut Vec<u8>,
 ) -> Result<Vec<u8>, Fail> {
-    match message {
-        Some(message) => said_line(alloc, speaker, &message, out),
-        None => Ok(Vec::new(alloc)),
-    }
+    let Some(message) = message else {
+        return Ok(Vec::new(alloc));
+    };
+    let line = said_line(alloc, speaker, &message, out);
+    drop(message);
+    line
 }
 
 /// The side shows the message of this line, which is read as the same message.
-fn shows(
-    rt: &impl Abort,
-    alloc: Global,
-    message: &MessageRef<'_>,
-    line: &[u8],
-) -> Result<(), Fail> {
-    let seen = line_seen(alloc, message)?;
+fn shows(rt: &impl Abort, alloc: Global, shown: &MessageRef<'_>, line: &[u8]) -> Result<(), Fail> {
+    let seen = line_seen(alloc, shown)?;
     assert_eq!(rt; seen.as_slice(), line);
-    let copied = copied_line(alloc, message)?;
+    let copied = copied_line(alloc, shown)?;
     assert_eq!(rt; copied.as_slice(), line);
     let again = line_again(alloc, line)?;
     assert_eq!(rt; again.as_slice(), line);
@@ -172,10 +184,8 @@ fn shows(
 
 /// How much of the piece a step uses, and whether a frame is whole.
 fn steps(talk: &mut Talk, side: Side, piece: &[u8]) -> Option<(usize, bool)> {
-    match talk.step(side, piece) {
-        Ok(stepped) => Some((stepped.used, stepped.whole)),
-        Err(_) => None,
-    }
+    let stepped = talk.step(side, piece).ok()?;
+    Some((stepped.used, stepped.whole))
 }
 
 /// A step uses as much as was taken, and its frame shows the message of this line; with no line it made no frame whole.
@@ -200,11 +210,7 @@ fn steps_too(
 
 /// A step is refused for the same fault.
 fn refused_too(rt: &impl Abort, talk: &mut Talk, side: Side, piece: &[u8], fault: Fault) {
-    let refused = match talk.step(side, piece) {
-        Ok(_) => None,
-        Err(fault) => Some(fault),
-    };
-    assert_eq!(rt; refused, Some(fault));
+    assert_eq!(rt; talk.step(side, piece).err(), Some(fault));
 }
 
 /// Says the payload that the step kept, if it did.
@@ -228,12 +234,8 @@ fn heard(
     let used = taken.used;
     let line = taken_line(alloc, &mut reading.speaker, taken.message, &mut told.bytes)?;
     steps_too(rt, alloc, &mut reading.stepping, side, piece, (used, &line))?;
-    said_too(
-        &reading.stepping,
-        side,
-        &mut reading.payloads,
-        &mut told.payloads,
-    )?;
+    let out = &mut told.payloads;
+    said_too(&reading.stepping, side, &mut reading.payloads, out)?;
     if line.len() > 0 {
         append(&mut told.lines, &line)?;
         append(&mut told.lines, b"\n")?;
@@ -304,7 +306,9 @@ fn asked(
         lines: Vec::new(alloc),
     };
     let mut reading = begun(alloc, limits)?;
-    hear_all(rt, alloc, &mut reading, &mut told, pieces)?;
+    let heard = hear_all(rt, alloc, &mut reading, &mut told, pieces);
+    drop(reading);
+    heard?;
     assert_eq!(rt; told.payloads, told.bytes);
     Ok(told)
 }
@@ -322,7 +326,9 @@ fn lines_of(alloc: Global, ended: &Ended) -> Result<Vec<u8>, AllocError> {
 
 fn listed(alloc: Global, limits: Limits, pieces: &[(Side, &[u8])]) -> Result<Vec<u8>, AllocError> {
     let ended = all(alloc, limits, pieces)?;
-    lines_of(alloc, &ended)
+    let lines = lines_of(alloc, &ended);
+    drop(ended);
+    lines
 }
 
 /// Makes all calls for the pieces, and then those of a conversation once more.
@@ -373,14 +379,6 @@ fn pieces_of<'a>(alloc: Global, recording: &'a [u8]) -> Result<Vec<(Side, &'a [u
     }
     Ok(pieces)
 }
-
-/// The first worked example that has a reply.
-const EXAMPLE: [(Side, &[u8]); 4] = [
-    (Side::Client, CONNECT),
-    (Side::Server, CONNECTED),
-    (Side::Client, EXISTS),
-    (Side::Server, NO_NODE),
-];
 
 /// How many bytes a worked example has at most.
 const MOST_BYTES: usize = 4_096;

@@ -1,32 +1,43 @@
 //! Tests of the library's usage as its page shows it: a conversation that is read, and one that is said.
-use crate::frames::{CONNECT, CONNECTED, EXISTS};
+use crate::frames::{CONNECT, CONNECTED, EXISTS, usual};
 use std::process::Abort;
 use std::test::Fail;
 use zk_asks::{Ask, ClientFrame};
 use zk_jute::Blob;
 use zk_lines::put_line_ref;
 use zk_records::ConnectRequest;
-use zk_talk::{Ending, Limits, Message, Side, Speaker, Talk};
+use zk_talk::{Ending, Message, Side, Speaker, Talk};
 
 /// The lines of the three messages, as docs/EXAMPLES.md has them.
 const LINES: &[u8] =
     b"C connect version=0 zxid=0 timeout=30000 session=0 passwd=#00000000000000000000000000000000 ro=0\nS connect version=0 timeout=30000 session=72057594037927937 passwd=#000102030405060708090a0b0c0d0e0f ro=0\nC 1 exists path=\"/a\" watch=1\n";
 
-#[test]
-fn a_conversation_is_read(rt: HostRuntime) -> Result<(), Fail> {
-    let limits = Limits::new(4_194_304, 4_194_304, 65_536).ok_or("out of range")?;
-    let mut talk = Talk::new(rt.alloc(), limits)?;
-    let mut messages = Vec::new(rt.alloc());
-    for (side, piece) in [
-        (Side::Client, CONNECT),
-        (Side::Server, CONNECTED),
-        (Side::Client, EXISTS),
-    ] {
-        let taken = talk.take(side, piece)?;
-        assert_eq!(rt; taken.used, piece.len());
-        if let Some(message) = taken.message {
-            messages.push(message)?;
-        }
+/// The pieces of the conversation, a frame each.
+const PIECES: [(Side, &[u8]); 3] = [
+    (Side::Client, CONNECT),
+    (Side::Server, CONNECTED),
+    (Side::Client, EXISTS),
+];
+
+/// Takes all of a piece, and appends its message.
+fn read(
+    rt: &impl Abort,
+    talk: &mut Talk,
+    (side, piece): (Side, &[u8]),
+    messages: &mut Vec<Message>,
+) -> Result<(), Fail> {
+    let taken = talk.take(side, piece)?;
+    assert_eq!(rt; taken.used, piece.len());
+    if let Some(message) = taken.message {
+        messages.push(message)?;
+    }
+    Ok(())
+}
+
+/// Takes all pieces, and appends their messages.
+fn read_all(rt: &impl Abort, talk: &mut Talk, messages: &mut Vec<Message>) -> Result<(), Fail> {
+    for piece in PIECES {
+        read(rt, talk, piece, messages)?;
     }
     assert_eq!(rt; messages.len(), 3);
     assert_eq!(rt; talk.finish(), Ending::Whole { unanswered: 1 });
@@ -34,21 +45,43 @@ fn a_conversation_is_read(rt: HostRuntime) -> Result<(), Fail> {
 }
 
 #[test]
-fn messages_are_seen_where_they_lie(rt: HostRuntime) -> Result<(), Fail> {
-    let limits = Limits::new(4_194_304, 4_194_304, 65_536).ok_or("out of range")?;
-    let mut talk = Talk::new(rt.alloc(), limits)?;
-    let mut lines = Vec::new(rt.alloc());
-    for (side, piece) in [
-        (Side::Client, CONNECT),
-        (Side::Server, CONNECTED),
-        (Side::Client, EXISTS),
-    ] {
-        talk.step(side, piece)?;
-        if let Some(message) = talk.view(side) {
-            put_line_ref(&mut lines, &message)?;
-            lines.push(b'\n')?;
-        }
+fn a_conversation_is_read(rt: HostRuntime) -> Result<(), Fail> {
+    let mut messages = Vec::new(rt.alloc());
+    let mut talk = Talk::new(rt.alloc(), usual()?)?;
+    let read = read_all(&rt, &mut talk, &mut messages);
+    drop(talk);
+    read
+}
+
+/// Steps over a piece, and appends the line of its message.
+fn put_line_seen(
+    talk: &mut Talk,
+    (side, piece): (Side, &[u8]),
+    lines: &mut Vec<u8>,
+) -> Result<(), Fail> {
+    talk.step(side, piece)?;
+    if let Some(message) = talk.view(side) {
+        put_line_ref(lines, &message)?;
+        lines.push(b'\n')?;
     }
+    Ok(())
+}
+
+/// Steps over all pieces, and appends the lines of their messages.
+fn put_lines_seen(talk: &mut Talk, lines: &mut Vec<u8>) -> Result<(), Fail> {
+    for piece in PIECES {
+        put_line_seen(talk, piece, lines)?;
+    }
+    Ok(())
+}
+
+#[test]
+fn messages_are_seen_where_they_lie(rt: HostRuntime) -> Result<(), Fail> {
+    let mut lines = Vec::new(rt.alloc());
+    let mut talk = Talk::new(rt.alloc(), usual()?)?;
+    let put = put_lines_seen(&mut talk, &mut lines);
+    drop(talk);
+    put?;
     assert_eq!(rt; lines.as_slice(), LINES);
     Ok(())
 }
@@ -73,14 +106,25 @@ fn ping(xid: i32) -> Message {
     })
 }
 
-#[test]
-fn a_conversation_is_said(rt: HostRuntime) -> Result<(), Fail> {
-    let limits = Limits::new(4_194_304, 4_194_304, 65_536).ok_or("out of range")?;
-    let mut speaker = Speaker::new(rt.alloc(), limits)?;
-    let mut bytes = Vec::new(rt.alloc());
-    assert_eq!(rt; speaker.say(&connect(), &mut bytes), Ok(()));
-    assert_eq!(rt; speaker.say(&ping(-2), &mut bytes), Ok(()));
+/// The message is said.
+fn is_said(rt: &impl Abort, speaker: &mut Speaker, message: Message, bytes: &mut Vec<u8>) {
+    assert_eq!(rt; speaker.say(&message, bytes), Ok(()));
+    drop(message);
+}
+
+/// The connect request is said, and a ping.
+fn are_said(rt: &impl Abort, speaker: &mut Speaker, bytes: &mut Vec<u8>) {
+    is_said(rt, speaker, connect(), bytes);
+    is_said(rt, speaker, ping(-2), bytes);
     assert_eq!(rt; bytes.len(), 44);
     assert_eq!(rt; speaker.unanswered(), 2);
+}
+
+#[test]
+fn a_conversation_is_said(rt: HostRuntime) -> Result<(), Fail> {
+    let mut bytes = Vec::new(rt.alloc());
+    let mut speaker = Speaker::new(rt.alloc(), usual()?)?;
+    are_said(&rt, &mut speaker, &mut bytes);
+    drop(speaker);
     Ok(())
 }

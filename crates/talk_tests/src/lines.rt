@@ -1,6 +1,8 @@
 //! Tests of the lines of messages and of endings, and of faults in words. Other lines, and those that are refused, are
 //! stored cases of the program.
 use std::alloc::Global;
+use std::fmt::Display;
+use std::process::Abort;
 use std::test::Fail;
 use zk_jute::Reason;
 use zk_lines::{
@@ -11,10 +13,12 @@ use zk_talk::{Ending, Fault, SayFault, Side};
 
 /// Appends the line of the message that `line` is read as to `lines`.
 fn put_again(lines: &mut Vec<u8>, alloc: Global, line: &[u8]) -> Result<(), Fail> {
-    match read_line(alloc, line) {
-        Ok(message) => Ok(put_line(lines, &message)?),
-        Err(_) => Err("not read")?,
-    }
+    let Ok(message) = read_line(alloc, line) else {
+        return Err("not read")?;
+    };
+    let put = put_line(lines, &message);
+    drop(message);
+    Ok(put?)
 }
 
 #[test]
@@ -22,6 +26,13 @@ fn line_behind_another(rt: HostRuntime) -> Result<(), Fail> {
     let mut lines = Vec::from_slice(rt.alloc(), b"one\n")?;
     put_again(&mut lines, rt.alloc(), b"C 1 sync path=\"/a\"")?;
     assert_eq!(rt; lines.as_slice(), b"one\nC 1 sync path=\"/a\"".as_slice());
+    Ok(())
+}
+
+/// The value is shown in these words.
+fn is_shown<T: Display>(rt: &impl Abort, alloc: Global, value: &T, want: &str) -> Result<(), Fail> {
+    let told = format!(in alloc; "{value}")?;
+    assert_eq!(rt; told.as_str(), want);
     Ok(())
 }
 
@@ -35,24 +46,26 @@ fn faults_in_words(rt: HostRuntime) -> Result<(), Fail> {
         place: 0,
         reason: Reason::QueueFull,
     };
-    let told = format!(in rt.alloc(); "{fault}")?;
-    assert_eq!(rt;
-        told.as_str(),
-        "side=C frame=2 offset=87 place=0 reason=QueueFull"
-    );
+    let want = "side=C frame=2 offset=87 place=0 reason=QueueFull";
+    is_shown(&rt, rt.alloc(), &fault, want)?;
     let order = SayFault::XidOrder {
         expected: 1,
         got: -2,
     };
-    let told = format!(in rt.alloc(); "{order}")?;
-    assert_eq!(rt; told.as_str(), "XidOrder expected=1 got=-2");
+    is_shown(&rt, rt.alloc(), &order, "XidOrder expected=1 got=-2")?;
     let word = LineFault {
         column: 28,
         reason: LineReason::Word,
     };
-    let told = format!(in rt.alloc(); "{word}")?;
-    assert_eq!(rt; told.as_str(), "column 28: Word");
+    is_shown(&rt, rt.alloc(), &word, "column 28: Word")?;
     assert_eq!(rt; line_reason_name(&LineReason::Word), "Word");
+    Ok(())
+}
+
+/// The ending has this line.
+fn ends(rt: &impl Abort, alloc: Global, ending: &Ending, line: &str) -> Result<(), Fail> {
+    let told = ending_line(alloc, ending)?;
+    assert_eq!(rt; told.as_slice(), line.as_bytes());
     Ok(())
 }
 
@@ -88,8 +101,7 @@ fn endings(rt: HostRuntime) -> Result<(), Fail> {
         ),
     ];
     for (ending, line) in rows {
-        let told = ending_line(rt.alloc(), &ending)?;
-        assert_eq!(rt; told.as_slice(), line.as_bytes());
+        ends(&rt, rt.alloc(), &ending, line)?;
     }
     Ok(())
 }

@@ -1,21 +1,24 @@
 //! Tests of `Through`, call by call: what each step returns, what then waits and is left out, and how it ends.
-use crate::frames::piece;
+use crate::frames::{begins, parts, piece, usual};
 use std::alloc::Global;
 use std::process::Abort;
 use std::test::Fail;
 use zk_talk::{Limits, Side};
 use zk_through::Through;
 
+/// Whether the client's frame is left out, and the server's.
+fn left_out(through: &Through) -> (bool, bool) {
+    (
+        through.payload(Side::Client).is_some(),
+        through.payload(Side::Server).is_some(),
+    )
+}
+
 /// What the step of a row returns, what then waits, whether each side's frame is left out, and how the bytes so far end.
 fn told(alloc: Global, through: &mut Through, asked: &str) -> Result<String, Fail> {
     let (side, bytes) = piece(alloc, asked)?;
     let answer = through.step(side, &bytes);
-    let waiting = through.waiting();
-    let out = (
-        through.payload(Side::Client).is_some(),
-        through.payload(Side::Server).is_some(),
-    );
-    let ending = through.finish();
+    let (waiting, out, ending) = (through.waiting(), left_out(through), through.finish());
     Ok(format!(in alloc; "{answer:?} waiting {waiting} out {out:?} ends {ending:?}")?)
 }
 
@@ -24,28 +27,50 @@ const CONNECTED: &str = "\
 C 0000002d000000000000000000000000000075300000000000000000000000100000000000000000000000000000000000 = Ok(Passed { used: 49, went: Message }) waiting 0 out (false, false) ends Whole { unanswered: 1 }
 S 000000250000000000007530010000000000000100000010000102030405060708090a0b0c0d0e0f00 = Ok(Passed { used: 41, went: Message }) waiting 0 out (false, false) ends Whole { unanswered: 0 }";
 
+/// The step of a row returns what the row says.
+fn goes_on(rt: &impl Abort, alloc: Global, through: &mut Through, row: &str) -> Result<(), Fail> {
+    let (asked, want) = parts(row)?;
+    let told = told(alloc, through, asked)?;
+    begins(rt, asked, &told, want);
+    Ok(())
+}
+
 /// Each step of the rows returns what its row says.
 fn keeps(rt: &impl Abort, alloc: Global, through: &mut Through, rows: &str) -> Result<(), Fail> {
     for row in rows.lines() {
-        let (asked, want) = row.split_once(" = ").ok_or("no row")?;
-        let told = told(alloc, through, asked)?;
-        assert!(rt; told.starts_with(want), "{asked} = {told}");
+        goes_on(rt, alloc, through, row)?;
     }
     Ok(())
 }
 
-/// So it does after these two, with room for `waiting` requests; and anew.
+/// No message of either side is shown.
+fn shows_none(rt: &impl Abort, through: &Through) {
+    assert!(rt; through.view(Side::Client).is_none() && through.view(Side::Server).is_none());
+}
+
+/// So it does after these two; and anew.
+fn keeps_anew(
+    rt: &impl Abort,
+    alloc: Global,
+    through: &mut Through,
+    rows: &str,
+) -> Result<(), Fail> {
+    for _ in 0..2 {
+        keeps(rt, alloc, through, CONNECTED)?;
+        keeps(rt, alloc, through, rows)?;
+        through.renew();
+        shows_none(rt, through);
+    }
+    Ok(())
+}
+
+/// So it does with room for `waiting` requests.
 fn goes(rt: &impl Abort, alloc: Global, waiting: u32, rows: &str) -> Result<(), Fail> {
     let limits = Limits::new(4_194_304, 4_194_304, waiting).ok_or("no limits")?;
     let mut through = Through::new(alloc, limits)?;
-    for _ in 0..2 {
-        for rows in [CONNECTED, rows] {
-            keeps(rt, alloc, &mut through, rows)?;
-        }
-        through.renew();
-        assert!(rt; through.view(Side::Client).is_none() && through.view(Side::Server).is_none());
-    }
-    Ok(())
+    let kept = keeps_anew(rt, alloc, &mut through, rows);
+    drop(through);
+    kept
 }
 
 /// getEphemerals of ZooKeeper 3.6 (103) of `/a` under xid 1, its reply, and an exists request between them.
@@ -203,27 +228,44 @@ fn answered(alloc: Global, through: &mut Through, asked: &str) -> Result<String,
     Ok(format!(in alloc; "{:?}", through.answered())?)
 }
 
-/// Each step of `ANSWERS` answers the frame that its row says.
+/// The step of a row answers the frame that the row says.
+fn row_answers(
+    rt: &impl Abort,
+    alloc: Global,
+    through: &mut Through,
+    row: &str,
+) -> Result<(), Fail> {
+    let (asked, want) = parts(row)?;
+    let found = answered(alloc, through, asked)?;
+    assert!(rt; found.as_str() == want, "{asked} = {found}");
+    Ok(())
+}
+
+/// So does each step of `ANSWERS`.
 fn answers(rt: &impl Abort, alloc: Global, through: &mut Through) -> Result<(), Fail> {
     for row in ANSWERS.lines() {
-        let (asked, want) = row.split_once(" = ").ok_or("no row")?;
-        let found = answered(alloc, through, asked)?;
-        assert!(rt; found.as_str() == want, "{asked} = {found}");
+        row_answers(rt, alloc, through, row)?;
+    }
+    Ok(())
+}
+
+/// So it does in a new passage, and anew.
+fn answers_anew(rt: &impl Abort, alloc: Global, through: &mut Through) -> Result<(), Fail> {
+    for _ in 0..2 {
+        assert!(rt; through.answered().is_none());
+        keeps(rt, alloc, through, CONNECTED)?;
+        answers(rt, alloc, through)?;
+        through.renew();
     }
     Ok(())
 }
 
 #[test]
 fn replies_answer_frames(rt: HostRuntime) -> Result<(), Fail> {
-    let limits = Limits::new(4_194_304, 4_194_304, 65_536).ok_or("no limits")?;
-    let mut through = Through::new(rt.alloc(), limits)?;
-    for _ in 0..2 {
-        assert!(&rt; through.answered().is_none());
-        keeps(&rt, rt.alloc(), &mut through, CONNECTED)?;
-        answers(&rt, rt.alloc(), &mut through)?;
-        through.renew();
-    }
-    Ok(())
+    let mut through = Through::new(rt.alloc(), usual()?)?;
+    let answered = answers_anew(&rt, rt.alloc(), &mut through);
+    drop(through);
+    answered
 }
 
 /// Seen late are exists under xid 7, getEphemerals (103) under 8 and a ping. What was asked before are 5, 6 and pings; an
@@ -261,14 +303,25 @@ C 0000000f0000000800000003000000022f6101 = Ok(Passed { used: 19, went: Message }
 S 00000010000000060000000000000005ffffff9b = Err(Fault { side: Server, frame: 2, offset: 64, place: 0, reason: XidOrder { expected: 8, got: 6 } }) waiting 1";
 
 /// Each step of a passage that is seen late returns what its row says; begun anew, its first message is the connect request.
-fn joins(rt: &impl Abort, alloc: Global, rows: &str) -> Result<(), Fail> {
-    let limits = Limits::new(4_194_304, 4_194_304, 65_536).ok_or("no limits")?;
-    let mut through = Through::join(alloc, limits)?;
+fn keeps_late(
+    rt: &impl Abort,
+    alloc: Global,
+    through: &mut Through,
+    rows: &str,
+) -> Result<(), Fail> {
     assert!(rt; through.frames(Side::Client) == 1 && through.frames(Side::Server) == 1);
-    keeps(rt, alloc, &mut through, rows)?;
+    keeps(rt, alloc, through, rows)?;
     through.renew();
-    keeps(rt, alloc, &mut through, CONNECTED)?;
-    keeps(rt, alloc, &mut through, UNASKED)
+    keeps(rt, alloc, through, CONNECTED)?;
+    keeps(rt, alloc, through, UNASKED)
+}
+
+/// So it does with the usual limits.
+fn joins(rt: &impl Abort, alloc: Global, rows: &str) -> Result<(), Fail> {
+    let mut through = Through::join(alloc, usual()?)?;
+    let kept = keeps_late(rt, alloc, &mut through, rows);
+    drop(through);
+    kept
 }
 
 #[test]
