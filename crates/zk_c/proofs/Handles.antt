@@ -1,12 +1,12 @@
 -- The talk that a handle held is the one that made the step.
-use Rattle.std.proofs.Common.{◌≡◌, ℕ, Bool, List, Some, Result, refl, ap, subst}
+use Rattle.std.proofs.Common.{◌≡◌, ℕ, Bool, List, Option, Some, Result, refl, ap, subst}
 use Rattle.std.specs.Prelude.{unwrap_or}
 use Rattle.zk_talk.specs.declared.message.Side.{Side}
 use Rattle.zk_talk.specs.declared.message.Fault.{Fault}
 use Rattle.zk_talk.specs.declared.message.Ending.{Ending}
 use Rattle.zk_talk.specs.declared.talk.Stepped.{Stepped}
 use Rattle.zk_talk.specs.Stands.{TalkState}
-use Rattle.zk_c.specs.Handle.{Call, IsFinish}
+use Rattle.zk_c.specs.Handle.{Call, Holds, IsFinish}
 use Rattle.zk_c.specs.declared.said.SayAnswer.{SayAnswer}
 use Rattle.zk_c.specs.Voice.{VoiceState}
 use Rattle.zk_c.specs.Saying.{TellsSay, TellsPayload}
@@ -19,6 +19,10 @@ use Rattle.zk_c.specs.Passing.{IsPassing}
 
 pub same_value : {A : Type 0} {x y : A} → Some x ≡ Some y → x ≡ y
 same_value {x = x} e = ap (λ o. unwrap_or o x) e
+
+-- the value that the handle held goes on behind it
+pub goes_on : {A : Type 0} (Is : A → A → Type 0) {x y new : A} {after : Option A} → x ≡ y → after ≡ Some new → Is x new → Holds (Is y) after
+goes_on Is {new = new} same held is = record { value = new; held = held; is = subst (λ o. Is o new) same is }
 
 pub call_of : (Is : Call) {t u new : TalkState} {s r : Side} {piece : List ℕ} {outcome : Result Stepped Fault} → t ≡ u → s ≡ r → Is t s piece outcome new → Is u r piece outcome new
 call_of Is {new = new} {piece = piece} {outcome = outcome} same_talk same_side is =

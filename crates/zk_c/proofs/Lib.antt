@@ -1,10 +1,11 @@
+mod Boxed
 mod Copied
 mod Cutting
 pub mod Handles
 mod Keeping
 mod Opening
 mod Parts
+mod Pointers
 mod Reading
 mod Texts
 mod Values
-mod Walks

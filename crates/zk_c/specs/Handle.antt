@@ -58,6 +58,12 @@ pub record IsPass (old : TalkState) (side : Side) (piece : List ℕ) (outcome : 
   pub advanced : IsAdvanced (λ used whole. PassesOn old side piece used whole new) old side piece outcome new
   pub given_up : kept_on side new ≡ []
 
+-- a value is behind the handle, and this holds of it
+pub record Holds {A : Type 0} (Is : A → Type 0) (after : Option A) : Type 0 where
+  pub value : A
+  pub held : after ≡ Some value
+  pub is : Is value
+
 -- a call that takes a piece of a side
 abbrev pub Call : Type 1
 Call = TalkState → Side → List ℕ → Result Stepped Fault → TalkState → Type 0
@@ -96,10 +102,8 @@ pub record IsRenewed (old new : TalkState) : Type 0 where
   pub none : (new.client_kept ≡ []) × (new.server_kept ≡ [])
 
 -- the talk has begun anew behind the handle
-pub record Renews (old : TalkState) (after : Option TalkState) : Type 0 where
-  pub talk : TalkState
-  pub held : after ≡ Some talk
-  pub is : IsRenewed old talk
+abbrev pub Renews : TalkState → Option TalkState → Type 0
+Renews old = Holds (IsRenewed old)
 
 -- what `Talk::finish` promises
 pub record IsFinish (talk : TalkState) (ending : Ending) : Type 0 where

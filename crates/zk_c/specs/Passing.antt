@@ -27,7 +27,7 @@ use Rattle.zk_c.specs.Numbers.{reason_number}
 use Rattle.zk_c.specs.Answer.{no_fault, fault_numbers, no_message, message_answer, no_line}
 use Rattle.zk_c.specs.Read.{no_read, TellsClient, TellsServer}
 use Rattle.zk_lines.specs.Lines.{line}
-use Rattle.zk_c.specs.Handle.{AreNumbers, TellsText, size_held}
+use Rattle.zk_c.specs.Handle.{AreNumbers, Holds, TellsText, size_held}
 use Rattle.zk_c.specs.Passage.{PassageState, newest_on, answered_on}
 
 -- a step that wasn't made, with this status
@@ -118,10 +118,8 @@ pub record IsRenewed (old new : PassageState) : Type 0 where
   pub begun : HasBegun new
 
 -- and is behind the handle
-pub record Renews (old : PassageState) (after : Option PassageState) : Type 0 where
-  pub passage : PassageState
-  pub held : after ≡ Some passage
-  pub is : IsRenewed old passage
+abbrev pub Renews : PassageState → Option PassageState → Type 0
+Renews old = Holds (IsRenewed old)
 
 -- the side's newest whole frame is no message, or the message isn't kept any more
 abbrev pub ShowsNone : PassageState → Side → Type 0

@@ -18,7 +18,7 @@ use Rattle.zk_c.specs.declared.payload.PayloadAnswer.{PayloadAnswer}
 use Rattle.zk_c.specs.Numbers.{reason_number}
 use Rattle.zk_c.specs.Judged.{payload_answer}
 use Rattle.zk_c.specs.Voice.{VoiceState}
-use Rattle.zk_c.specs.Handle.{AreNumbers}
+use Rattle.zk_c.specs.Handle.{AreNumbers, Holds}
 
 abbrev pub say_number : SayFault → ℕ
 say_number NotFirst = 81
@@ -87,16 +87,12 @@ pub data TellsPayload (old : VoiceState) (side : Side) (p : List ℕ) (new : Voi
       IsPayloadRefused old.speaker side p e → TellsPayload old side p new answer
 
 -- the speaker behind the handle says the payload
-pub record SaysBytes (old : VoiceState) (side : Side) (p : List ℕ) (answer : PayloadAnswer) (after : Option VoiceState) : Type 0 where
-  pub voice : VoiceState
-  pub held : after ≡ Some voice
-  pub says : TellsPayload old side p voice answer
+abbrev pub SaysBytes : VoiceState → Side → List ℕ → PayloadAnswer → Option VoiceState → Type 0
+SaysBytes old side p answer = Holds (λ voice. TellsPayload old side p voice answer)
 
 -- the speaker behind the handle says the line
-pub record SaysLine (old : VoiceState) (text : List ℕ) (answer : SayAnswer) (after : Option VoiceState) : Type 0 where
-  pub voice : VoiceState
-  pub held : after ≡ Some voice
-  pub says : TellsSay old text voice answer
+abbrev pub SaysLine : VoiceState → List ℕ → SayAnswer → Option VoiceState → Type 0
+SaysLine old text answer = Holds (λ voice. TellsSay old text voice answer)
 
 -- the speaker has the same limits, and nothing was said
 pub record IsRenewed (old new : VoiceState) : Type 0 where
@@ -105,10 +101,8 @@ pub record IsRenewed (old new : VoiceState) : Type 0 where
   pub frame : new.frame ≡ []
 
 -- the speaker has begun anew behind the handle
-pub record Renews (old : VoiceState) (after : Option VoiceState) : Type 0 where
-  pub voice : VoiceState
-  pub held : after ≡ Some voice
-  pub is : IsRenewed old voice
+abbrev pub Renews : VoiceState → Option VoiceState → Type 0
+Renews old = Holds (IsRenewed old)
 
 -- a speaker of these limits is behind the handle, and nothing was said
 pub record IsSilent (client server waiting profile : ℕ) (after : Option VoiceState) : Type 0 where

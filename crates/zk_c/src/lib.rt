@@ -22,12 +22,13 @@
 //!
 //! **A handle is a struct that owns what its pointer leads to** (`TalkBox`): its `also_owns` is that of a box, or
 //! nothing. A struct that crosses to C may not hold a `Vec` or a `Box`, so the pointer is one to bytes, and a ghost
-//! field has the value. Only three functions make or open it, with proofs by hand. Each call takes the box out, works
-//! on it as safe code does, and puts it back.
+//! field has the value. Only three functions make or open it, with proofs by hand: one of each, over whatever the
+//! pointer leads to (`proofs/Boxed.antt`), which each box's proofs name. Each call takes the box out, works on it as
+//! safe code does, and puts it back (`kept!`).
 //!
 //! **Each type has its own box and handle** (`TalkBox`, `PassageBox`, `VoiceBox`). A function that C calls takes no
 //! struct with type arguments, nor one that has such a field: the compiler refuses both (`unsupported-generic-in-c`,
-//! `cell-in-c`). The gate refuses an impl that a macro writes.
+//! `cell-in-c`). The gate refuses an impl that a macro writes, so macros write bodies alone.
 //!
 //! **What C asks for is written into its memory.** A line is copied out. For a message's bytes, the caller learns how
 //! many of those that it passed are the frame's. A frame that is said is kept until the next one, so the room can't be
@@ -44,6 +45,7 @@ mod asked;
 mod conversation;
 mod counts;
 mod cut;
+mod kept;
 mod listing;
 mod loose;
 mod number;

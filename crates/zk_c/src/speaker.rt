@@ -10,8 +10,9 @@ ghost use Rattle.zk_c.specs.Judged.{payload_answer};
 ghost use Rattle.zk_c.specs.Saying.{say_answer, SaysLine, SaysBytes, IsSilent, Renews};
 
 use crate::answer::LineAnswer;
+use crate::kept::{filled, kept};
 use crate::loose::Loose;
-use crate::number::{EMPTY, IN_USE, NO_MEMORY, RANGE, WELL, side_of};
+use crate::number::{EMPTY, WELL};
 use crate::payload::PayloadAnswer;
 use crate::said::SayAnswer;
 use crate::talk::limits_of;
@@ -31,30 +32,16 @@ pub struct SpeakerHandle {
 }
 
 impl SpeakerHandle {
-    fn none() -> SpeakerHandle
-        ensures { result.held.value ≡ None }
-    {
-        SpeakerHandle {
-            held: VoiceBox::none(),
-            live: false,
-        }
-    }
-
-    fn of(speaker: Box<Voice, Global>) -> SpeakerHandle
-        ensures { result.held.value ≡ Some speaker.value }
-    {
-        SpeakerHandle {
-            held: VoiceBox::of(Loose::of(speaker)),
-            live: true,
-        }
-    }
-
     /// Takes the speaker out.
     fn take(&mut self, alloc: Global) -> Option<Box<Voice, Global>>
         ensures speaker { MatchOption result (self.old.held.value ≡ None) (λ b. self.old.held.value ≡ Some b.value) }
         ensures left { self.new.held.value ≡ None }
     {
-        let SpeakerHandle { held, live } = replace(self, SpeakerHandle::none());
+        let none = SpeakerHandle {
+            held: VoiceBox::none(),
+            live: false,
+        };
+        let SpeakerHandle { held, live } = replace(self, none);
         if !live {
             return None;
         }
@@ -66,7 +53,11 @@ impl SpeakerHandle {
         requires { self.old.held.value ≡ None }
         ensures { self.new.held.value ≡ Some speaker.value }
     {
-        let SpeakerHandle { held: _, live: _ } = replace(self, SpeakerHandle::of(speaker));
+        let full = SpeakerHandle {
+            held: VoiceBox::of(Loose::of(speaker)),
+            live: true,
+        };
+        let SpeakerHandle { held: _, live: _ } = replace(self, full);
     }
 }
 
@@ -91,20 +82,8 @@ pub extern "C" fn zk_speaker_new(
     // Nothing is changed if it is refused.
     ensures same { result ≢ 0 → handle.new ≡ handle.old }
 {
-    if handle.live {
-        return IN_USE;
-    }
-    let Some(limits) = limits_of(client, server, waiting, profile) else {
-        return RANGE;
-    };
-    let Ok(voice) = Voice::new(alloc, limits) else {
-        return NO_MEMORY;
-    };
-    let Ok(boxed) = Box::new(alloc, voice) else {
-        return NO_MEMORY;
-    };
-    handle.put(boxed);
-    WELL
+    filled!(handle, alloc, limits_of(client, server, waiting, profile)
+        => |limits| Voice::new(alloc, limits))
 }
 
 /// Begins the speaker anew with the same limits. Returns the status.
@@ -115,12 +94,10 @@ pub extern "C" fn zk_speaker_renew(alloc: Global, handle: &mut SpeakerHandle) ->
     // The speaker has said nothing, and the handle keeps it.
     ensures renew { (v : VoiceState) → handle.old.held.value ≡ Some v → (result ≡ 0) × Renews v handle.new.held.value }
 {
-    let Some(mut voice) = handle.take(alloc) else {
-        return EMPTY;
-    };
-    voice.renew();
-    handle.put(voice);
-    WELL
+    kept!(handle, alloc, EMPTY => |voice| {
+        voice.renew();
+        WELL
+    })
 }
 
 /// Says the message whose line the bytes are; its frame is kept until the next line.
@@ -135,12 +112,7 @@ pub extern "C" fn zk_speaker_say(
     // The speaker says the line, and the handle keeps it.
     ensures say { (v : VoiceState) → handle.old.held.value ≡ Some v → SaysLine v line.now result handle.new.held.value }
 {
-    let Some(mut voice) = handle.take(alloc) else {
-        return SayAnswer::none(EMPTY);
-    };
-    let answer = voice.say(alloc, line);
-    handle.put(voice);
-    answer
+    kept!(handle, alloc, SayAnswer::none(EMPTY) => |voice| voice.say(alloc, line))
 }
 
 /// Says the message of the side whose payload the bytes are; its frame is kept until the next message is said.
@@ -158,15 +130,7 @@ pub extern "C" fn zk_speaker_say_payload(
     // The speaker says the payload, and the handle keeps it.
     ensures say { (s : Side) (v : VoiceState) → side_of side ≡ Some s → handle.old.held.value ≡ Some v → SaysBytes v s payload.now result handle.new.held.value }
 {
-    let Some(side) = side_of(side) else {
-        return PayloadAnswer::none(RANGE);
-    };
-    let Some(mut voice) = handle.take(alloc) else {
-        return PayloadAnswer::none(EMPTY);
-    };
-    let answer = voice.say_payload(side, payload);
-    handle.put(voice);
-    answer
+    kept!(handle, alloc, side, PayloadAnswer => |voice| voice.say_payload(side, payload))
 }
 
 /// Writes the frame that was said last, if there is room for it.
@@ -185,12 +149,7 @@ pub extern "C" fn zk_speaker_frame(
     // The speaker stays as it is.
     ensures same { handle.new.held.value ≡ handle.old.held.value }
 {
-    let Some(voice) = handle.take(alloc) else {
-        return LineAnswer::none(EMPTY);
-    };
-    let answer = voice.frame(out);
-    handle.put(voice);
-    answer
+    kept!(handle, alloc, LineAnswer::none(EMPTY) => |voice| voice.frame(out))
 }
 
 /// Frees the speaker and its memory; with no speaker nothing is done.

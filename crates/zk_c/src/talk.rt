@@ -12,8 +12,9 @@ ghost use Rattle.zk_c.specs.Read.{no_read};
 use crate::answer::{EndingAnswer, LineAnswer, MessageAnswer, StepAnswer};
 use crate::conversation::Conversation;
 use crate::counts::{HeldAnswer, WaitingAnswer};
+use crate::kept::{filled, kept};
 use crate::loose::Loose;
-use crate::number::{EMPTY, IN_USE, NO_MEMORY, RANGE, WELL, side_of};
+use crate::number::{EMPTY, WELL};
 use crate::read_answer::ReadAnswer;
 use crate::talk_box::TalkBox;
 use std::alloc::Global;
@@ -33,30 +34,16 @@ pub struct TalkHandle {
 }
 
 impl TalkHandle {
-    fn none() -> TalkHandle
-        ensures { result.held.value ≡ None }
-    {
-        TalkHandle {
-            held: TalkBox::none(),
-            live: false,
-        }
-    }
-
-    fn of(talk: Box<Conversation, Global>) -> TalkHandle
-        ensures { result.held.value ≡ Some talk.value }
-    {
-        TalkHandle {
-            held: TalkBox::of(Loose::of(talk)),
-            live: true,
-        }
-    }
-
     /// Takes the talk out.
     fn take(&mut self, alloc: Global) -> Option<Box<Conversation, Global>>
         ensures talk { MatchOption result (self.old.held.value ≡ None) (λ b. self.old.held.value ≡ Some b.value) }
         ensures left { self.new.held.value ≡ None }
     {
-        let TalkHandle { held, live } = replace(self, TalkHandle::none());
+        let none = TalkHandle {
+            held: TalkBox::none(),
+            live: false,
+        };
+        let TalkHandle { held, live } = replace(self, none);
         if !live {
             return None;
         }
@@ -68,7 +55,11 @@ impl TalkHandle {
         requires { self.old.held.value ≡ None }
         ensures { self.new.held.value ≡ Some talk.value }
     {
-        let TalkHandle { held: _, live: _ } = replace(self, TalkHandle::of(talk));
+        let full = TalkHandle {
+            held: TalkBox::of(Loose::of(talk)),
+            live: true,
+        };
+        let TalkHandle { held: _, live: _ } = replace(self, full);
     }
 }
 
@@ -103,20 +94,8 @@ pub extern "C" fn zk_talk_new(
     // Nothing is changed if it is refused.
     ensures same { result ≢ 0 → handle.new ≡ handle.old }
 {
-    if handle.live {
-        return IN_USE;
-    }
-    let Some(limits) = limits_of(client, server, waiting, profile) else {
-        return RANGE;
-    };
-    let Ok(talk) = Conversation::new(alloc, limits) else {
-        return NO_MEMORY;
-    };
-    let Ok(boxed) = Box::new(alloc, talk) else {
-        return NO_MEMORY;
-    };
-    handle.put(boxed);
-    WELL
+    filled!(handle, alloc, limits_of(client, server, waiting, profile)
+        => |limits| Conversation::new(alloc, limits))
 }
 
 /// Begins the talk anew with the same limits. Returns the status.
@@ -127,12 +106,10 @@ pub extern "C" fn zk_talk_renew(alloc: Global, handle: &mut TalkHandle) -> u32
     // The talk has come through the empty history, and the handle keeps it.
     ensures renew { (t : TalkState) → handle.old.held.value ≡ Some t → (result ≡ 0) × Renews t handle.new.held.value }
 {
-    let Some(mut talk) = handle.take(alloc) else {
-        return EMPTY;
-    };
-    talk.renew();
-    handle.put(talk);
-    WELL
+    kept!(handle, alloc, EMPTY => |talk| {
+        talk.renew();
+        WELL
+    })
 }
 
 /// Takes the piece's bytes up to the end of the first frame that becomes whole, or all of them.
@@ -150,15 +127,7 @@ pub extern "C" fn zk_talk_step(
     // The talk makes the step, and the handle keeps it.
     ensures step { (s : Side) (t : TalkState) → side_of side ≡ Some s → handle.old.held.value ≡ Some t → Tells IsStep t s piece.now result handle.new.held.value }
 {
-    let Some(side) = side_of(side) else {
-        return StepAnswer::none(RANGE);
-    };
-    let Some(mut talk) = handle.take(alloc) else {
-        return StepAnswer::none(EMPTY);
-    };
-    let answer = StepAnswer::of(talk.step(side, piece));
-    handle.put(talk);
-    answer
+    kept!(handle, alloc, side, StepAnswer => |talk| StepAnswer::of(talk.step(side, piece)))
 }
 
 /// Takes the piece's bytes as `zk_talk_step` does, and keeps no frame.
@@ -176,15 +145,7 @@ pub extern "C" fn zk_talk_pass(
     // The talk passes over the bytes, and the handle keeps it.
     ensures pass { (s : Side) (t : TalkState) → side_of side ≡ Some s → handle.old.held.value ≡ Some t → Tells IsPass t s piece.now result handle.new.held.value }
 {
-    let Some(side) = side_of(side) else {
-        return StepAnswer::none(RANGE);
-    };
-    let Some(mut talk) = handle.take(alloc) else {
-        return StepAnswer::none(EMPTY);
-    };
-    let answer = StepAnswer::of(talk.pass(side, piece));
-    handle.put(talk);
-    answer
+    kept!(handle, alloc, side, StepAnswer => |talk| StepAnswer::of(talk.pass(side, piece)))
 }
 
 /// The message of the frame that the side keeps.
@@ -199,15 +160,7 @@ pub extern "C" fn zk_talk_view(alloc: Global, handle: &mut TalkHandle, side: u32
     // The talk stays as it is.
     ensures same { handle.new.held.value ≡ handle.old.held.value }
 {
-    let Some(side) = side_of(side) else {
-        return MessageAnswer::none(RANGE);
-    };
-    let Some(talk) = handle.take(alloc) else {
-        return MessageAnswer::none(EMPTY);
-    };
-    let answer = talk.view(side);
-    handle.put(talk);
-    answer
+    kept!(handle, alloc, side, MessageAnswer => |talk| talk.view(side))
 }
 
 /// Writes the line of the message whose frame the side keeps, if there is room for it.
@@ -227,15 +180,7 @@ pub extern "C" fn zk_talk_line(
     // The talk stays as it is.
     ensures same { handle.new.held.value ≡ handle.old.held.value }
 {
-    let Some(side) = side_of(side) else {
-        return LineAnswer::none(RANGE);
-    };
-    let Some(mut talk) = handle.take(alloc) else {
-        return LineAnswer::none(EMPTY);
-    };
-    let answer = talk.line(side, out);
-    handle.put(talk);
-    answer
+    kept!(handle, alloc, side, LineAnswer => |talk| talk.line(side, out))
 }
 
 /// Writes the fields of the message whose frame the side keeps, as far as there is room.
@@ -255,15 +200,7 @@ pub extern "C" fn zk_talk_fields(
     // The talk stays as it is.
     ensures same { handle.new.held.value ≡ handle.old.held.value }
 {
-    let Some(side) = side_of(side) else {
-        return ReadAnswer::none(RANGE);
-    };
-    let Some(talk) = handle.take(alloc) else {
-        return ReadAnswer::none(EMPTY);
-    };
-    let answer = talk.fields(side, room);
-    handle.put(talk);
-    answer
+    kept!(handle, alloc, side, ReadAnswer => |talk| talk.fields(side, room))
 }
 
 /// Writes the payload of the message whose frame the side keeps, if there is room for it.
@@ -283,15 +220,7 @@ pub extern "C" fn zk_talk_payload(
     // The talk stays as it is.
     ensures same { handle.new.held.value ≡ handle.old.held.value }
 {
-    let Some(side) = side_of(side) else {
-        return LineAnswer::none(RANGE);
-    };
-    let Some(talk) = handle.take(alloc) else {
-        return LineAnswer::none(EMPTY);
-    };
-    let answer = talk.payload(side, out);
-    handle.put(talk);
-    answer
+    kept!(handle, alloc, side, LineAnswer => |talk| talk.payload(side, out))
 }
 
 /// How many requests of the history so far wait for their replies, and what they weigh.
@@ -304,12 +233,7 @@ pub extern "C" fn zk_talk_waiting(alloc: Global, handle: &mut TalkHandle) -> Wai
     // The talk stays as it is.
     ensures same { handle.new.held.value ≡ handle.old.held.value }
 {
-    let Some(talk) = handle.take(alloc) else {
-        return WaitingAnswer::none(EMPTY);
-    };
-    let answer = talk.waiting();
-    handle.put(talk);
-    answer
+    kept!(handle, alloc, WaitingAnswer::none(EMPTY) => |talk| talk.waiting())
 }
 
 /// How many bytes of the side are held of a frame that isn't whole.
@@ -324,15 +248,7 @@ pub extern "C" fn zk_talk_held(alloc: Global, handle: &mut TalkHandle, side: u32
     // The talk stays as it is.
     ensures same { handle.new.held.value ≡ handle.old.held.value }
 {
-    let Some(side) = side_of(side) else {
-        return HeldAnswer::none(RANGE);
-    };
-    let Some(talk) = handle.take(alloc) else {
-        return HeldAnswer::none(EMPTY);
-    };
-    let answer = talk.held(side);
-    handle.put(talk);
-    answer
+    kept!(handle, alloc, side, HeldAnswer => |talk| talk.held(side))
 }
 
 /// How the history so far ends.
@@ -345,12 +261,7 @@ pub extern "C" fn zk_talk_finish(alloc: Global, handle: &mut TalkHandle) -> Endi
     // The talk stays as it is.
     ensures same { handle.new.held.value ≡ handle.old.held.value }
 {
-    let Some(talk) = handle.take(alloc) else {
-        return EndingAnswer::none(EMPTY);
-    };
-    let answer = EndingAnswer::of(talk.finish());
-    handle.put(talk);
-    answer
+    kept!(handle, alloc, EndingAnswer::none(EMPTY) => |talk| EndingAnswer::of(talk.finish()))
 }
 
 /// Writes the line of the ending of the history so far, if there is room for it.
@@ -367,12 +278,7 @@ pub extern "C" fn zk_talk_ending_line(
     // The talk stays as it is.
     ensures same { handle.new.held.value ≡ handle.old.held.value }
 {
-    let Some(talk) = handle.take(alloc) else {
-        return LineAnswer::none(EMPTY);
-    };
-    let answer = talk.ending_line(alloc, out);
-    handle.put(talk);
-    answer
+    kept!(handle, alloc, LineAnswer::none(EMPTY) => |talk| talk.ending_line(alloc, out))
 }
 
 /// Frees the talk and its memory; with no talk nothing is done.

@@ -10,8 +10,9 @@ ghost use Rattle.zk_c.specs.Passage.{PassageState};
 ghost use Rattle.zk_c.specs.Passing.{no_passed, IsMade, IsNew, IsJoined, Renews, TellsStep, IsView, IsLine, IsFields, IsLeftOut, IsFinish};
 
 use crate::answer::{EndingAnswer, LineAnswer, MessageAnswer};
+use crate::kept::{filled, kept};
 use crate::loose::Loose;
-use crate::number::{EMPTY, IN_USE, NO_MEMORY, RANGE, WELL, side_of};
+use crate::number::{EMPTY, WELL};
 use crate::passage::Passage;
 use crate::passage_box::PassageBox;
 use crate::passed::PassedAnswer;
@@ -32,30 +33,16 @@ pub struct ThroughHandle {
 }
 
 impl ThroughHandle {
-    fn none() -> ThroughHandle
-        ensures { result.held.value ≡ None }
-    {
-        ThroughHandle {
-            held: PassageBox::none(),
-            live: false,
-        }
-    }
-
-    fn of(passage: Box<Passage, Global>) -> ThroughHandle
-        ensures { result.held.value ≡ Some passage.value }
-    {
-        ThroughHandle {
-            held: PassageBox::of(Loose::of(passage)),
-            live: true,
-        }
-    }
-
     /// Takes the passage out.
     fn take(&mut self, alloc: Global) -> Option<Box<Passage, Global>>
         ensures passage { MatchOption result (self.old.held.value ≡ None) (λ b. self.old.held.value ≡ Some b.value) }
         ensures left { self.new.held.value ≡ None }
     {
-        let ThroughHandle { held, live } = replace(self, ThroughHandle::none());
+        let none = ThroughHandle {
+            held: PassageBox::none(),
+            live: false,
+        };
+        let ThroughHandle { held, live } = replace(self, none);
         if !live {
             return None;
         }
@@ -67,7 +54,11 @@ impl ThroughHandle {
         requires { self.old.held.value ≡ None }
         ensures { self.new.held.value ≡ Some passage.value }
     {
-        let ThroughHandle { held: _, live: _ } = replace(self, ThroughHandle::of(passage));
+        let full = ThroughHandle {
+            held: PassageBox::of(Loose::of(passage)),
+            live: true,
+        };
+        let ThroughHandle { held: _, live: _ } = replace(self, full);
     }
 }
 
@@ -88,20 +79,8 @@ fn make(
     ensures made { result ≡ 0 → IsMade late client server waiting profile handle.new.held.value }
     ensures same { result ≢ 0 → handle.new ≡ handle.old }
 {
-    if handle.live {
-        return IN_USE;
-    }
-    let Some(limits) = limits_of(client, server, waiting, profile) else {
-        return RANGE;
-    };
-    let Ok(passage) = Passage::new(alloc, limits, late) else {
-        return NO_MEMORY;
-    };
-    let Ok(boxed) = Box::new(alloc, passage) else {
-        return NO_MEMORY;
-    };
-    handle.put(boxed);
-    WELL
+    filled!(handle, alloc, limits_of(client, server, waiting, profile)
+        => |limits| Passage::new(alloc, limits, late))
 }
 
 /// Makes a passage with these limits, of which nothing has come. Returns the status.
@@ -160,12 +139,10 @@ pub extern "C" fn zk_through_renew(alloc: Global, handle: &mut ThroughHandle) ->
     // Nothing has come, and the handle keeps it.
     ensures renew { (p : PassageState) → handle.old.held.value ≡ Some p → (result ≡ 0) × Renews p handle.new.held.value }
 {
-    let Some(mut passage) = handle.take(alloc) else {
-        return EMPTY;
-    };
-    passage.renew();
-    handle.put(passage);
-    WELL
+    kept!(handle, alloc, EMPTY => |passage| {
+        passage.renew();
+        WELL
+    })
 }
 
 /// Takes the piece's bytes up to the end of the first frame that becomes whole, or all of them.
@@ -183,15 +160,7 @@ pub extern "C" fn zk_through_step(
     // The passage makes the step, and the handle keeps it.
     ensures step { (s : Side) (p : PassageState) → side_of side ≡ Some s → handle.old.held.value ≡ Some p → TellsStep p s piece.now result handle.new.held.value }
 {
-    let Some(side) = side_of(side) else {
-        return PassedAnswer::none(RANGE);
-    };
-    let Some(mut passage) = handle.take(alloc) else {
-        return PassedAnswer::none(EMPTY);
-    };
-    let answer = PassedAnswer::of(passage.step(side, piece));
-    handle.put(passage);
-    answer
+    kept!(handle, alloc, side, PassedAnswer => |passage| PassedAnswer::of(passage.step(side, piece)))
 }
 
 /// The message of the side's newest whole frame.
@@ -210,15 +179,7 @@ pub extern "C" fn zk_through_view(
     // The passage stays as it is.
     ensures same { handle.new.held.value ≡ handle.old.held.value }
 {
-    let Some(side) = side_of(side) else {
-        return MessageAnswer::none(RANGE);
-    };
-    let Some(passage) = handle.take(alloc) else {
-        return MessageAnswer::none(EMPTY);
-    };
-    let answer = passage.view(side);
-    handle.put(passage);
-    answer
+    kept!(handle, alloc, side, MessageAnswer => |passage| passage.view(side))
 }
 
 /// Writes the line of that message, if there is room for it.
@@ -238,15 +199,7 @@ pub extern "C" fn zk_through_line(
     // The passage stays as it is.
     ensures same { handle.new.held.value ≡ handle.old.held.value }
 {
-    let Some(side) = side_of(side) else {
-        return LineAnswer::none(RANGE);
-    };
-    let Some(mut passage) = handle.take(alloc) else {
-        return LineAnswer::none(EMPTY);
-    };
-    let answer = passage.line(side, out);
-    handle.put(passage);
-    answer
+    kept!(handle, alloc, side, LineAnswer => |passage| passage.line(side, out))
 }
 
 /// Writes the fields of that message, as far as there is room.
@@ -266,15 +219,7 @@ pub extern "C" fn zk_through_fields(
     // The passage stays as it is.
     ensures same { handle.new.held.value ≡ handle.old.held.value }
 {
-    let Some(side) = side_of(side) else {
-        return ReadAnswer::none(RANGE);
-    };
-    let Some(passage) = handle.take(alloc) else {
-        return ReadAnswer::none(EMPTY);
-    };
-    let answer = passage.fields(side, room);
-    handle.put(passage);
-    answer
+    kept!(handle, alloc, side, ReadAnswer => |passage| passage.fields(side, room))
 }
 
 /// Writes the payload of the frame that the side's last step left out or passed over, if there is room for it.
@@ -294,15 +239,7 @@ pub extern "C" fn zk_through_payload(
     // The passage stays as it is.
     ensures same { handle.new.held.value ≡ handle.old.held.value }
 {
-    let Some(side) = side_of(side) else {
-        return LineAnswer::none(RANGE);
-    };
-    let Some(passage) = handle.take(alloc) else {
-        return LineAnswer::none(EMPTY);
-    };
-    let answer = passage.payload(side, out);
-    handle.put(passage);
-    answer
+    kept!(handle, alloc, side, LineAnswer => |passage| passage.payload(side, out))
 }
 
 /// How the history so far ends.
@@ -315,12 +252,7 @@ pub extern "C" fn zk_through_finish(alloc: Global, handle: &mut ThroughHandle) -
     // The passage stays as it is.
     ensures same { handle.new.held.value ≡ handle.old.held.value }
 {
-    let Some(passage) = handle.take(alloc) else {
-        return EndingAnswer::none(EMPTY);
-    };
-    let answer = EndingAnswer::of(passage.finish());
-    handle.put(passage);
-    answer
+    kept!(handle, alloc, EndingAnswer::none(EMPTY) => |passage| EndingAnswer::of(passage.finish()))
 }
 
 /// Frees the passage and its memory; with no passage nothing is done.

@@ -1,42 +1,9 @@
 -- `none` owns nothing.
-use Rattle.std.proofs.Common.{◌≡◌, [], ◌∷◌, refl, lit<}
-use Rattle.std.specs.Prelude.{None}
-use mir.Syntax.{Fn}
-use mir.Val.{Val}
-use base.Logic.{SProp, emp}
-use base.Fml.{ftrue}
-use contract.Monad.{fact, fact_i}
-use contract.Running.{tables}
-use types.Kit.{‵, raw, ◌⊛◌, ◌$◌, ◌∵◌, !, qed, by, move, keep, use0, split, fjoin}
-use types.Part.{agg}
-use types.Run.{lit, no_more, and_then, returns, enter}
-use types.ByLocal.{alloc_all, pass_all, free_all, look_at, sets}
-use denote.RattleType.{owns}
-use denote.RawPtr.{null_ptr}
-use denote.Signature.{types_at}
-use denote.Steps.{nothing}
-use denote.Triple.Entry.{alive}
-use denote.Triple.Walked.{Stays, walk_of}
-use Rattle.std.proofs.raw_atomic.Walks.{proved_at, leaves}
-use Rattle.zk_c.proofs.Walks.{word, word_own, word_made}
-use Rattle.zk_c.specs.contracts.voice_box.VoiceBox as inner
-use Rattle.zk_c.specs.contracts.voice_box.VoiceBox.none.{ended, clauses}
+use Rattle.zk_c.proofs.Boxed as boxed
+use Rattle.zk_c.proofs.Pointers.{voice}
 use Rattle.zk_c.specs.contracts.voice_box.VoiceBox.none.Key.{name as #self}
 use Rattle.zk_c.proofs.voice_box.VoiceBox.none.Statement.{statement}
 use Rattle.zk_c.proofs.voice_box.VoiceBox.none.Code as code
 
 pub none_spec : {M : Type 1} → statement M
-none_spec 𝓤 𝓛 𝓜 𝓡 wired =
-    let H = 𝓛.H in let En = ended in let c = clauses 𝓛 𝓜.mem 𝓡.returns in let fn : Fn = code.function in let 𝓣 = tables 𝓤 H 𝓜 𝓡 𝓡.env in
-    let hs : Stays En.signature.params En.kept = tt in
-    proved_at 𝓛 En hs c 𝓜 𝓡 tt #self fn (code.unfolded 𝓤 H 𝓜 𝓡 wired) (λ z are.
-    let Post : Val → SProp 𝓤 = (walk_of 𝓛 En hs c).post z in let x : (inner.the_row).Denot = record { at = null_ptr; value = None } in
-    let Told : Type 0 = x.value ≡ None in
-    qed 𝓛 ((raw (alive 𝓛 En.signature z.0.0 z.0.1) ⊛ ‵ (owns (types_at En.signature.params z.0.0) z.0.3 z.0.4)) ∷ ‵ ftrue ∷ []) ∵ split ! $ keep ! (0 ∷ []) $
-    enter ! 𝓣.C 𝓣.Λ fn [] Post $ alloc_all ! (λ l. pass_all ! refl tt $
-    sets ! (agg ! (and_then ! (lit ! tt) (no_more !))) refl (tt, (record { fits = lit< tt }, tt)) $
-    returns ! (look_at ! 0 refl) $ free_all ! refl $
-    -- [the tokens]
-    nothing ! $ use0 𝓛 (‵ (word_own null_ptr (word null_ptr ∷ []))) (word_made 𝓛 null_ptr) $ fjoin ! $
-    use0 𝓛 (raw (fact 𝓤 Told)) (fact_i 𝓤 Told (emp 𝓤) refl) $ nothing ! $ move ! (3 ∷ 0 ∷ 2 ∷ 1 ∷ []) $
-    by ! (leaves 𝓛 En hs c z (word null_ptr) x tt tt)))
+none_spec 𝓤 𝓛 𝓜 𝓡 wired = boxed.none voice 𝓛 𝓜 𝓡 #self (code.unfolded 𝓤 𝓛.H 𝓜 𝓡 wired)
