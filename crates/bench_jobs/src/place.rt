@@ -2,7 +2,7 @@
 
 /// What is at a place.
 #[derive(Clone, Copy)]
-pub(crate) enum Mark {
+pub(crate) enum Number {
     Xid,
     Zxid,
     /// Four digits of a path.
@@ -13,7 +13,7 @@ pub(crate) enum Mark {
 #[derive(Clone, Copy)]
 pub(crate) struct Place {
     pub(crate) at: usize,
-    pub(crate) mark: Mark,
+    pub(crate) what: Number,
     pub(crate) first: u64,
 }
 
@@ -29,9 +29,9 @@ pub(crate) const STEP: u64 = 16_384;
 impl Place {
     /// The number at this place in a turn.
     pub(crate) fn number(self, turn: u64) -> u64 {
-        match self.mark {
-            Mark::Xid | Mark::Zxid => self.first.wrapping_add(turn.wrapping_mul(STEP)),
-            Mark::Digits => self.first.wrapping_add(turn.wrapping_mul(7919)) % 10_000,
+        match self.what {
+            Number::Xid | Number::Zxid => self.first.wrapping_add(turn.wrapping_mul(STEP)),
+            Number::Digits => self.first.wrapping_add(turn.wrapping_mul(7919)) % 10_000,
         }
     }
 }
@@ -55,13 +55,13 @@ pub(crate) fn four_digits(number: u64) -> [u8; 4] {
 pub(crate) fn number_frames(bytes: &mut [u8], places: &[Place], turn: u64) {
     for place in places {
         let number = place.number(turn);
-        match place.mark {
-            Mark::Xid => {
+        match place.what {
+            Number::Xid => {
                 let [_, _, _, _, a, b, c, d] = number.to_be_bytes();
                 put(bytes, place.at, &[a, b, c, d]);
             }
-            Mark::Zxid => put(bytes, place.at, &number.to_be_bytes()),
-            Mark::Digits => put(bytes, place.at, &four_digits(number)),
+            Number::Zxid => put(bytes, place.at, &number.to_be_bytes()),
+            Number::Digits => put(bytes, place.at, &four_digits(number)),
         }
     }
 }
@@ -70,8 +70,8 @@ pub(crate) fn number_frames(bytes: &mut [u8], places: &[Place], turn: u64) {
 pub(crate) fn number_lines(bytes: &mut [u8], places: &[Place], turn: u64) {
     for place in places {
         let number = place.number(turn);
-        match place.mark {
-            Mark::Xid | Mark::Zxid => {
+        match place.what {
+            Number::Xid | Number::Zxid => {
                 put(bytes, place.at, &four_digits(number / 1_000_000));
                 put(
                     bytes,
@@ -80,7 +80,7 @@ pub(crate) fn number_lines(bytes: &mut [u8], places: &[Place], turn: u64) {
                 );
                 put(bytes, place.at.saturating_add(6), &four_digits(number));
             }
-            Mark::Digits => put(bytes, place.at, &four_digits(number)),
+            Number::Digits => put(bytes, place.at, &four_digits(number)),
         }
     }
 }

@@ -1,6 +1,6 @@
 //! `Script`: the lines of a turn of a conversation, made at random.
 
-use crate::place::{FIRST_XID, FIRST_ZXID, Mark, Place};
+use crate::place::{FIRST_XID, FIRST_ZXID, Number, Place};
 use crate::random::Random;
 use std::alloc::{AllocError, Global};
 use std::collections::VecDeque;
@@ -168,7 +168,7 @@ impl Script {
         };
         self.lines.push_str("S ")?;
         match reply.xid {
-            Some(xid) => self.put_number(Mark::Xid, xid)?,
+            Some(xid) => self.put_number(Number::Xid, xid)?,
             None => self.lines.push_str("-2")?,
         }
         let name = reply.name;
@@ -176,7 +176,7 @@ impl Script {
         self.zxid = self.zxid.wrapping_add(1);
         let zxid = self.zxid;
         match reply.xid {
-            Some(_) => self.put_number(Mark::Zxid, zxid)?,
+            Some(_) => self.put_number(Number::Zxid, zxid)?,
             None => write!(self.lines, "{zxid}")?,
         }
         self.lines.push_str(reply.tail.as_str())?;
@@ -191,9 +191,9 @@ impl Script {
     }
 
     /// Appends a number of ten digits, which each turn replaces.
-    fn put_number(&mut self, mark: Mark, first: u64) -> Result<(), AllocError> {
+    fn put_number(&mut self, what: Number, first: u64) -> Result<(), AllocError> {
         let at = self.lines.len();
-        self.places.push(Place { at, mark, first })?;
+        self.places.push(Place { at, what, first })?;
         write!(self.lines, "{first:010}")
     }
 
@@ -207,8 +207,8 @@ impl Script {
         put_escaped(&mut self.lines, path)?;
         let first = self.random.below(10_000);
         if marked {
-            let (at, mark) = (self.lines.len(), Mark::Digits);
-            self.places.push(Place { at, mark, first })?;
+            let (at, what) = (self.lines.len(), Number::Digits);
+            self.places.push(Place { at, what, first })?;
         }
         write!(self.lines, "{first:04}\"")
     }
@@ -218,7 +218,7 @@ impl Script {
         self.xid = self.xid.wrapping_add(1);
         let xid = self.xid;
         self.lines.push_str("C ")?;
-        self.put_number(Mark::Xid, xid)?;
+        self.put_number(Number::Xid, xid)?;
         write!(self.lines, " {name}")?;
         if name != "multi" {
             self.put_path(true)?;

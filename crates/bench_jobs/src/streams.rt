@@ -2,7 +2,7 @@
 ghost use Rattle.std.specs.Prelude.{◌≡◌, ◌<◌, ◌^◌, false, None};
 
 use crate::memory::{Bytes, Collected};
-use crate::place::{FIRST_XID, Mark, Place, number_frames, put};
+use crate::place::{FIRST_XID, Number, Place, number_frames, put};
 use crate::script::{GREETING, Script};
 use anyhow::{Result, ensure};
 use std::alloc::{AllocError, Global};
@@ -86,25 +86,25 @@ impl Stream {
         }
     }
 
-    fn mark(&mut self, mark: Mark, within: usize, first: u64) -> Result<(), AllocError> {
+    fn note(&mut self, what: Number, within: usize, first: u64) -> Result<(), AllocError> {
         let at = self.bytes.len().saturating_add(within);
-        self.places.push(Place { at, mark, first })?;
+        self.places.push(Place { at, what, first })?;
         Ok(())
     }
 
-    /// Marks the xid of a frame, a reply's zxid, and the digits at the end of a request's path.
+    /// Notes where the xid of a frame is, a reply's zxid, and the digits at the end of a request's path.
     fn add(&mut self, side: Side, frame: &[u8]) -> Result<(), AllocError> {
         let xid = int_at(frame, 4);
         if (FIRST_XID..1 << 31).contains(&xid) {
-            self.mark(Mark::Xid, 4, xid)?;
+            self.note(Number::Xid, 4, xid)?;
             match side {
-                Side::Server => self.mark(Mark::Zxid, 8, long_at(frame, 8))?,
+                Side::Server => self.note(Number::Zxid, 8, long_at(frame, 8))?,
                 Side::Client => {
                     let end = (int_at(frame, 12) as usize).saturating_add(16);
                     let digits = frame.get(..end).and_then(|front| front.last_chunk::<4>());
                     if let Some(digits) = digits {
                         if int_at(frame, 8) != 14 {
-                            self.mark(Mark::Digits, end.saturating_sub(4), number_of(digits))?;
+                            self.note(Number::Digits, end.saturating_sub(4), number_of(digits))?;
                         }
                     }
                 }

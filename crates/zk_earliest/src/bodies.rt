@@ -48,7 +48,7 @@ fn asked(op: Op, bytes: &[u8]) -> Option<usize>
     macro_rules! row {
         ($op:ident: $($($held:ident)|+: $record:ident $borrowed:ident),+; $($bare:ident)|+) => {
             match $op {
-                $($(Op::$held => longest::<fields_of!($record, values, type)>(bytes),)+)+
+                $($(Op::$held)|+ => longest::<fields_of!($record, values, type)>(bytes),)+
                 $(Op::$bare => none(bytes),)+
                 Op::Multi => longest_multi(bytes),
             }

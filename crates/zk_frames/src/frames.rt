@@ -112,7 +112,7 @@ impl Frames {
     /// Takes the whole frame at the front of `piece`, if no byte is held, and returns the number of its bytes; `None`:
     /// undecided, and nothing changed.
     #[inline(always)]
-    pub fn take_front(&mut self, piece: &[u8]) -> Option<usize>
+    pub fn take_whole(&mut self, piece: &[u8]) -> Option<usize>
         ensures limit { self.new.limit ≡ self.old.limit }
         ensures some { IfSome result (λ used. IsFront self.old.bytes piece.now used self.new) }
         ensures none { IfNone result (self.new ≡ self.old) }

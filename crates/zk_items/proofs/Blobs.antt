@@ -12,14 +12,14 @@ use Rattle.std.proofs.lemmas.Bool.{and_parts, cases_lt}
 use Rattle.hex.proofs.HexLemmas.{decode_of-encode_lower}
 use Rattle.zk_jute.specs.Held.{Blob}
 use Rattle.zk_jute.specs.declared.value.Nullable.TheVariants as nullable
-use Rattle.zk_items.specs.Form.{Read, stops, goes_on}
+use Rattle.zk_items.specs.Form.{Read, stops, in_item}
 use Rattle.zk_items.specs.Leaf.{in_hex, hex_digit, decoded, blob_at, blob_spell, blob_fits, blob}
 use Rattle.zk_items.specs.Laws.{Lawful}
 use Rattle.zk_items.proofs.Forms.{some_is}
-use Rattle.zk_items.proofs.Runs.{run_is, run_passes, stops_ends}
+use Rattle.zk_items.proofs.Runs.{run_is, run_passes, stops_end_run}
 
-hex_goes_on : (b : ℕ) → in_hex b ≡ true → goes_on b ≡ true
-hex_goes_on b h = grind arith
+hex_in_item : (b : ℕ) → in_hex b ≡ true → in_item b ≡ true
+hex_in_item b h = grind arith
 
 pub as_bytes : (bytes : List ℕ) → AllByRecursion (λ b. b < 256) bytes → IsBytes bytes
 as_bytes [] fit i = omega arith
@@ -117,7 +117,7 @@ pub blob_again : (x : Blob) (rest : List ℕ) → blob_fits x → stops rest ≡
 unfolding blob_at
 blob_again nullable.Null rest fit stop = refl
 blob_again (nullable.Full bytes) rest fit stop =
-    let len : prefix_len in_hex (encode_lower bytes ++ rest) ≡ length (encode_lower bytes) = run_is in_hex (encode_lower bytes) rest (all_hex bytes fit) (stops_ends in_hex hex_goes_on rest stop) in
+    let len : prefix_len in_hex (encode_lower bytes ++ rest) ≡ length (encode_lower bytes) = run_is in_hex (encode_lower bytes) rest (all_hex bytes fit) (stops_end_run in_hex hex_in_item rest stop) in
     ap (λ (n : ℕ). decoded (decode_of (take n (encode_lower bytes ++ rest))) (drop n (encode_lower bytes ++ rest))) len
     ∙ ap (λ (r : List ℕ). decoded (decode_of r) (drop (length (encode_lower bytes)) (encode_lower bytes ++ rest))) (take-append_seam (encode_lower bytes) rest)
     ∙ ap (λ (r : List ℕ). decoded (decode_of (encode_lower bytes)) r) (drop-append_seam (encode_lower bytes) rest)
@@ -131,10 +131,10 @@ blob_sound (c ∷ bytes) x rest e = first (c == 126) refl e where
   third (Err f) is e = absurd cc
   third (Ok b) is e =
       let n = prefix_len in_hex bytes in
-      let ends = some_is (nullable.Full b, drop n bytes) (x, rest) e in
+      let pair = some_is (nullable.Full b, drop n bytes) (x, rest) e in
       let s = lower_again (take n bytes) b (run_passes in_hex bytes) is in
-      subst (λ (x : Blob). (35 ∷ bytes ≡ blob_spell x ++ rest) × blob_fits x) ends.0
-      (ap (λ (r : List ℕ). 35 ∷ r) (sym (take-append-drop n bytes) ∙ ap (λ (r : List ℕ). r ++ drop n bytes) s.0 ∙ ap (λ (r : List ℕ). encode_lower b ++ r) ends.1), s.1)
+      subst (λ (x : Blob). (35 ∷ bytes ≡ blob_spell x ++ rest) × blob_fits x) pair.0
+      (ap (λ (r : List ℕ). 35 ∷ r) (sym (take-append-drop n bytes) ∙ ap (λ (r : List ℕ). r ++ drop n bytes) s.0 ∙ ap (λ (r : List ℕ). encode_lower b ++ r) pair.1), s.1)
 
   second : (t : Bool) → (c == 35) ≡ t → cond {A = Read Blob} t (decoded (decode_of (take (prefix_len in_hex bytes) bytes)) (drop (prefix_len in_hex bytes) bytes)) None ≡ Some (x, rest) → (c ∷ bytes ≡ blob_spell x ++ rest) × blob_fits x
   second false is e = absurd cc
@@ -143,8 +143,8 @@ blob_sound (c ∷ bytes) x rest e = first (c == 126) refl e where
   first : (t : Bool) → (c == 126) ≡ t → cond {A = Read Blob} t (Some (nullable.Null, bytes)) (cond {A = Read Blob} (c == 35) (decoded (decode_of (take (prefix_len in_hex bytes) bytes)) (drop (prefix_len in_hex bytes) bytes)) None) ≡ Some (x, rest) → (c ∷ bytes ≡ blob_spell x ++ rest) × blob_fits x
   first false is e = second (c == 35) refl e
   first true is e =
-      let ends = some_is (nullable.Null, bytes) (x, rest) e in
-      subst (λ (x : Blob). (c ∷ bytes ≡ blob_spell x ++ rest) × blob_fits x) ends.0 (ap (λ (c : ℕ). c ∷ bytes) (eqb-true c 126 is) ∙ ap (λ (b : List ℕ). 126 ∷ b) ends.1, tt)
+      let pair = some_is (nullable.Null, bytes) (x, rest) e in
+      subst (λ (x : Blob). (c ∷ bytes ≡ blob_spell x ++ rest) × blob_fits x) pair.0 (ap (λ (c : ℕ). c ∷ bytes) (eqb-true c 126 is) ∙ ap (λ (b : List ℕ). 126 ∷ b) pair.1, tt)
 
 pub blob_is : Lawful blob
 blob_is = record { again = blob_again; sound = blob_sound }

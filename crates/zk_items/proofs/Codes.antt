@@ -7,8 +7,8 @@ use Rattle.zk_items.specs.Leaf.{num_at, in_range, in_number}
 use Rattle.zk_items.specs.Codes.{name_spell, name_at, code, other_code, is_zero, is_next}
 use Rattle.zk_items.specs.Laws.{Lawful}
 use Rattle.zk_items.proofs.Forms.{bind_some, some_is, if_not, word_again, word_sound}
-use Rattle.zk_items.proofs.Numbers.{int_is, num_again, number_goes_on}
-use Rattle.zk_items.proofs.Runs.{ends, stops_ends}
+use Rattle.zk_items.proofs.Numbers.{int_is, num_again, number_in_item}
+use Rattle.zk_items.proofs.Runs.{run_ends, stops_end_run}
 
 name_again : (name : Option (List ℕ)) (rest : List ℕ) → stops rest ≡ true → name_at name (name_spell name ++ rest) ≡ Some rest
 unfolding name_at
@@ -27,9 +27,9 @@ name_sound (Some name) bytes rest e =
     word_sound (codes "/") bytes a.0 a.1 ∙ ap (λ (r : List ℕ). 47 ∷ r) (word_sound name a.0 rest a.2)
 name_sound None bytes rest e = let h = if_not (is_next 47 bytes) (Some bytes) rest e in let k = h.1 in cc
 
-name_ends : (name : Option (List ℕ)) (rest : List ℕ) → stops rest ≡ true → ends in_number (name_spell name ++ rest) ≡ true
+name_ends : (name : Option (List ℕ)) (rest : List ℕ) → stops rest ≡ true → run_ends in_number (name_spell name ++ rest) ≡ true
 name_ends (Some name) rest stop = refl
-name_ends None rest stop = stops_ends in_number number_goes_on rest stop
+name_ends None rest stop = stops_end_run in_number number_in_item rest stop
 
 module _ (name : ℤ → Option (List ℕ)) where
   number_again : (n : ℤ) (rest : List ℕ) → in_range 31 n ≡ true → stops rest ≡ true → num_at 31 (signed_decimal n ++ (name_spell (name n) ++ rest)) ≡ Some (n, name_spell (name n) ++ rest)

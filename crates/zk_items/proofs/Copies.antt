@@ -65,8 +65,8 @@ chars_at_end : (line rest old room mid new : List ℕ) (count : ℕ) → length 
 chars_at_end line rest old room mid new count four read text number small filled =
     let a = bind_some (many_at symbol_at (length line) line) (λ q. Some ((old ++ room) ++ q.0, q.1)) (mid, rest) read in
     let xs = a.0.0 in
-    let ends = some_is ((old ++ room) ++ xs, a.0.1) (mid, rest) a.2 in
-    let whole : mid ≡ (old ++ room) ++ xs = sym ends.0 in
+    let pair = some_is ((old ++ room) ++ xs, a.0.1) (mid, rest) a.2 in
+    let whole : mid ≡ (old ++ room) ++ xs = sym pair.0 in
     let inside : drop (length old + 4) mid ≡ xs = ap (drop (length old + 4)) whole ∙ behind_room old room xs four in
     let all : take (length mid - (length old + 4)) (drop (length old + 4) mid) ≡ xs = take_all _ _ (omega (arith, length-drop (length old + 4) mid)) ∙ inside in
     let utf8 : IsUtf8 xs = subst IsUtf8 all text in
@@ -75,7 +75,7 @@ chars_at_end line rest old room mid new count four read text number small filled
     let short : length xs < 2 ^ 31 = omega arith in
     record {
       value = nullable.Full xs;
-      read = ap (λ (r : Read (List ℕ)). r >>= checked) a.1 ∙ ap (λ (t : Bool). cond t (Some (nullable.Full xs, a.0.1)) None) (is_utf8-from_IsUtf8 xs utf8) ∙ ap (λ (r : List ℕ). Some (nullable.Full xs, r)) ends.1;
+      read = ap (λ (r : Read (List ℕ)). r >>= checked) a.1 ∙ ap (λ (t : Bool). cond t (Some (nullable.Full xs, a.0.1)) None) (is_utf8-from_IsUtf8 xs utf8) ∙ ap (λ (r : List ℕ). Some (nullable.Full xs, r)) pair.1;
       have = ((utf8, short), tt);
       appended = room_filled old room xs (int_bytes (pos count)) new mid four whole filled ∙ ap (λ (n : ℕ). old ++ (int_bytes (pos n) ++ xs)) same ∙ ap (λ (l : List ℕ). old ++ l) (sym (append-nil (int_bytes (pos (length xs)) ++ xs)));
     }

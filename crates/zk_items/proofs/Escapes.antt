@@ -74,9 +74,9 @@ one_spelled [] some = absurd (omega arith)
 one_spelled (b ∷ v) some = append-nil (symbol_spell b)
 
 -- what is spelled of the bytes in front, and what is left of them
-pub goes_on : (old new ahead : List ℕ) (n : ℕ) (all : List ℕ) → new ≡ old ++ flat_map symbol_spell (take n ahead) → old ++ flat_map symbol_spell ahead ≡ all
+pub spelled_further : (old new ahead : List ℕ) (n : ℕ) (all : List ℕ) → new ≡ old ++ flat_map symbol_spell (take n ahead) → old ++ flat_map symbol_spell ahead ≡ all
     → new ++ flat_map symbol_spell (take (length ahead - n) (drop n ahead)) ≡ all
-goes_on old new ahead n all e same =
+spelled_further old new ahead n all e same =
     let front = flat_map symbol_spell (take n ahead) in
     ap (λ (o : List ℕ). o ++ flat_map symbol_spell (take (length ahead - n) (drop n ahead))) e
     ∙ append_assoc old front (flat_map symbol_spell (take (length ahead - n) (drop n ahead)))

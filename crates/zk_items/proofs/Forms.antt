@@ -75,10 +75,10 @@ module _ {X : Type 0} (f : Form X) (is : Lawful f) (w : List ℕ) (opens : (rest
   closed_sound bytes x rest e =
       let a = bind_some (f.at bytes) (λ q. word_at w q.1 >>= λ rest. Some (q.0, rest)) (x, rest) e in
       let b = bind_some (word_at w a.0.1) (λ rest. Some (a.0.0, rest)) (x, rest) a.2 in
-      let ends = some_is (a.0.0, b.0) (x, rest) b.2 in
+      let pair = some_is (a.0.0, b.0) (x, rest) b.2 in
       let s = is.sound bytes a.0.0 a.0.1 a.1 in
-      let whole : bytes ≡ (f.spell a.0.0 ++ w) ++ rest = s.0 ∙ ap (λ (r : List ℕ). f.spell a.0.0 ++ r) (word_sound w a.0.1 b.0 b.1 ∙ ap (λ (r : List ℕ). w ++ r) ends.1) ∙ sym (append_assoc (f.spell a.0.0) w rest) in
-      subst (λ (x : X). (bytes ≡ (f.spell x ++ w) ++ rest) × f.fits x) ends.0 (whole, s.1)
+      let whole : bytes ≡ (f.spell a.0.0 ++ w) ++ rest = s.0 ∙ ap (λ (r : List ℕ). f.spell a.0.0 ++ r) (word_sound w a.0.1 b.0 b.1 ∙ ap (λ (r : List ℕ). w ++ r) pair.1) ∙ sym (append_assoc (f.spell a.0.0) w rest) in
+      subst (λ (x : X). (bytes ≡ (f.spell x ++ w) ++ rest) × f.fits x) pair.0 (whole, s.1)
 
   pub closed_is : Lawful (closed f w)
   closed_is = record { again = closed_again; sound = closed_sound }
@@ -106,12 +106,12 @@ module _ {X Y : Type 0} {behind : List ℕ → Bool} (f : Form X) (left : Lawful
   and_sound bytes p rest e =
       let a = bind_some (f.at bytes) (λ p. g.at p.1 >>= λ q. Some ((p.0, q.0), q.1)) (p, rest) e in
       let b = bind_some (g.at a.0.1) (λ q. Some ((a.0.0, q.0), q.1)) (p, rest) a.2 in
-      let ends = some_is ((a.0.0, b.0.0), b.0.1) (p, rest) b.2 in
+      let pair = some_is ((a.0.0, b.0.0), b.0.1) (p, rest) b.2 in
       let first = left.sound bytes a.0.0 a.0.1 a.1 in
       let second = right.sound a.0.1 b.0.0 b.0.1 b.1 in
       let whole : bytes ≡ (f.spell a.0.0 ++ g.spell b.0.0) ++ rest =
-      first.0 ∙ ap (λ (r : List ℕ). f.spell a.0.0 ++ r) (second.0 ∙ ap (λ (r : List ℕ). g.spell b.0.0 ++ r) ends.1) ∙ sym (append_assoc (f.spell a.0.0) (g.spell b.0.0) rest) in
-      subst (λ (p : X × Y). (bytes ≡ (f.spell p.0 ++ g.spell p.1) ++ rest) × (f and g).fits p) ends.0 (whole, (first.1, second.1))
+      first.0 ∙ ap (λ (r : List ℕ). f.spell a.0.0 ++ r) (second.0 ∙ ap (λ (r : List ℕ). g.spell b.0.0 ++ r) pair.1) ∙ sym (append_assoc (f.spell a.0.0) (g.spell b.0.0) rest) in
+      subst (λ (p : X × Y). (bytes ≡ (f.spell p.0 ++ g.spell p.1) ++ rest) × (f and g).fits p) pair.0 (whole, (first.1, second.1))
 
   pub and_is : LawfulBefore behind (f and g)
   and_is = record { again = and_again; sound = and_sound }
@@ -127,9 +127,9 @@ module _ {X Y : Type 0} {behind : List ℕ → Bool} (f : Form Y) (is : LawfulBe
   fields_sound bytes x rest e =
       let a = bind_some (f.at bytes) (λ q. Some (made q.0, q.1)) (x, rest) e in
       let s = is.sound bytes a.0.0 a.0.1 a.1 in
-      let ends = some_is (made a.0.0, a.0.1) (x, rest) a.2 in
-      let value : made a.0.0 ≡ x = ends.0 in
-      let behind : a.0.1 ≡ rest = ends.1 in
+      let pair = some_is (made a.0.0, a.0.1) (x, rest) a.2 in
+      let value : made a.0.0 ≡ x = pair.0 in
+      let behind : a.0.1 ≡ rest = pair.1 in
       let inner : a.0.0 ≡ out x = sym (back a.0.0) ∙ ap out value in (
         s.0 ∙ ap (λ (y : Y). f.spell y ++ a.0.1) inner ∙ ap (λ (r : List ℕ). f.spell (out x) ++ r) behind,
         subst (λ (y : Y). f.fits y) inner s.1,

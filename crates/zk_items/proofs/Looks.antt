@@ -70,8 +70,8 @@ module _ (q : ℕ → Bool) where
   -- a look at the last bytes
   pub look_last : (d : List ℕ) (at n : ℕ) → at ≤ prefix_len q d → at + n ≡ length d → prefix_len q d ≡ at + prefix_len q (chunk at n d)
   look_last d at n before room =
-      let ends : take n (drop at d) ≡ drop at d = take_all n (drop at d) (omega (arith, length-drop at d)) in
-      passed at d before ∙ ap (λ xs. at + prefix_len q xs) (sym ends)
+      let whole : take n (drop at d) ≡ drop at d = take_all n (drop at d) (omega (arith, length-drop at d)) in
+      passed at d before ∙ ap (λ xs. at + prefix_len q xs) (sym whole)
 
 -- looks at the first bytes and at the last, side by side
 module _ (q : ℕ → Bool) where

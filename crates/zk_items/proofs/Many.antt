@@ -28,17 +28,17 @@ module _ {X : Type 0} (at : List ℕ → Read (Option X)) (spell : X → List �
   after : (n : ℕ) (before : (bytes : List ℕ) (xs : List X) (rest : List ℕ) → many_at at n bytes ≡ Some (xs, rest) → (bytes ≡ flat_map spell xs ++ (close ∷ rest)) × AllByRecursion fits xs)
       (bytes : List ℕ) (xs : List X) (rest : List ℕ) (o : Option X) (behind : List ℕ) → at bytes ≡ Some (o, behind) → then_more (many_at at n) (o, behind) ≡ Some (xs, rest) → (bytes ≡ flat_map spell xs ++ (close ∷ rest)) × AllByRecursion fits xs
   after n before bytes xs rest None behind is e =
-      let ends = some_is ([], behind) (xs, rest) e in
-      subst (λ (ys : List X). (bytes ≡ flat_map spell ys ++ (close ∷ rest)) × AllByRecursion fits ys) ends.0 (ended bytes behind is ∙ ap (λ (r : List ℕ). close ∷ r) ends.1, tt)
+      let pair = some_is ([], behind) (xs, rest) e in
+      subst (λ (ys : List X). (bytes ≡ flat_map spell ys ++ (close ∷ rest)) × AllByRecursion fits ys) pair.0 (ended bytes behind is ∙ ap (λ (r : List ℕ). close ∷ r) pair.1, tt)
   after n before bytes xs rest (Some x) behind is e =
       let b = bind_some (many_at at n behind) (λ q. Some (x ∷ q.0, q.1)) (xs, rest) e in
-      let ends = some_is (x ∷ b.0.0, b.0.1) (xs, rest) b.2 in
+      let pair = some_is (x ∷ b.0.0, b.0.1) (xs, rest) b.2 in
       let first = sound bytes x behind is in
       let others = before behind b.0.0 b.0.1 b.1 in
       let whole : bytes ≡ flat_map spell (x ∷ b.0.0) ++ (close ∷ b.0.1) =
       first.0 ∙ ap (λ (r : List ℕ). spell x ++ r) others.0 ∙ sym (append_assoc (spell x) (flat_map spell b.0.0) (close ∷ b.0.1)) in
-      subst (λ (ys : List X). (bytes ≡ flat_map spell ys ++ (close ∷ rest)) × AllByRecursion fits ys) ends.0
-      (whole ∙ ap (λ (r : List ℕ). flat_map spell (x ∷ b.0.0) ++ (close ∷ r)) ends.1, (first.1, others.1))
+      subst (λ (ys : List X). (bytes ≡ flat_map spell ys ++ (close ∷ rest)) × AllByRecursion fits ys) pair.0
+      (whole ∙ ap (λ (r : List ℕ). flat_map spell (x ∷ b.0.0) ++ (close ∷ r)) pair.1, (first.1, others.1))
 
   pub many_sound : (n : ℕ) (bytes : List ℕ) (xs : List X) (rest : List ℕ) → many_at at n bytes ≡ Some (xs, rest) → (bytes ≡ flat_map spell xs ++ (close ∷ rest)) × AllByRecursion fits xs
   many_sound zero bytes xs rest e = absurd cc

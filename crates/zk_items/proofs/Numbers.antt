@@ -11,11 +11,11 @@ use Rattle.std.proofs.lemmas.Fmt.{decimal_is_IsNumeral, IsAscii-signed, parse-si
 use Rattle.std.proofs.lemmas.Str.{IsUtf8-from_ascii}
 use Rattle.std.proofs.lemmas.Str.Parse.{digit_from_value}
 use Rattle.std.proofs.lemmas.Slice.Eq.{bytes_eq-Decides}
-use Rattle.zk_items.specs.Form.{Read, goes_on}
+use Rattle.zk_items.specs.Form.{Read, in_item}
 use Rattle.zk_items.specs.Leaf.{in_number, in_range, num_of, num_at, int, long}
 use Rattle.zk_items.specs.Laws.{Lawful}
 use Rattle.zk_items.proofs.Forms.{if_some, some_is}
-use Rattle.zk_items.proofs.Runs.{run_is, ends, stops_ends}
+use Rattle.zk_items.proofs.Runs.{run_is, run_ends, stops_end_run}
 
 pub all_digits : (ds : List ℕ) → AllDigits 10 ds → AllByRecursion (λ b. in_number b ≡ true) ds
 all_digits [] h = tt
@@ -45,8 +45,8 @@ written_value (negsuc n) fit =
     let d = decimal_is_IsNumeral (suc n) (omega arith) in
     (ap (λ (m : ℕ). neg_ℤ (pos m)) d.1, (refl, all_digits (decimal (suc n)) d.0.1))
 
-pub number_goes_on : (b : ℕ) → in_number b ≡ true → goes_on b ≡ true
-number_goes_on b h = elim (nat_le 48 b && nat_le b 57) as (λ t. (t || b == 45) ≡ true → (t || (nat_le 65 b && nat_le b 90) || (nat_le 97 b && nat_le b 122) || b == 45 || b == 47) ≡ true) [
+pub number_in_item : (b : ℕ) → in_number b ≡ true → in_item b ≡ true
+number_in_item b h = elim (nat_le 48 b && nat_le b 57) as (λ t. (t || b == 45) ≡ true → (t || (nat_le 65 b && nat_le b 90) || (nat_le 97 b && nat_le b 122) || b == 45 || b == 47) ≡ true) [
   | true ↦ λ _. refl
   | false ↦ λ h. grind arith
 ] h
@@ -67,9 +67,9 @@ unfolding num_of
 num_of_sound k run rest x behind e =
     let z = signed_digits_value 10 run in
     let a = if_some (bytes_eq (signed_decimal z) run && in_range k z) (Some (z, rest)) (x, behind) e in
-    let ends = some_is (z, rest) (x, behind) a.1 in
+    let pair = some_is (z, rest) (x, behind) a.1 in
     let parts = both_pass (bytes_eq (signed_decimal z) run) (in_range k z) a.0 in
-    (same_bytes run (signed_decimal z) (signed_decimal x) parts.0 (ap signed_decimal ends.0), ap (in_range k) (sym ends.0) ∙ parts.1, ends.1) where
+    (same_bytes run (signed_decimal z) (signed_decimal x) parts.0 (ap signed_decimal pair.0), ap (in_range k) (sym pair.0) ∙ parts.1, pair.1) where
       both_pass : (a b : Bool) → (a && b) ≡ true → (a ≡ true) × (b ≡ true)
       both_pass true b e = (refl, e)
       both_pass false b e = absurd cc
@@ -77,7 +77,7 @@ num_of_sound k run rest x behind e =
       same_bytes : (run a b : List ℕ) → bytes_eq a run ≡ true → a ≡ b → run ≡ b
       same_bytes run a b e h = let d : a ≡ run = grind (arith, bytes_eq-Decides, e) in sym d ∙ h
 
-pub num_again : (k : ℕ) (small : (n : ℕ) → n < 2 ^ k → n < 2 ^ 63) (x : ℤ) (rest : List ℕ) → in_range k x ≡ true → ends in_number rest ≡ true → num_at k (signed_decimal x ++ rest) ≡ Some (x, rest)
+pub num_again : (k : ℕ) (small : (n : ℕ) → n < 2 ^ k → n < 2 ^ 63) (x : ℤ) (rest : List ℕ) → in_range k x ≡ true → run_ends in_number rest ≡ true → num_at k (signed_decimal x ++ rest) ≡ Some (x, rest)
 unfolding num_at
 num_again k small x rest fit stop =
     let wide = widen k small x fit in
@@ -99,10 +99,10 @@ num_sound k bytes x rest e =
     (sym (take-append-drop n bytes) ∙ ap (λ (r : List ℕ). r ++ drop n bytes) s.0 ∙ ap (λ (r : List ℕ). signed_decimal x ++ r) s.2, s.1)
 
 pub int_is : Lawful int
-int_is = record { again = λ x rest fit stop. num_again 31 (λ n h. omega arith) x rest fit (stops_ends in_number number_goes_on rest stop); sound = num_sound 31 }
+int_is = record { again = λ x rest fit stop. num_again 31 (λ n h. omega arith) x rest fit (stops_end_run in_number number_in_item rest stop); sound = num_sound 31 }
 
 pub long_is : Lawful long
-long_is = record { again = λ x rest fit stop. num_again 63 (λ n h. h) x rest fit (stops_ends in_number number_goes_on rest stop); sound = num_sound 63 }
+long_is = record { again = λ x rest fit stop. num_again 63 (λ n h. h) x rest fit (stops_end_run in_number number_in_item rest stop); sound = num_sound 63 }
 
 -- ---- what the readers cite
 

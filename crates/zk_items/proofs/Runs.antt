@@ -1,27 +1,27 @@
 -- The longest run of bytes that pass a test.
 use Rattle.std.proofs.Common.{◌≡◌, ℕ, suc, ◌+◌, List, [], ◌∷◌, ◌++◌, length, take, Bool, true, false, refl, ap, subst, ◌∙◌, cond, arith}
 use Rattle.std.specs.List.{prefix_len, AllByRecursion}
-use Rattle.zk_items.specs.Form.{stops, goes_on}
+use Rattle.zk_items.specs.Form.{stops, in_item}
 
 -- a run ends before these bytes
-abbrev pub ends : (ℕ → Bool) → List ℕ → Bool
-ends p [] = true
-ends p (b ∷ rest) = cond (p b) false true
+abbrev pub run_ends : (ℕ → Bool) → List ℕ → Bool
+run_ends p [] = true
+run_ends p (b ∷ rest) = cond (p b) false true
 
 -- what an item may end before ends every run within what goes on
-pub stops_ends : (p : ℕ → Bool) → ((b : ℕ) → p b ≡ true → goes_on b ≡ true) → (rest : List ℕ) → stops rest ≡ true → ends p rest ≡ true
-stops_ends p within [] stop = refl
-stops_ends p within (b ∷ rest) stop = pick (p b) refl where
+pub stops_end_run : (p : ℕ → Bool) → ((b : ℕ) → p b ≡ true → in_item b ≡ true) → (rest : List ℕ) → stops rest ≡ true → run_ends p rest ≡ true
+stops_end_run p within [] stop = refl
+stops_end_run p within (b ∷ rest) stop = pick (p b) refl where
   pick : (t : Bool) → p b ≡ t → cond t false true ≡ true
   pick false is = refl
-  pick true is = absurd (let h : goes_on b ≡ true = within b is in let k : cond (goes_on b) false true ≡ true = stop in cc)
+  pick true is = absurd (let h : in_item b ≡ true = within b is in let k : cond (in_item b) false true ≡ true = stop in cc)
 
 none_runs : (p : ℕ → Bool) (b : ℕ) (rest : List ℕ) (t : Bool) → p b ≡ t → cond t false true ≡ true → cond (p b) (1 + prefix_len p rest) 0 ≡ 0
 none_runs p b rest true e stop = absurd cc
 none_runs p b rest false e stop = ap (λ (t : Bool). cond t (1 + prefix_len p rest) 0) e
 
 -- the longest run of bytes that pass is all that stands before what doesn't
-pub run_is : (p : ℕ → Bool) (xs rest : List ℕ) → AllByRecursion (λ b. p b ≡ true) xs → ends p rest ≡ true → prefix_len p (xs ++ rest) ≡ length xs
+pub run_is : (p : ℕ → Bool) (xs rest : List ℕ) → AllByRecursion (λ b. p b ≡ true) xs → run_ends p rest ≡ true → prefix_len p (xs ++ rest) ≡ length xs
 run_is p [] [] all stop = refl
 run_is p [] (b ∷ rest) all stop = none_runs p b rest (p b) refl stop
 run_is p (x ∷ xs) rest all stop = ap (λ (t : Bool). cond t (1 + prefix_len p (xs ++ rest)) 0) all.0 ∙ ap (λ (n : ℕ). 1 + n) (run_is p xs rest all.1 stop) ∙ omega arith

@@ -46,7 +46,7 @@ escape_is (h ∷ l ∷ r) o rest e =
     let b = bind_some (hex_value l) (λ b. cond (is_plain (16 * a.0 + b)) None (Some (Some (16 * a.0 + b), r))) (o, rest) a.2 in
     let n = 16 * a.0 + b.0 in
     let k = if_not (is_plain n) (Some (Some n, r)) (o, rest) b.2 in
-    let ends = some_is (Some n, r) (o, rest) k.1 in
+    let pair = some_is (Some n, r) (o, rest) k.1 in
     let high = value_digit h a.0 a.1 in
     let low = value_digit l b.0 b.1 in
     let small_a : a.0 < 16 = high.1 in
@@ -55,8 +55,8 @@ escape_is (h ∷ l ∷ r) o rest e =
     let remainder : n % 16 ≡ b.0 = omega arith in
     record {
       byte = n;
-      is = sym ends.0;
-      spelled = ap (λ (c : ℕ). c ∷ l ∷ r) (high.0 ∙ ap hex_digit (sym quotient)) ∙ ap (λ (c : ℕ). hex_digit (n / 16) ∷ c ∷ r) (low.0 ∙ ap hex_digit (sym remainder)) ∙ ap (λ (r : List ℕ). hex_digit (n / 16) ∷ hex_digit (n % 16) ∷ r) ends.1;
+      is = sym pair.0;
+      spelled = ap (λ (c : ℕ). c ∷ l ∷ r) (high.0 ∙ ap hex_digit (sym quotient)) ∙ ap (λ (c : ℕ). hex_digit (n / 16) ∷ c ∷ r) (low.0 ∙ ap hex_digit (sym remainder)) ∙ ap (λ (r : List ℕ). hex_digit (n / 16) ∷ hex_digit (n % 16) ∷ r) pair.1;
       odd = k.0;
       small = omega arith;
     }
@@ -137,20 +137,20 @@ text_sound (c ∷ bytes) x rest e = first (c == 126) refl e where
       let a = bind_some (many_at symbol_at (length bytes) bytes) checked (x, rest) e in
       let s = many_sound symbol_at symbol_spell (λ b. b < 256) 34 symbol_sound symbol_end (length bytes) bytes a.0.0 a.0.1 a.1 in
       let k = if_some (is_utf8 a.0.0) (Some (nullable.Full a.0.0, a.0.1)) (x, rest) a.2 in
-      let ends = some_is (nullable.Full a.0.0, a.0.1) (x, rest) k.1 in
+      let pair = some_is (nullable.Full a.0.0, a.0.1) (x, rest) k.1 in
       let same : c ≡ 34 = eqb-true c 34 is in
-      subst (λ (x : Text). (c ∷ bytes ≡ text_spell x ++ rest) × text_fits x) ends.0 (
+      subst (λ (x : Text). (c ∷ bytes ≡ text_spell x ++ rest) × text_fits x) pair.0 (
         ap (λ (c : ℕ). c ∷ bytes) same
-            ∙ ap (λ (b : List ℕ). 34 ∷ b) (s.0 ∙ ap (λ (r : List ℕ). flat_map symbol_spell a.0.0 ++ (34 ∷ r)) ends.1 ∙ sym (append_assoc (flat_map symbol_spell a.0.0) (34 ∷ []) rest)),
+            ∙ ap (λ (b : List ℕ). 34 ∷ b) (s.0 ∙ ap (λ (r : List ℕ). flat_map symbol_spell a.0.0 ++ (34 ∷ r)) pair.1 ∙ sym (append_assoc (flat_map symbol_spell a.0.0) (34 ∷ []) rest)),
         (IsUtf8-from_is_utf8 a.0.0 k.0, s.1),
       )
 
   first : (t : Bool) → (c == 126) ≡ t → cond t (Some (nullable.Null, bytes)) (cond (c == 34) (many_at symbol_at (length bytes) bytes >>= checked) None) ≡ Some (x, rest) → (c ∷ bytes ≡ text_spell x ++ rest) × text_fits x
   first false is e = second (c == 34) refl e
   first true is e =
-      let ends = some_is (nullable.Null, bytes) (x, rest) e in
+      let pair = some_is (nullable.Null, bytes) (x, rest) e in
       let same : c ≡ 126 = eqb-true c 126 is in
-      subst (λ (x : Text). (c ∷ bytes ≡ text_spell x ++ rest) × text_fits x) ends.0 (ap (λ (c : ℕ). c ∷ bytes) same ∙ ap (λ (b : List ℕ). 126 ∷ b) ends.1, tt)
+      subst (λ (x : Text). (c ∷ bytes ≡ text_spell x ++ rest) × text_fits x) pair.0 (ap (λ (c : ℕ). c ∷ bytes) same ∙ ap (λ (b : List ℕ). 126 ∷ b) pair.1, tt)
 
 pub text_is : Lawful text
 text_is = record { again = text_again; sound = text_sound }

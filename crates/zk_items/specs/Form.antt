@@ -5,13 +5,13 @@ use Rattle.zk_items.specs.declared.fault.LineFault.{LineFault}
 use Rattle.zk_items.specs.declared.fault.LineReason.TheVariants.{NoMemory}
 
 -- a letter, a digit, `-` or `/`: what may go on a number, a name or a blob
-abbrev pub goes_on : ℕ → Bool
-goes_on b = (nat_le 48 b && nat_le b 57) || (nat_le 65 b && nat_le b 90) || (nat_le 97 b && nat_le b 122) || b == 45 || b == 47
+abbrev pub in_item : ℕ → Bool
+in_item b = (nat_le 48 b && nat_le b 57) || (nat_le 65 b && nat_le b 90) || (nat_le 97 b && nat_le b 122) || b == 45 || b == 47
 
 -- an item may end before these bytes
 abbrev pub stops : List ℕ → Bool
 stops [] = true
-stops (b ∷ rest) = if goes_on b then false else true
+stops (b ∷ rest) = if in_item b then false else true
 
 infixl 10 ◌>>=◌
 abbrev pub ◌>>=◌ : {A B : Type 0} → Option A → (A → Option B) → Option B

@@ -27,7 +27,7 @@ fn digits_ahead(bytes: &[u8]) -> (u64, usize)
 }
 
 /// Whether a digit or a sign is at `at`.
-fn goes_on(bytes: &[u8], at: usize) -> bool
+fn is_in_number_at(bytes: &[u8], at: usize) -> bool
     ensures { result ≡ false → at < length bytes.now → in_number (slice_index bytes.now at) ≡ false }
 {
     at < bytes.len() && is_in_number(bytes[at])
@@ -47,7 +47,7 @@ fn unsigned_ahead(bytes: &[u8]) -> Option<(u64, usize)>
     ensures { IfSome result (λ q. (take q.1 bytes.now ≡ decimal q.0) × (prefix_len in_number bytes.now ≡ q.1) × (q.1 ≤ length bytes.now)) }
 {
     let (value, count) = digits_ahead(bytes);
-    if count == 0 || goes_on(bytes, count) {
+    if count == 0 || is_in_number_at(bytes, count) {
         return None;
     }
     if is_padded(bytes, count) {

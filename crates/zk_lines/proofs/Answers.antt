@@ -179,9 +179,9 @@ outcome_sound op bytes x rest e = pick (word_at (word_of words.Err) bytes) refl 
   pick : (o : Option (List ℕ)) → word_at (word_of words.Err) bytes ≡ o → if_passed o (λ rest. read_map (outcome.Failed op) (failure_code.at rest)) (read_map outcome.Done (row_at (answers.line_of op) bytes)) ≡ Some (x, rest) → IsOutcome op bytes rest x
   pick None none e =
       let a = bind_some (row_at (answers.line_of op) bytes) (λ q. Some (outcome.Done q.0, q.1)) (x, rest) e in
-      let ends = some_is (outcome.Done a.0.0, a.0.1) (x, rest) a.2 in
+      let pair = some_is (outcome.Done a.0.0, a.0.1) (x, rest) a.2 in
       let s = table_sound body_table op bytes a.0.0 a.0.1 a.1 in
-      subst (IsOutcome op bytes rest) ends.0 (s.0, (s.1.0 ∙ ap (λ (r : List ℕ). (answers.body_written a.0.0).spell ++ r) ends.1, s.1.1))
+      subst (IsOutcome op bytes rest) pair.0 (s.0, (s.1.0 ∙ ap (λ (r : List ℕ). (answers.body_written a.0.0).spell ++ r) pair.1, s.1.1))
   pick (Some behind) is e =
       let m = mapped failure_code failure_is (outcome.Failed op) behind rest x e in
       let word = word_of words.Err in
@@ -210,13 +210,13 @@ named_sound : (op : Op) (bytes : List ℕ) (x : ℤ × Outcome) (rest : List ℕ
 named_sound op bytes x rest e =
     let a = bind_some ((field words.Zxid long).at bytes) (λ z. answers.outcome_at op z.1 >>= λ o. Some ((z.0, o.0), o.1)) (x, rest) e in
     let b = bind_some (answers.outcome_at op a.0.1) (λ o. Some ((a.0.0, o.0), o.1)) (x, rest) a.2 in
-    let ends = some_is ((a.0.0, b.0.0), b.0.1) (x, rest) b.2 in
+    let pair = some_is ((a.0.0, b.0.0), b.0.1) (x, rest) b.2 in
     let first = zxid_is.lawful.sound bytes a.0.0 a.0.1 a.1 in
     let second = outcome_sound op a.0.1 b.0.0 b.0.1 b.1 in
     let zxid = (field words.Zxid long).spell a.0.0 in
     let whole : bytes ≡ (zxid ++ answers.outcome_spell b.0.0) ++ rest =
-    first.0 ∙ ap (λ (r : List ℕ). zxid ++ r) (second.1.0 ∙ ap (λ (r : List ℕ). answers.outcome_spell b.0.0 ++ r) ends.1) ∙ sym (append_assoc zxid (answers.outcome_spell b.0.0) rest) in
-    subst (IsRead answers.outcome_bodies op bytes rest) ends.0 (second.0, (whole, (first.1, second.1.1)))
+    first.0 ∙ ap (λ (r : List ℕ). zxid ++ r) (second.1.0 ∙ ap (λ (r : List ℕ). answers.outcome_spell b.0.0 ++ r) pair.1) ∙ sym (append_assoc zxid (answers.outcome_spell b.0.0) rest) in
+    subst (IsRead answers.outcome_bodies op bytes rest) pair.0 (second.0, (whole, (first.1, second.1.1)))
 
 named_outcome_is : LawfulBefore is_end answers.named_outcome
 named_outcome_is = named_is answers.outcome_bodies (record { found = op_names.found; tells = op_names.tells; letters = op_names.letters; opens = named_opens; again = named_again; sound = named_sound })

@@ -11,7 +11,7 @@ use Rattle.zk_jute.specs.declared.fault.Reason.TheVariants as reasons
 use Rattle.zk_jute.specs.Names.{reason_name}
 use Rattle.zk_items.specs.Leaf.{in_number, int}
 use Rattle.zk_items.proofs.Numbers.{all_digits, wide, written_value}
-use Rattle.zk_items.proofs.Runs.{run_is, ends}
+use Rattle.zk_items.proofs.Runs.{run_is, run_ends}
 use Rattle.zk_talk.specs.declared.message.Side.{Side}
 use Rattle.zk_talk.specs.declared.message.Side.TheVariants as sides
 use Rattle.zk_talk.specs.declared.message.Fault.{Fault}
@@ -22,7 +22,7 @@ use Rattle.zk_lines.specs.Endings.{side_name, sided, count, order_text, place_te
 -- ---- numbers and sides
 
 -- two runs of digits that end alike are one
-runs_apart : (a b x y : List ℕ) → AllByRecursion (λ c. in_number c ≡ true) a → AllByRecursion (λ c. in_number c ≡ true) b → ends in_number x ≡ true → ends in_number y ≡ true → a ++ x ≡ b ++ y → (a ≡ b) × (x ≡ y)
+runs_apart : (a b x y : List ℕ) → AllByRecursion (λ c. in_number c ≡ true) a → AllByRecursion (λ c. in_number c ≡ true) b → run_ends in_number x ≡ true → run_ends in_number y ≡ true → a ++ x ≡ b ++ y → (a ≡ b) × (x ≡ y)
 runs_apart a b x y p q i j e =
     let long : length a ≡ length b = sym (run_is in_number a x p i) ∙ ap (prefix_len in_number) e ∙ run_is in_number b y q j in (
       sym (take_at a x (length a) refl) ∙ ap (take (length a)) e ∙ take_at b y (length a) (sym long),
@@ -32,7 +32,7 @@ runs_apart a b x y p q i j e =
 digits : (n : ℕ) → n < 2 ^ 64 → AllByRecursion (λ c. in_number c ≡ true) (decimal n)
 digits n small = all_digits (decimal n) (decimal_is_IsNumeral n small).0.1
 
-count_apart : (word : List ℕ) (m n : ℕ) (x y : List ℕ) → m < 2 ^ 64 → n < 2 ^ 64 → ends in_number x ≡ true → ends in_number y ≡ true → count word m ++ x ≡ count word n ++ y → (m ≡ n) × (x ≡ y)
+count_apart : (word : List ℕ) (m n : ℕ) (x y : List ℕ) → m < 2 ^ 64 → n < 2 ^ 64 → run_ends in_number x ≡ true → run_ends in_number y ≡ true → count word m ++ x ≡ count word n ++ y → (m ≡ n) × (x ≡ y)
 unfolding count
 count_apart word m n x y p q i j e =
     let behind = append_cancel_left word (decimal m ++ x) (decimal n ++ y) (sym (append_assoc word (decimal m) x) ∙ e ∙ append_assoc word (decimal n) y) in
@@ -128,15 +128,15 @@ reason_apart r s p q e = go (is_order r) (is_order s) refl refl where
 
 -- ---- endings
 
-before_got : (n : ℕ) → ends in_number (count (codes " got=") n) ≡ true
+before_got : (n : ℕ) → run_ends in_number (count (codes " got=") n) ≡ true
 unfolding count
 before_got n = refl
 
-before_offset : (n : ℕ) (x : List ℕ) → ends in_number (count (codes " offset=") n ++ x) ≡ true
+before_offset : (n : ℕ) (x : List ℕ) → run_ends in_number (count (codes " offset=") n ++ x) ≡ true
 unfolding count
 before_offset n x = refl
 
-before_place : (n : ℕ) (x : List ℕ) → ends in_number (count (codes " place=") n ++ x) ≡ true
+before_place : (n : ℕ) (x : List ℕ) → run_ends in_number (count (codes " place=") n ++ x) ≡ true
 unfolding count
 before_place n x = refl
 

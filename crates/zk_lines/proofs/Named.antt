@@ -5,15 +5,15 @@ use Rattle.std.proofs.lemmas.Bool.{and_parts}
 use Rattle.std.proofs.lemmas.List.{take-append-drop}
 use Rattle.std.proofs.lemmas.Slice.Eq.{bytes_eq-Decides}
 use Rattle.std.proofs.Math.Seq.{take-append_seam, drop-append_seam}
-use Rattle.zk_items.specs.Form.{Form, ◌>>=◌, read_map, stops, goes_on}
+use Rattle.zk_items.specs.Form.{Form, ◌>>=◌, read_map, stops, in_item}
 use Rattle.zk_items.specs.Leaf.{in_name}
 use Rattle.zk_items.specs.Laws.{LawfulBefore}
 use Rattle.zk_items.proofs.Forms.{bind_some, some_is}
-use Rattle.zk_items.proofs.Runs.{run_is, stops_ends}
+use Rattle.zk_items.proofs.Runs.{run_is, stops_end_run}
 use Rattle.zk_lines.specs.Named.{Bodies, named, first_named}
 
-name_goes_on : (b : ℕ) → in_name b ≡ true → goes_on b ≡ true
-name_goes_on b h = grind arith
+name_in_item : (b : ℕ) → in_name b ≡ true → in_item b ≡ true
+name_in_item b h = grind arith
 
 -- the key that is found has the name
 first_sound : {K : Type 0} (name : K → List ℕ) (keys : List K) (bytes : List ℕ) (k : K) → first_named name keys bytes ≡ Some k → bytes ≡ name k
@@ -64,7 +64,7 @@ module _ {K X : Type 0} {behind : List ℕ → Bool} (b : Bodies K X) (is : IsNa
   named_again x rest fit stop =
       let name = b.name (b.key x) in
       let after = b.spell x ++ rest in
-      let len : prefix_len in_name (name ++ after) ≡ length name = run_is in_name name after (is.letters (b.key x)) (stops_ends in_name name_goes_on after (is.opens x rest stop)) in
+      let len : prefix_len in_name (name ++ after) ≡ length name = run_is in_name name after (is.letters (b.key x)) (stops_end_run in_name name_in_item after (is.opens x rest stop)) in
       ap (named b).at (append_assoc name (b.spell x) rest)
       ∙ ap (λ (n : ℕ). b.key_at (take n (name ++ after)) >>= λ k. b.at k (drop n (name ++ after))) len
       ∙ ap (λ (r : List ℕ). b.key_at r >>= λ k. b.at k (drop (length name) (name ++ after))) (take-append_seam name after)
@@ -90,6 +90,6 @@ IsRead b k bytes rest x = (b.key x ≡ k) × ((bytes ≡ b.spell x ++ rest) × b
 pub mapped : {X Y : Type 0} {behind : List ℕ → Bool} (f : Form X) (is : LawfulBefore behind f) (v : X → Y) (bytes rest : List ℕ) (y : Y) → read_map v (f.at bytes) ≡ Some (y, rest) → (x : X) × (v x ≡ y) × ((bytes ≡ f.spell x ++ rest) × f.fits x)
 mapped f is v bytes rest y e =
     let b = bind_some (f.at bytes) (λ q. Some (v q.0, q.1)) (y, rest) e in
-    let ends = some_is (v b.0.0, b.0.1) (y, rest) b.2 in
+    let pair = some_is (v b.0.0, b.0.1) (y, rest) b.2 in
     let s = is.sound bytes b.0.0 b.0.1 b.1 in
-    (b.0.0, ends.0, (s.0 ∙ ap (λ (r : List ℕ). f.spell b.0.0 ++ r) ends.1, s.1))
+    (b.0.0, pair.0, (s.0 ∙ ap (λ (r : List ℕ). f.spell b.0.0 ++ r) pair.1, s.1))

@@ -27,6 +27,7 @@ use Rattle.zk_lines.specs.Words.{field}
 use Rattle.zk_lines.specs.declared.word.Word.TheVariants as words
 use Rattle.zk_lines.specs.Series.{list_of, multi_of}
 use Rattle.zk_lines.specs.Records.{acl}
+use Rattle.zk_records.specs.Made as made
 use Rattle.zk_lines.specs.Named.{first_named, named}
 use Rattle.zk_lines.specs.Rows.{Row, holds, nothing, Content, remake, Written, written, bodies_of}
 
@@ -49,36 +50,35 @@ connect_of b = fields (field words.Version int and field words.Zxid long and fie
 
 abbrev pub create_of : {T B A : Type 0} → Form T → Form B → Form A → Form (CreateAskOf T B A)
 create_of t b a = fields (field words.Path t and field words.Blob b and field words.Acl a and field words.Flags int)
-    (λ a. (a.path, (a.blob, (a.acl, a.flags)))) (λ (path, (blob, (acl, flags))). record { path = path; blob = blob; acl = acl; flags = flags })
+    (λ a. (a.path, (a.blob, (a.acl, a.flags)))) made.create_ask
 
 abbrev pub delete_of : {T : Type 0} → Form T → Form (DeleteAskOf T)
-delete_of t = fields (field words.Path t and field words.Version int) (λ a. (a.path, a.version)) (λ (path, version). record { path = path; version = version })
+delete_of t = fields (field words.Path t and field words.Version int) (λ a. (a.path, a.version)) made.delete_ask
 
 abbrev pub watch_of : {T : Type 0} → Form T → Form (WatchAskOf T)
-watch_of t = fields (field words.Path t and field words.Watch bit) (λ a. (a.path, a.watch)) (λ (path, watch). record { path = path; watch = watch })
+watch_of t = fields (field words.Path t and field words.Watch bit) (λ a. (a.path, a.watch)) made.watch_ask
 
 abbrev pub set_data_of : {T B : Type 0} → Form T → Form B → Form (SetDataAskOf T B)
 set_data_of t b = fields (field words.Path t and field words.Blob b and field words.Version int)
-    (λ a. (a.path, (a.blob, a.version))) (λ (path, (blob, version)). record { path = path; blob = blob; version = version })
+    (λ a. (a.path, (a.blob, a.version))) made.set_data_ask
 
 abbrev pub path_of : {T : Type 0} → Form T → Form (PathAskOf T)
-path_of t = fields (field words.Path t) (λ a. a.path) (λ p. record { path = p })
+path_of t = fields (field words.Path t) (λ a. a.path) made.path_ask
 
 abbrev pub set_acl_of : {T A : Type 0} → Form T → Form A → Form (SetAclAskOf T A)
 set_acl_of t a = fields (field words.Path t and field words.Acl a and field words.Version int)
-    (λ a. (a.path, (a.acl, a.version))) (λ (path, (acl, version)). record { path = path; acl = acl; version = version })
+    (λ a. (a.path, (a.acl, a.version))) made.set_acl_ask
 
 abbrev pub auth_of : {T B : Type 0} → Form T → Form B → Form (AuthAskOf T B)
 auth_of t b = fields (field words.Kind int and field words.Scheme t and field words.Auth b)
-    (λ a. (a.kind, (a.scheme, a.auth))) (λ (kind, (scheme, auth)). record { kind = kind; scheme = scheme; auth = auth })
+    (λ a. (a.kind, (a.scheme, a.auth))) made.auth_ask
 
 abbrev pub set_watches_of : {L : Type 0} → Form L → Form (SetWatchesAskOf L)
 set_watches_of l = fields (field words.Zxid long and field words.DataWatches l and field words.ExistWatches l and field words.ChildWatches l)
-    (λ a. (a.zxid, (a.data_watches, (a.exist_watches, a.child_watches))))
-    (λ (zxid, (on_data, (on_exist, on_child))). record { zxid = zxid; data_watches = on_data; exist_watches = on_exist; child_watches = on_child })
+    (λ a. (a.zxid, (a.data_watches, (a.exist_watches, a.child_watches)))) made.set_watches_ask
 
 abbrev pub check_of : {T : Type 0} → Form T → Form (CheckAskOf T)
-check_of t = fields (field words.Path t and field words.Version int) (λ a. (a.path, a.version)) (λ (path, version). record { path = path; version = version })
+check_of t = fields (field words.Path t and field words.Version int) (λ a. (a.path, a.version)) made.check_ask
 
 -- ---- owned records
 

@@ -164,11 +164,17 @@ fn put_connected<B: Put>(
 
 /// `event_fields!(then, with)` is `then!(with: ..)` with an event's fields after its type, as in `fields_of!`.
 macro_rules! event_fields {
-    ($then:ident, $($with:tt)+) => {
-        $then!($($with)+: state STATE int, path PATH text)
+    ($then:ident, $($with:ident),+) => { fields_of!(WatcherEvent, after_first, $then, $($with),+) };
+}
+
+/// `after_first!(then, with: fields)` is `then!(with: ..)` with the fields after the first.
+macro_rules! after_first {
+    ($then:ident, $($with:ident),+: $field:ident $name:ident $kind:ident, $($rest:tt)+) => {
+        $then!($($with),+: $($rest)+)
     };
 }
 
+pub(crate) use after_first;
 pub(crate) use event_fields;
 
 fn read_event<T: Item>(line: &mut Reader<'_>) -> Result<(i64, WatcherEventOf<T>), LineFault>
@@ -177,9 +183,8 @@ fn read_event<T: Item>(line: &mut Reader<'_>) -> Result<(i64, WatcherEventOf<T>)
     let zxid = read_field(line, Word::Zxid)?;
     read_word(line, Word::Kind)?;
     let kind = read_event_code(line)?;
-    let state = read_field(line, Word::State)?;
-    let path = read_field(line, Word::Path)?;
-    Ok((zxid, WatcherEventOf { kind, state, path }))
+    let event = event_fields!(read_fields, line, WatcherEventOf, kind);
+    Ok((zxid, event))
 }
 
 /// Appends the zxid and an event's fields in order.

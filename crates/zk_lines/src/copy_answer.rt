@@ -10,7 +10,7 @@ ghost use Rattle.zk_talk.specs.declared.message.MessageOf.TheVariants.{Server};
 ghost use Rattle.zk_lines.specs.Answers as answers;
 ghost use Rattle.zk_lines.specs.Lines.{server_at};
 
-use crate::answer::{event_fields, read_failure};
+use crate::answer::{after_first, event_fields, read_failure};
 use crate::body::copy_body;
 use crate::copies::{append, copy_field, copy_fields};
 use crate::name::op_named;

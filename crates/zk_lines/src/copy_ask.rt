@@ -54,7 +54,7 @@ fn copy_body(line: &mut Reader<'_>, op: Op, out: &mut Vec<u8>) -> Option<()>
     macro_rules! row {
         ($op:ident: $($($held:ident)|+: $record:ident $borrowed:ident),+; $($bare:ident)|+) => {
             match $op {
-                $($(Op::$held => $record::copy(line, out),)+)+
+                $($(Op::$held)|+ => $record::copy(line, out),)+
                 $(Op::$bare => Some(()),)+
                 Op::Multi => copy_multi::<Part>(line, out),
             }

@@ -24,11 +24,12 @@ pub fn read_field<T: Item>(line: &mut Reader<'_>, word: Word) -> Result<T, LineF
     T::read(line)
 }
 
-/// `fields_of!(R, read_fields, line, R)` reads the fields of the record in order, each after its word.
+/// `fields_of!(R, read_fields, line, R)` reads the fields of the record in order, each after its word. After `R`
+/// come the names of fields that were read before.
 macro_rules! read_fields {
-    ($line:ident, $record:ident: $($field:ident $name:ident $kind:ident),+) => {{
+    ($line:ident, $record:ident$(, $before:ident)*: $($field:ident $name:ident $kind:ident),+) => {{
         $(let $field = read_field($line, field_word!($field))?;)+
-        $record { $($field),+ }
+        $record { $($before,)* $($field),+ }
     }};
 }
 

@@ -73,7 +73,7 @@ pub fn pass_client<V: Verdict>(
 {
     let count = stream.count();
     await_ask::<V>(profile, count, count, waiting, carried(piece, used))?;
-    stream.pass_front(used);
+    stream.pass_whole(used);
     Ok(())
 }
 
@@ -156,7 +156,7 @@ pub fn pass_server<V: Verdict>(
     ensures fault { IfErr result (Says V.tells (λ e. (e.reason ≢ NoMemory) × TellsServer asked stream.old.count waiting.old (drop 4 (take used piece.now)) e)) }
 {
     settle::<V>(asked, stream.count(), waiting, carried(piece, used))?;
-    stream.pass_front(used);
+    stream.pass_whole(used);
     Ok(())
 }
 

@@ -218,7 +218,7 @@ pub fn say_client(
 }
 
 /// The failure of an outcome is an error's number. The function does nothing.
-fn told(outcome: &Outcome)
+fn failure_is_an_error(outcome: &Outcome)
     ensures { answers.IsOutcome outcome.now }
 {
     if let Outcome::Failed(_, failure) = outcome {
@@ -245,7 +245,7 @@ fn reply_fits(waiting: &Awaited, reply: &Reply) -> Result<(), SayFault>
     if !fits(&slot, reply) {
         return Err(SayFault::Misfit);
     }
-    told(&reply.outcome);
+    failure_is_an_error(&reply.outcome);
     Ok(())
 }
 

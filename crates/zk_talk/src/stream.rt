@@ -59,7 +59,7 @@ fn within(size: u64, piece: &[u8]) -> usize
 }
 
 #[inline(always)]
-fn front(piece: &[u8], used: usize) -> &[u8]
+fn first_bytes(piece: &[u8], used: usize) -> &[u8]
     requires { used ≤ length piece.now }
     ensures { result.now ≡ take used piece.now }
 {
@@ -85,7 +85,7 @@ fn go_forward(frames: &mut Frames, size: u64, piece: &[u8]) -> Advance
 {
     let room = within(size, piece);
     let held = frames.held();
-    match frames.take(front(piece, room)) {
+    match frames.take(first_bytes(piece, room)) {
         Ok(took) => {
             if took.whole {
                 Advance::Whole(took.used)
@@ -227,13 +227,13 @@ impl Stream {
         ensures { IfSome result (λ used. (self.now.held ≡ []) × IsAdvance self.now.limit self.now.size self.now.held piece.now (Whole used) (take used piece.now)) }
     {
         let room = within(self.size, piece);
-        self.frames.front(front(piece, room))
+        self.frames.front(first_bytes(piece, room))
     }
 
     /// Takes the whole frame at the front of `piece`, if no byte is held, and returns the number of its bytes; `None`:
     /// undecided, and nothing changed.
     #[inline(always)]
-    pub fn take_front(&mut self, piece: &[u8]) -> Option<usize>
+    pub fn take_whole(&mut self, piece: &[u8]) -> Option<usize>
         requires given_up { self.old.kept ≡ [] }
         requires size { self.old.size < 2 ^ 62 }
         ensures stays { self.new ≡ record self.old { held = self.new.held } }
@@ -241,7 +241,7 @@ impl Stream {
         ensures none { IfNone result (self.new ≡ self.old) }
     {
         let room = within(self.size, piece);
-        self.frames.take_front(front(piece, room))
+        self.frames.take_whole(first_bytes(piece, room))
     }
 
     /// Counts the `used` bytes that came; the frame isn't whole.
@@ -272,7 +272,7 @@ impl Stream {
 
     /// Counts a whole frame of `used` bytes, none of which is held.
     #[inline(always)]
-    pub fn pass_front(&mut self, used: usize)
+    pub fn pass_whole(&mut self, used: usize)
         requires none { (self.old.held ≡ []) × (self.old.kept ≡ []) }
         requires fits { (self.old.size + used < 2 ^ 62) × (self.old.count ≤ self.old.size) }
         ensures { self.new ≡ passed self.old used }

@@ -170,7 +170,7 @@ impl Talk {
     /// its bytes; `None`: undecided, and nothing changed.
     // Most frames come so; no fault, and no frame as a value, is made on the way.
     #[inline(always)]
-    fn front(&mut self, side: Side, piece: &[u8]) -> Option<usize>
+    fn step_whole(&mut self, side: Side, piece: &[u8]) -> Option<usize>
         requires good { self.old.fault ≡ None }
         requires given_up { kept_on side self.old ≡ [] }
         ensures limits { self.new.limits ≡ self.old.limits }
@@ -180,7 +180,7 @@ impl Talk {
     {
         match side {
             Side::Client => {
-                let used = self.client.take_front(piece)?;
+                let used = self.client.take_whole(piece)?;
                 let profile = self.limits.profile();
                 match keep_client::<Undecided>(profile, &mut self.client, &mut self.waiting, used) {
                     Ok(()) => Some(used),
@@ -191,7 +191,7 @@ impl Talk {
                 }
             }
             Side::Server => {
-                let used = self.server.take_front(piece)?;
+                let used = self.server.take_whole(piece)?;
                 let asked = self.client.count();
                 match keep_server::<Undecided>(asked, &mut self.server, &mut self.waiting, used) {
                     Ok(answered) => {
@@ -320,7 +320,7 @@ impl Talk {
     {
         self.give_up(side);
         match self.fault {
-            None => self.front(side, piece),
+            None => self.step_whole(side, piece),
             Some(_) => None,
         }
     }

@@ -106,14 +106,14 @@ module _ (old : ThroughState) (piece : List ℕ) (limit : old.server.limit ≡ o
           )
 
       -- the talk gets it, whichever it is
-      pub server_passed : (due : Due) (ahead : Option ℤ) → ((turn : Turn) → due ≡ dues.Left turn → ⊥) → Judges old.talk.limits.profile old.turns ahead (Ok due) → TellsFrame due s.count answered → turns ≡ after_reply ahead old.turns →
+      pub server_passed : (due : Due) (ahead : Option ℤ) → ((turn : Turn) → due ≡ dues.LeftOut turn → ⊥) → Judges old.talk.limits.profile old.turns ahead (Ok due) → TellsFrame due s.count answered → turns ≡ after_reply ahead old.turns →
           (old.late ≡ true → IsEarlier old.matched old.turns ahead → ⊥) → (old.late ≡ true → matched ≡ matched_after ahead old.matched) → IfSome ahead (λ xid. IsAhead 16 s (λ q. xid ≡ xid_of q)) → IfNone ahead (IsNotAhead 16 s) → WentOn old Server piece used went.Message new
       server_passed dues.Nothing ahead not_left j frame less stays replies some none =
           server_told (subst (λ (z : Option ℤ). IfNone z (IsNotAhead 16 s)) j none) frame (less ∙ ap (λ (z : Option ℤ). after_reply z old.turns) j) (λ e. replies e ∙ ap (λ (z : Option ℤ). matched_after z old.matched) j)
       server_passed (dues.Told turn) ahead not_left j frame less stays replies some none =
           server_replied j.0 turn (subst (λ (z : Option ℤ). IfSome z (λ xid. IsAhead 16 s (λ q. xid ≡ xid_of q))) j.1 some) j.2 j.3 frame (less ∙ ap (λ (z : Option ℤ). after_reply z old.turns) j.1)
           (subst (λ (z : Option ℤ). old.late ≡ true → IsEarlier old.matched old.turns z → ⊥) j.1 stays) (λ e. replies e ∙ ap (λ (z : Option ℤ). matched_after z old.matched) j.1)
-      server_passed (dues.Left turn) ahead not_left j frame less stays replies some none = absurd (not_left turn refl)
+      server_passed (dues.LeftOut turn) ahead not_left j frame less stays replies some none = absurd (not_left turn refl)
 
     module _ (xid : ℤ) (a : IsAhead 16 s (λ q. xid ≡ xid_of q)) where
       turn : has_turn 16 whole.0 ≡ true

@@ -128,14 +128,14 @@ IsBadTurn profile t xid reason =
 abbrev pub Judges : Profile → TurnsState → Option ℤ → Result Due Reason → Type 0
 Judges profile t xid (Ok dues.Nothing) = xid ≡ None
 Judges profile t xid (Ok (dues.Told turn)) = (x : ℤ) × (xid ≡ Some x) × IsDue t x turn × (IsLacked profile turn → ⊥)
-Judges profile t xid (Ok (dues.Left turn)) = (xid ≡ Some turn.xid) × IsDue t turn.xid turn × IsLacked profile turn
+Judges profile t xid (Ok (dues.LeftOut turn)) = (xid ≡ Some turn.xid) × IsDue t turn.xid turn × IsLacked profile turn
 Judges profile t xid (Err reason) = (x : ℤ) × (xid ≡ Some x) × IsBadTurn profile t x reason
 
 -- the number of the client's frame that the server's frame answers, after so many others
 abbrev pub TellsFrame : Due → ℕ → Option ℕ → Type 0
 TellsFrame dues.Nothing frames n = (frames ≡ 0 → n ≡ Some 0) × (frames ≢ 0 → n ≡ None)
 TellsFrame (dues.Told turn) frames n = n ≡ Some turn.frame
-TellsFrame (dues.Left turn) frames n = n ≡ Some turn.frame
+TellsFrame (dues.LeftOut turn) frames n = n ≡ Some turn.frame
 
 -- The reply with this xid, if it is one of a lane, is to a request from before those that wait, in a connection that is seen
 -- late; `matched` says whether a reply of the plain lane came.

@@ -258,7 +258,7 @@ impl Through {
             }
         };
         let answered = frame_answered(due, self.server.count());
-        if let Due::Left(turn) = due {
+        if let Due::LeftOut(turn) = due {
             self.turns.answer(turn.xid);
             self.server.keep(new);
             self.answered = answered;

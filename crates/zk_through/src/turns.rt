@@ -21,7 +21,7 @@ pub enum Due {
     /// One that the talk got.
     Told(Turn),
     /// One that is left out, with the frame's xid.
-    Left(Turn),
+    LeftOut(Turn),
 }
 
 /// The number of the client's frame that the server's frame answers, after `frames` others: the first answers the
@@ -30,7 +30,7 @@ pub fn frame_answered(due: Due, frames: u64) -> Option<u64>
     ensures { TellsFrame due frames result }
 {
     match due {
-        Due::Told(turn) | Due::Left(turn) => Some(turn.frame),
+        Due::Told(turn) | Due::LeftOut(turn) => Some(turn.frame),
         Due::Nothing if frames == 0 => Some(0),
         Due::Nothing => None,
     }
@@ -186,7 +186,7 @@ impl Turns {
             return Ok(Due::Told(turn));
         }
         if turn.xid == xid {
-            Ok(Due::Left(turn))
+            Ok(Due::LeftOut(turn))
         } else {
             let expected = turn.xid;
             let got = xid;

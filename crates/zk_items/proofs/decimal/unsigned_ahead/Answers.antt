@@ -8,6 +8,6 @@ returns c =
     let bytes = c.args.bytes.now in
     let some : 0 < d.result.1 = omega arith in (
       spelled bytes d.result.1 d.result.0 d.ensures.digits some d.ensures.within.0 (c.is_padded.ensures c.if-is_padded.false) d.ensures.value (omega arith),
-      run_of_digits bytes d.result.1 d.ensures.digits d.ensures.within.0 (c.goes_on.ensures c.if-goes_on.false),
+      run_of_digits bytes d.result.1 d.ensures.digits d.ensures.within.0 (c.is_in_number_at.ensures c.if-is_in_number_at.false),
       d.ensures.within.0,
     )

@@ -1,7 +1,7 @@
 use Rattle.std.proofs.Common.{rules, ◌≡◌, ◌++◌, ℕ, List, take, drop, ap, ap₂, ◌∙◌, append_assoc}
 use Rattle.std.specs.List.{flat_map}
 use Rattle.zk_items.specs.Leaf.{symbol_spell}
-use Rattle.zk_items.proofs.Escapes.{goes_on}
+use Rattle.zk_items.proofs.Escapes.{spelled_further}
 use Rattle.zk_items.proofs.Kept.{keeps_more}
 use Rattle.zk_items.proofs.Looks.{plain_front}
 use Rattle.zk_items.proofs.write.put_symbols.Goals as goal
@@ -25,7 +25,7 @@ pub loop-first-preserved : goal.loop-first-preserved
 loop-first-preserved c =
     let l = c.loop-first in
     record {
-      spelled = goes_on l.out.items c.put_odd.new.out.items l.ahead.now c.in_ok-count.count _ c.in_ok-count.ensures.spelled l.invariant.spelled;
+      spelled = spelled_further l.out.items c.put_odd.new.out.items l.ahead.now c.in_ok-count.count _ c.in_ok-count.ensures.spelled l.invariant.spelled;
       keeps = λ front is. keeps_more _ _ _ c.in_ok-count.ensures.spelled front (l.invariant.keeps front is);
     }
 

@@ -1,4 +1,4 @@
-use Rattle.std.proofs.Common.{refl, sym}
+use Rattle.std.proofs.Common.{inl, inr, refl, sym}
 use Rattle.std.proofs.lemmas.List.{append-nil}
 use Rattle.zk_asks.specs.Rows.{body_items}
 use Rattle.zk_asks.specs.declared.frame.AskOf.TheVariants as ask
@@ -7,37 +7,36 @@ use Rattle.zk_lines.proofs.Appended.{made, value_copied}
 use Rattle.zk_lines.proofs.copy_ask.copy_body.Goals as goal
 
 pub returns-in-Create-clause-copied : goal.returns-in-Create-clause-copied
-returns-in-Create-clause-copied c = rw c.in-Create.is (on_some c.copy.result (λ k. made body_items _ (λ _ _. (_, refl, refl)) k) c.copy.ensures.copied)
+returns-in-Create-clause-copied c =
+    elim c.in-Create.is [
+      | inl e ↦ rw e (on_some c.copy.result (λ k. made body_items _ (λ _ _. (_, refl, refl)) k) c.copy.ensures.copied)
+      | inr e ↦ rw e (on_some c.copy.result (λ k. made body_items _ (λ _ _. (_, refl, refl)) k) c.copy.ensures.copied)
+    ]
 
 pub returns-in-Delete-clause-copied : goal.returns-in-Delete-clause-copied
 returns-in-Delete-clause-copied c = rw c.in-Delete.is (on_some c.copy-in-Delete.result (λ k. made body_items _ (λ _ _. (_, refl, refl)) k) c.copy-in-Delete.ensures.copied)
 
 pub returns-in-Exists-clause-copied : goal.returns-in-Exists-clause-copied
-returns-in-Exists-clause-copied c = rw c.in-Exists.is (on_some c.copy-in-Exists.result (λ k. made body_items _ (λ _ _. (_, refl, refl)) k) c.copy-in-Exists.ensures.copied)
-
-pub returns-in-GetData-clause-copied : goal.returns-in-GetData-clause-copied
-returns-in-GetData-clause-copied c = rw c.in-GetData.is (on_some c.copy-in-GetData.result (λ k. made body_items _ (λ _ _. (_, refl, refl)) k) c.copy-in-GetData.ensures.copied)
+returns-in-Exists-clause-copied c =
+    elim c.in-Exists.is [
+      | inl e ↦ rw e (on_some c.copy-in-Exists.result (λ k. made body_items _ (λ _ _. (_, refl, refl)) k) c.copy-in-Exists.ensures.copied)
+      | inr (inl e) ↦ rw e (on_some c.copy-in-Exists.result (λ k. made body_items _ (λ _ _. (_, refl, refl)) k) c.copy-in-Exists.ensures.copied)
+      | inr (inr (inl e)) ↦ rw e (on_some c.copy-in-Exists.result (λ k. made body_items _ (λ _ _. (_, refl, refl)) k) c.copy-in-Exists.ensures.copied)
+      | inr (inr (inr e)) ↦ rw e (on_some c.copy-in-Exists.result (λ k. made body_items _ (λ _ _. (_, refl, refl)) k) c.copy-in-Exists.ensures.copied)
+    ]
 
 pub returns-in-SetData-clause-copied : goal.returns-in-SetData-clause-copied
 returns-in-SetData-clause-copied c = rw c.in-SetData.is (on_some c.copy-in-SetData.result (λ k. made body_items _ (λ _ _. (_, refl, refl)) k) c.copy-in-SetData.ensures.copied)
 
 pub returns-in-GetAcl-clause-copied : goal.returns-in-GetAcl-clause-copied
-returns-in-GetAcl-clause-copied c = rw c.in-GetAcl.is (on_some c.copy-in-GetAcl.result (λ k. made body_items _ (λ _ _. (_, refl, refl)) k) c.copy-in-GetAcl.ensures.copied)
+returns-in-GetAcl-clause-copied c =
+    elim c.in-GetAcl.is [
+      | inl e ↦ rw e (on_some c.copy-in-GetAcl.result (λ k. made body_items _ (λ _ _. (_, refl, refl)) k) c.copy-in-GetAcl.ensures.copied)
+      | inr e ↦ rw e (on_some c.copy-in-GetAcl.result (λ k. made body_items _ (λ _ _. (_, refl, refl)) k) c.copy-in-GetAcl.ensures.copied)
+    ]
 
 pub returns-in-SetAcl-clause-copied : goal.returns-in-SetAcl-clause-copied
 returns-in-SetAcl-clause-copied c = rw c.in-SetAcl.is (on_some c.copy-in-SetAcl.result (λ k. made body_items _ (λ _ _. (_, refl, refl)) k) c.copy-in-SetAcl.ensures.copied)
-
-pub returns-in-GetChildren-clause-copied : goal.returns-in-GetChildren-clause-copied
-returns-in-GetChildren-clause-copied c = rw c.in-GetChildren.is (on_some c.copy-in-GetChildren.result (λ k. made body_items _ (λ _ _. (_, refl, refl)) k) c.copy-in-GetChildren.ensures.copied)
-
-pub returns-in-Sync-clause-copied : goal.returns-in-Sync-clause-copied
-returns-in-Sync-clause-copied c = rw c.in-Sync.is (on_some c.copy-in-Sync.result (λ k. made body_items _ (λ _ _. (_, refl, refl)) k) c.copy-in-Sync.ensures.copied)
-
-pub returns-in-GetChildren2-clause-copied : goal.returns-in-GetChildren2-clause-copied
-returns-in-GetChildren2-clause-copied c = rw c.in-GetChildren2.is (on_some c.copy-in-GetChildren2.result (λ k. made body_items _ (λ _ _. (_, refl, refl)) k) c.copy-in-GetChildren2.ensures.copied)
-
-pub returns-in-Create2-clause-copied : goal.returns-in-Create2-clause-copied
-returns-in-Create2-clause-copied c = rw c.in-Create2.is (on_some c.copy-in-Create2.result (λ k. made body_items _ (λ _ _. (_, refl, refl)) k) c.copy-in-Create2.ensures.copied)
 
 pub returns-in-Auth-clause-copied : goal.returns-in-Auth-clause-copied
 returns-in-Auth-clause-copied c = rw c.in-Auth.is (on_some c.copy-in-Auth.result (λ k. made body_items _ (λ _ _. (_, refl, refl)) k) c.copy-in-Auth.ensures.copied)

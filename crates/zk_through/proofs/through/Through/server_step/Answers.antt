@@ -50,23 +50,23 @@ returns-in-Err-clause-err c =
     rw (← c.self.view_is) (server_bad T c.args.piece.now limit none c.in-Some.new c.receive.new.stream w.0 bad.0 a stays' c.refuse.result c.refuse.new.kept c.unseen.new.matched c.in-Err.reason bad.2
     (told.0 ∙ (λ i. fault_of Server c.receive.new.stream.count (c.receive.new.stream.size + c.in-Some.new) (c.at-item.ensures i).place (c.at-item.ensures i).reason)) told.1)
 
-pub returns-in-Left-clause-ok : goal.returns-in-Left-clause-ok
-returns-in-Left-clause-ok c =
+pub returns-in-LeftOut-clause-ok : goal.returns-in-LeftOut-clause-ok
+returns-in-LeftOut-clause-ok c =
     let T = the_view c.self.inside in
     let limit : T.server.limit ≡ T.talk.limits.server = c.self.invariant.2.same ∙ ap (λ (l : Limits). l.server) (sym c.self.invariant.0) in
     let none : T.server.kept ≡ [] = ap (λ (t : ThroughState). t.server.kept) c.self.view_is ∙ c.requires.given_up in
     let w = received Server _ _ _ _ _ c.in-Some.is c.in_ok-received.ensures.received in
-    let turn = c.in-Left.turn in
+    let turn = c.in-LeftOut.turn in
     let profile : c.profile.result ≡ T.talk.limits.profile = c.profile.ensures ∙ ap (λ (l : Limits). l.profile) (sym c.self.invariant.0) in
-    let d = subst (λ (z : Profile). Judges z c.self.inside.turns c.replied-ahead.result (Ok (dues.Left turn))) profile (subst (λ (z : Due). Judges c.profile.result c.self.inside.turns c.replied-ahead.result (Ok z)) c.in-Left.is c.in-Ok.ensures) in
-    let frame = subst (λ (z : Due). TellsFrame z c.receive.new.stream.count c.frame_answered-answered.result) c.in-Left.is (subst (λ n. TellsFrame c.in-Ok.due n c.frame_answered-answered.result) c.count.ensures c.frame_answered-answered.ensures) in
+    let d = subst (λ (z : Profile). Judges z c.self.inside.turns c.replied-ahead.result (Ok (dues.LeftOut turn))) profile (subst (λ (z : Due). Judges c.profile.result c.self.inside.turns c.replied-ahead.result (Ok z)) c.in-LeftOut.is c.in-Ok.ensures) in
+    let frame = subst (λ (z : Due). TellsFrame z c.receive.new.stream.count c.frame_answered-answered.result) c.in-LeftOut.is (subst (λ n. TellsFrame c.in-Ok.due n c.frame_answered-answered.result) c.count.ensures c.frame_answered-answered.ensures) in
     let a = subst (λ (z : Option ℤ). IfSome z (λ xid. IsAhead 16 c.receive.new.stream (λ q. xid ≡ xid_of q))) d.0 c.replied-ahead.ensures.some in
     let fits : SFits w32 turn.xid = search rules in
     let less = c.answer.ensures.now ∙ ap (λ (z : ℤ). after_answer z c.self.inside.turns) (to_z-of_z w32 turn.xid fits) in
     let stays = subst (λ (z : Option (ℤ × ℤ × ℤ)). IfNone z (c.self.inside.late ≡ true → IsEarlier c.self.inside.matched c.self.inside.turns c.replied-ahead.result → ⊥)) c.in_default-unseen.is c.unseen.ensures.none in
     let stays' = subst (λ (z : Option ℤ). c.self.inside.late ≡ true → IsEarlier c.self.inside.matched c.self.inside.turns z → ⊥) d.0 stays in
     let matched = λ (e : c.self.inside.late ≡ true). c.unseen.ensures.counts e (stays e) ∙ ap (λ (z : Option ℤ). matched_after z c.self.inside.matched) d.0 in
-    rw (← c.self.view_is, c.of-in-Left.ensures, w.1) (server_left T c.args.piece.now limit none c.in-Some.new c.receive.new.stream w.0 turn.xid a c.keep-in-Left.new.self c.answer.new.self c.unseen.new.matched c.frame_answered-answered.result turn c.keep-in-Left.ensures less refl d.1 d.2 frame stays' matched)
+    rw (← c.self.view_is, c.of-in-LeftOut.ensures, w.1) (server_left T c.args.piece.now limit none c.in-Some.new c.receive.new.stream w.0 turn.xid a c.keep-in-LeftOut.new.self c.answer.new.self c.unseen.new.matched c.frame_answered-answered.result turn c.keep-in-LeftOut.ensures less refl d.1 d.2 frame stays' matched)
 
 pub returns-in_err-tell-clause-err : goal.returns-in_err-tell-clause-err
 returns-in_err-tell-clause-err c =
@@ -90,7 +90,7 @@ returns-clause-ok c =
     let d = subst (λ (z : Profile). Judges z c.self.inside.turns c.replied-ahead.result (Ok c.in-Ok.due)) profile c.in-Ok.ensures in
     let frame = subst (λ n. TellsFrame c.in-Ok.due n c.frame_answered-answered.result) c.count.ensures c.frame_answered-answered.ensures in
     let stays = subst (λ (z : Option (ℤ × ℤ × ℤ)). IfNone z (c.self.inside.late ≡ true → IsEarlier c.self.inside.matched c.self.inside.turns c.replied-ahead.result → ⊥)) c.in_default-unseen.is c.unseen.ensures.none in
-    rw (← c.self.view_is, c.of-2.ensures, t.passed.1, w.1) (server_passed T c.args.piece.now limit none c.in-Some.new c.receive.new.stream w.0 c.tell.new.stream c.tell.new.talk c.reply.new.self c.unseen.new.matched c.frame_answered-answered.result t.passed.0 t.limits t.ok c.in-Ok.due c.replied-ahead.result c.in_default-due.not-Left d frame c.reply.ensures.now stays (λ e. c.unseen.ensures.counts e (stays e)) c.replied-ahead.ensures.some c.replied-ahead.ensures.none)
+    rw (← c.self.view_is, c.of-2.ensures, t.passed.1, w.1) (server_passed T c.args.piece.now limit none c.in-Some.new c.receive.new.stream w.0 c.tell.new.stream c.tell.new.talk c.reply.new.self c.unseen.new.matched c.frame_answered-answered.result t.passed.0 t.limits t.ok c.in-Ok.due c.replied-ahead.result c.in_default-due.not-LeftOut d frame c.reply.ensures.now stays (λ e. c.unseen.ensures.counts e (stays e)) c.replied-ahead.ensures.some c.replied-ahead.ensures.none)
 
 pub returns-in-Some-unseen-clause-ok : goal.returns-in-Some-unseen-clause-ok
 returns-in-Some-unseen-clause-ok c =

@@ -6,12 +6,12 @@ use Rattle.zk_talk.specs.Sound.{IsSide}
 use Rattle.zk_talk.specs.Streams.{StreamState}
 use Rattle.zk_talk.specs.Judged.{IsNextClient, IsNextServer}
 use Rattle.zk_talk.proofs.Answering.{keeps}
-use Rattle.zk_talk.proofs.talk.Talk.front.Goals as goal
+use Rattle.zk_talk.proofs.talk.Talk.step_whole.Goals as goal
 
 pub returns-in-Ok-clause-some : goal.returns-in-Ok-clause-some
 returns-in-Ok-clause-some c =
     let T = the_view c.self.inside in
-    let s = c.take_front.new.self in
+    let s = c.take_whole.new.self in
     let k = c.in-Ok.ensures in
     let f = k.found in
     let t = c.in_ok-used-in-Client.ensures in
@@ -40,7 +40,7 @@ invariant_of-self-in-Ok-keep_server c =
 pub returns-in-Ok-keep_server-clause-some : goal.returns-in-Ok-keep_server-clause-some
 returns-in-Ok-keep_server-clause-some c =
     let T = the_view c.self.inside in
-    let s = c.take_front-in-Server.new.self in
+    let s = c.take_whole-in-Server.new.self in
     let k = c.in-Ok-keep_server.ensures in
     let f = k.found in
     let t = c.in_ok-used-in-Server.ensures in

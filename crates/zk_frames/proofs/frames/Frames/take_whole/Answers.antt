@@ -1,6 +1,6 @@
 use Rattle.std.proofs.Common.{ap, arith, length}
 use Rattle.zk_frames.proofs.Cuts.{length-frame}
-use Rattle.zk_frames.proofs.frames.Frames.take_front.Goals as goal
+use Rattle.zk_frames.proofs.frames.Frames.take_whole.Goals as goal
 
 pub append-requires : goal.append-requires
 append-requires c =
