@@ -55,7 +55,7 @@ fn row_answers(rt: &impl Abort, alloc: Global, talk: &mut Talk, row: &str) -> Re
     Ok(())
 }
 
-/// So it is after each call of the rows.
+/// The number after the call of each row is what the row says.
 fn answers(rt: &impl Abort, alloc: Global, talk: &mut Talk, rows: &str) -> Result<(), Fail> {
     for row in rows.lines() {
         row_answers(rt, alloc, talk, row)?;
@@ -63,7 +63,7 @@ fn answers(rt: &impl Abort, alloc: Global, talk: &mut Talk, rows: &str) -> Resul
     Ok(())
 }
 
-/// So it is in a new conversation, and anew.
+/// A new conversation has no number, and then those of the rows; and so has the next one, after `renew`.
 fn answers_anew(rt: &impl Abort, alloc: Global, talk: &mut Talk) -> Result<(), Fail> {
     for _ in 0..2 {
         assert!(rt; talk.answered().is_none());

@@ -69,7 +69,7 @@ fn keeps(rt: &impl Abort, alloc: Global, talk: &mut Talk, rows: &str) -> Result<
     Ok(())
 }
 
-/// So does each call of a new conversation.
+/// Each call of a new conversation returns what its row says.
 fn goes(rt: &impl Abort, alloc: Global, rows: &str) -> Result<(), Fail> {
     let mut talk = Talk::new(alloc, usual()?)?;
     let kept = keeps(rt, alloc, &mut talk, rows);

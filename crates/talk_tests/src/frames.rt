@@ -47,7 +47,7 @@ pub(crate) fn parts(row: &str) -> Result<(&str, &str), Fail> {
     Ok(row.split_once(" = ").ok_or("no row")?)
 }
 
-/// The words begin as their row says.
+/// The answer to `asked` begins with `want`.
 pub(crate) fn begins(rt: &impl Abort, asked: &str, told: &str, want: &str) {
     assert!(rt; told.starts_with(want), "{asked} = {told}");
 }

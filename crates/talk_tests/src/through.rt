@@ -48,7 +48,7 @@ fn shows_none(rt: &impl Abort, through: &Through) {
     assert!(rt; through.view(Side::Client).is_none() && through.view(Side::Server).is_none());
 }
 
-/// So it does after these two; and anew.
+/// Each step of the rows returns what its row says, after a connect pair; and so it does again, after `renew`.
 fn keeps_anew(
     rt: &impl Abort,
     alloc: Global,
@@ -64,7 +64,7 @@ fn keeps_anew(
     Ok(())
 }
 
-/// So it does with room for `waiting` requests.
+/// Each step of a new passage with room for `waiting` requests returns what its row says.
 fn goes(rt: &impl Abort, alloc: Global, waiting: u32, rows: &str) -> Result<(), Fail> {
     let limits = Limits::new(4_194_304, 4_194_304, waiting).ok_or("no limits")?;
     let mut through = Through::new(alloc, limits)?;
@@ -241,7 +241,7 @@ fn row_answers(
     Ok(())
 }
 
-/// So does each step of `ANSWERS`.
+/// Each step of `ANSWERS` answers the frame that its row says.
 fn answers(rt: &impl Abort, alloc: Global, through: &mut Through) -> Result<(), Fail> {
     for row in ANSWERS.lines() {
         row_answers(rt, alloc, through, row)?;
@@ -249,7 +249,7 @@ fn answers(rt: &impl Abort, alloc: Global, through: &mut Through) -> Result<(), 
     Ok(())
 }
 
-/// So it does in a new passage, and anew.
+/// A new passage has no number, and then those of `ANSWERS`; and so has the next one, after `renew`.
 fn answers_anew(rt: &impl Abort, alloc: Global, through: &mut Through) -> Result<(), Fail> {
     for _ in 0..2 {
         assert!(rt; through.answered().is_none());
@@ -316,7 +316,7 @@ fn keeps_late(
     keeps(rt, alloc, through, UNASKED)
 }
 
-/// So it does with the usual limits.
+/// Each step of a new passage that is seen late, with the usual limits, returns what its row says.
 fn joins(rt: &impl Abort, alloc: Global, rows: &str) -> Result<(), Fail> {
     let mut through = Through::join(alloc, usual()?)?;
     let kept = keeps_late(rt, alloc, &mut through, rows);

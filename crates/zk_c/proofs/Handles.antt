@@ -1,12 +1,13 @@
 -- The talk that a handle held is the one that made the step.
-use Rattle.std.proofs.Common.{◌≡◌, ℕ, Bool, List, Option, Some, Result, refl, ap, subst}
+use Rattle.std.proofs.Common.{◌≡◌, ℕ, Bool, List, Option, Some, Result, IsSomeAnd, refl, sym, ap, subst, ◌∙◌}
 use Rattle.std.specs.Prelude.{unwrap_or}
 use Rattle.zk_talk.specs.declared.message.Side.{Side}
 use Rattle.zk_talk.specs.declared.message.Fault.{Fault}
 use Rattle.zk_talk.specs.declared.message.Ending.{Ending}
 use Rattle.zk_talk.specs.declared.talk.Stepped.{Stepped}
+use Rattle.zk_talk.specs.declared.limits.Limits.{Limits}
 use Rattle.zk_talk.specs.Stands.{TalkState}
-use Rattle.zk_c.specs.Handle.{Call, Holds, IsFinish}
+use Rattle.zk_c.specs.Handle.{Call, AreNumbers, IsAnswerOf, IsMadeOf, IsFinish}
 use Rattle.zk_c.specs.declared.said.SayAnswer.{SayAnswer}
 use Rattle.zk_c.specs.Voice.{VoiceState}
 use Rattle.zk_c.specs.Saying.{TellsSay, TellsPayload}
@@ -20,9 +21,27 @@ use Rattle.zk_c.specs.Passing.{IsPassing}
 pub same_value : {A : Type 0} {x y : A} → Some x ≡ Some y → x ≡ y
 same_value {x = x} e = ap (λ o. unwrap_or o x) e
 
+-- what holds of the value that is put behind the handle
+pub is_held : {A : Type 0} (Is : A → Type 0) {new : A} {after : Option A} → after ≡ Some new → Is new → IsSomeAnd after Is
+is_held Is held is = subst (λ o. IsSomeAnd o Is) (sym held) is
+
 -- the value that the handle held goes on behind it
-pub goes_on : {A : Type 0} (Is : A → A → Type 0) {x y new : A} {after : Option A} → x ≡ y → after ≡ Some new → Is x new → Holds (Is y) after
-goes_on Is {new = new} same held is = record { value = new; held = held; is = subst (λ o. Is o new) same is }
+pub stays_held : {A : Type 0} (Is : A → A → Type 0) {x y new : A} {after : Option A} → x ≡ y → after ≡ Some new → Is x new → IsSomeAnd after (Is y)
+stays_held Is {y = y} {new = new} same held is = is_held (Is y) held (subst (λ o. Is o new) same is)
+
+-- a value that was made with these limits was put behind it
+pub is_made : {A : Type 0} (limits_of : A → Limits) (HasBegun : A → Type 0) {client server waiting profile : ℕ} {limits : Limits} {made new : A} {after : Option A} →
+    after ≡ Some new → new ≡ made → limits_of made ≡ limits → AreNumbers client server waiting profile limits → HasBegun made →
+    IsMadeOf limits_of HasBegun client server waiting profile after
+is_made limits_of HasBegun {client = client} {server = server} {waiting = waiting} {profile = profile} held same its numbers begun =
+    is_held (λ value. AreNumbers client server waiting profile (limits_of value) × HasBegun value) (held ∙ ap Some same)
+    (subst (AreNumbers client server waiting profile) (sym its) numbers, begun)
+
+-- the answer of a call, which left this value behind it
+pub answers : {A R X : Type 0} (answer_of : R → X) (Is : R → A → Type 0) {outcome : R} {answer : X} {new : A} {after : Option A} →
+    after ≡ Some new → answer ≡ answer_of outcome → Is outcome new → IsSomeAnd after (IsAnswerOf answer_of Is answer)
+answers answer_of Is {outcome = outcome} {answer = answer} held told is =
+    is_held (IsAnswerOf answer_of Is answer) held (record { outcome = outcome; told = told; is = is })
 
 pub call_of : (Is : Call) {t u new : TalkState} {s r : Side} {piece : List ℕ} {outcome : Result Stepped Fault} → t ≡ u → s ≡ r → Is t s piece outcome new → Is u r piece outcome new
 call_of Is {new = new} {piece = piece} {outcome = outcome} same_talk same_side is =

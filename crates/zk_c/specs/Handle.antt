@@ -1,5 +1,5 @@
 -- What the talk behind a handle does.
-use Rattle.std.specs.Prelude.{◌≡◌, ◌≢◌, ℕ, ◌<◌, ◌+◌, Bool, false, List, [], ◌++◌, length, drop, Option, Some, None, Result, Err, IfOk, IfErr, OnErr}
+use Rattle.std.specs.Prelude.{◌≡◌, ◌≢◌, ℕ, ◌<◌, ◌+◌, Bool, false, List, [], ◌++◌, length, drop, Option, Some, None, Result, Err, IfOk, IfErr, OnErr, IsSomeAnd}
 use Rattle.zk_jute.specs.declared.fault.Reason.TheVariants.{NoMemory}
 use Rattle.zk_talk.specs.declared.message.Side.{Side}
 use Rattle.zk_talk.specs.declared.message.Side.TheVariants.{Client, Server}
@@ -58,23 +58,19 @@ pub record IsPass (old : TalkState) (side : Side) (piece : List ℕ) (outcome : 
   pub advanced : IsAdvanced (λ used whole. PassesOn old side piece used whole new) old side piece outcome new
   pub given_up : kept_on side new ≡ []
 
--- a value is behind the handle, and this holds of it
-pub record Holds {A : Type 0} (Is : A → Type 0) (after : Option A) : Type 0 where
-  pub value : A
-  pub held : after ≡ Some value
-  pub is : Is value
-
 -- a call that takes a piece of a side
 abbrev pub Call : Type 1
 Call = TalkState → Side → List ℕ → Result Stepped Fault → TalkState → Type 0
 
+-- the answer is that of an outcome, of which this holds with the new value
+pub record IsAnswerOf {A R X : Type 0} (answer_of : R → X) (Is : R → A → Type 0) (answer : X) (new : A) : Type 0 where
+  pub outcome : R
+  pub told : answer ≡ answer_of outcome
+  pub is : Is outcome new
+
 -- the answer is that of such a call of the talk, which goes on behind the handle
-pub record Tells (Is : Call) (old : TalkState) (side : Side) (piece : List ℕ) (answer : StepAnswer) (after : Option TalkState) : Type 0 where
-  pub outcome : Result Stepped Fault
-  pub talk : TalkState
-  pub held : after ≡ Some talk
-  pub told : answer ≡ step_answer outcome
-  pub is : Is old side piece outcome talk
+abbrev pub Tells : Call → TalkState → Side → List ℕ → StepAnswer → Option TalkState → Type 0
+Tells Is old side piece answer after = IsSomeAnd after (IsAnswerOf step_answer (Is old side piece) answer)
 
 -- the limits are these numbers
 pub record AreNumbers (c s w p : ℕ) (limits : Limits) : Type 0 where
@@ -87,23 +83,32 @@ pub record AreNumbers (c s w p : ℕ) (limits : Limits) : Type 0 where
 abbrev pub AreNoLimits : ℕ → ℕ → ℕ → ℕ → Type 0
 AreNoLimits client server waiting profile = (p : Profile) → profile ≡ profile_number p → AreLimits client server waiting → ⊥
 
--- a talk of these limits is behind the handle, and nothing has come
-pub record IsNew (client server waiting profile : ℕ) (after : Option TalkState) : Type 0 where
-  pub talk : TalkState
-  pub held : after ≡ Some talk
-  pub limits : AreNumbers client server waiting profile talk.limits
+-- a value whose limits are these numbers is behind the handle, and has begun
+abbrev pub IsMadeOf : {A : Type 0} → (A → Limits) → (A → Type 0) → ℕ → ℕ → ℕ → ℕ → Option A → Type 0
+IsMadeOf limits_of HasBegun client server waiting profile after =
+    IsSomeAnd after (λ value. AreNumbers client server waiting profile (limits_of value) × HasBegun value)
+
+-- the new value has the limits of the old one, and has begun
+pub record BeginsAnew {A : Type 0} (limits_of : A → Limits) (HasBegun : A → Type 0) (old new : A) : Type 0 where
+  pub limits : limits_of new ≡ limits_of old
+  pub begun : HasBegun new
+
+-- nothing has come, and no side keeps a frame
+pub record HasBegun (talk : TalkState) : Type 0 where
   pub stands : Stands talk [] []
   pub none : (talk.client_kept ≡ []) × (talk.server_kept ≡ [])
 
+-- a talk of these limits is behind the handle, and nothing has come
+abbrev pub IsNew : ℕ → ℕ → ℕ → ℕ → Option TalkState → Type 0
+IsNew = IsMadeOf (λ (t : TalkState). t.limits) HasBegun
+
 -- what `Talk::renew` promises
-pub record IsRenewed (old new : TalkState) : Type 0 where
-  pub limits : new.limits ≡ old.limits
-  pub stands : Stands new [] []
-  pub none : (new.client_kept ≡ []) × (new.server_kept ≡ [])
+abbrev pub IsRenewed : TalkState → TalkState → Type 0
+IsRenewed = BeginsAnew (λ (t : TalkState). t.limits) HasBegun
 
 -- the talk has begun anew behind the handle
 abbrev pub Renews : TalkState → Option TalkState → Type 0
-Renews old = Holds (IsRenewed old)
+Renews old after = IsSomeAnd after (IsRenewed old)
 
 -- what `Talk::finish` promises
 pub record IsFinish (talk : TalkState) (ending : Ending) : Type 0 where

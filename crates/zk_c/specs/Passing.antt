@@ -1,5 +1,5 @@
 -- What the passage behind a handle does.
-use Rattle.std.specs.Prelude.{◌≡◌, ℕ, pos, Bool, true, false, List, [], Option, Some, Result, Ok, Err, IfOk, IfErr}
+use Rattle.std.specs.Prelude.{◌≡◌, ℕ, pos, Bool, true, false, List, [], Option, Some, Result, Ok, Err, IfOk, IfErr, IsSomeAnd}
 use Rattle.zk_frames.specs.Framing.{frame}
 use Rattle.zk_asks.specs.Held.{ClientFrame}
 use Rattle.zk_answers.specs.Held.{ServerFrame}
@@ -27,7 +27,7 @@ use Rattle.zk_c.specs.Numbers.{reason_number}
 use Rattle.zk_c.specs.Answer.{no_fault, fault_numbers, no_message, message_answer, no_line}
 use Rattle.zk_c.specs.Read.{no_read, TellsClient, TellsServer}
 use Rattle.zk_lines.specs.Lines.{line}
-use Rattle.zk_c.specs.Handle.{AreNumbers, Holds, TellsText, size_held}
+use Rattle.zk_c.specs.Handle.{TellsText, IsAnswerOf, IsMadeOf, BeginsAnew, size_held}
 use Rattle.zk_c.specs.Passage.{PassageState, newest_on, answered_on}
 
 -- a step that wasn't made, with this status
@@ -76,12 +76,8 @@ pub record IsPassing (old : PassageState) (side : Side) (piece : List ℕ) (outc
   pub others : newest_on (other_side side) new ≡ newest_on (other_side side) old
 
 -- the answer is that of such a step of the passage, which goes on behind the handle
-pub record TellsStep (old : PassageState) (side : Side) (piece : List ℕ) (answer : PassedAnswer) (after : Option PassageState) : Type 0 where
-  pub outcome : Result Passed Fault
-  pub passage : PassageState
-  pub held : after ≡ Some passage
-  pub told : answer ≡ passed_answer outcome
-  pub is : IsPassing old side piece outcome passage
+abbrev pub TellsStep : PassageState → Side → List ℕ → PassedAnswer → Option PassageState → Type 0
+TellsStep old side piece answer after = IsSomeAnd after (IsAnswerOf passed_answer (IsPassing old side piece) answer)
 
 -- nothing has come, and no side shows a message
 pub record HasBegun (p : PassageState) : Type 0 where
@@ -100,11 +96,8 @@ Begins false p = HasBegun p
 Begins true p = HasJoined p
 
 -- a passage of these limits is behind the handle, and has begun so
-pub record IsMade (late : Bool) (client server waiting profile : ℕ) (after : Option PassageState) : Type 0 where
-  pub passage : PassageState
-  pub held : after ≡ Some passage
-  pub limits : AreNumbers client server waiting profile passage.through.talk.limits
-  pub begun : Begins late passage
+abbrev pub IsMade : Bool → ℕ → ℕ → ℕ → ℕ → Option PassageState → Type 0
+IsMade late = IsMadeOf (λ (p : PassageState). p.through.talk.limits) (Begins late)
 
 abbrev pub IsNew : ℕ → ℕ → ℕ → ℕ → Option PassageState → Type 0
 IsNew = IsMade false
@@ -113,13 +106,12 @@ abbrev pub IsJoined : ℕ → ℕ → ℕ → ℕ → Option PassageState → Ty
 IsJoined = IsMade true
 
 -- the passage has begun anew, with the same limits
-pub record IsRenewed (old new : PassageState) : Type 0 where
-  pub limits : new.through.talk.limits ≡ old.through.talk.limits
-  pub begun : HasBegun new
+abbrev pub IsRenewed : PassageState → PassageState → Type 0
+IsRenewed = BeginsAnew (λ (p : PassageState). p.through.talk.limits) HasBegun
 
 -- and is behind the handle
 abbrev pub Renews : PassageState → Option PassageState → Type 0
-Renews old = Holds (IsRenewed old)
+Renews old after = IsSomeAnd after (IsRenewed old)
 
 -- the side's newest whole frame is no message, or the message isn't kept any more
 abbrev pub ShowsNone : PassageState → Side → Type 0

@@ -1,5 +1,5 @@
 -- What the speaker behind a handle does.
-use Rattle.std.specs.Prelude.{◌≡◌, ◌≢◌, ℕ, ◌⊎◌, List, [], ◌∷◌, ◌++◌, length, Option, Some}
+use Rattle.std.specs.Prelude.{◌≡◌, ◌≢◌, ℕ, ◌⊎◌, List, [], ◌∷◌, ◌++◌, length, Option, IsSomeAnd}
 use Rattle.zk_frames.specs.Framing.{frame}
 use Rattle.zk_items.specs.declared.fault.LineFault.{LineFault}
 use Rattle.zk_items.specs.declared.fault.LineReason.{LineReason}
@@ -18,7 +18,7 @@ use Rattle.zk_c.specs.declared.payload.PayloadAnswer.{PayloadAnswer}
 use Rattle.zk_c.specs.Numbers.{reason_number}
 use Rattle.zk_c.specs.Judged.{payload_answer}
 use Rattle.zk_c.specs.Voice.{VoiceState}
-use Rattle.zk_c.specs.Handle.{AreNumbers, Holds}
+use Rattle.zk_c.specs.Handle.{IsMadeOf, BeginsAnew}
 
 abbrev pub say_number : SayFault → ℕ
 say_number NotFirst = 81
@@ -88,26 +88,25 @@ pub data TellsPayload (old : VoiceState) (side : Side) (p : List ℕ) (new : Voi
 
 -- the speaker behind the handle says the payload
 abbrev pub SaysBytes : VoiceState → Side → List ℕ → PayloadAnswer → Option VoiceState → Type 0
-SaysBytes old side p answer = Holds (λ voice. TellsPayload old side p voice answer)
+SaysBytes old side p answer after = IsSomeAnd after (λ voice. TellsPayload old side p voice answer)
 
 -- the speaker behind the handle says the line
 abbrev pub SaysLine : VoiceState → List ℕ → SayAnswer → Option VoiceState → Type 0
-SaysLine old text answer = Holds (λ voice. TellsSay old text voice answer)
+SaysLine old text answer after = IsSomeAnd after (λ voice. TellsSay old text voice answer)
 
--- the speaker has the same limits, and nothing was said
-pub record IsRenewed (old new : VoiceState) : Type 0 where
-  pub limits : new.speaker.limits ≡ old.speaker.limits
-  pub says : Says new.speaker []
-  pub frame : new.frame ≡ []
+-- nothing was said, and there is no frame
+pub record HasBegun (v : VoiceState) : Type 0 where
+  pub says : Says v.speaker []
+  pub frame : v.frame ≡ []
 
--- the speaker has begun anew behind the handle
+-- the speaker has begun anew, with the same limits
+abbrev pub IsRenewed : VoiceState → VoiceState → Type 0
+IsRenewed = BeginsAnew (λ (v : VoiceState). v.speaker.limits) HasBegun
+
+-- and is behind the handle
 abbrev pub Renews : VoiceState → Option VoiceState → Type 0
-Renews old = Holds (IsRenewed old)
+Renews old after = IsSomeAnd after (IsRenewed old)
 
 -- a speaker of these limits is behind the handle, and nothing was said
-pub record IsSilent (client server waiting profile : ℕ) (after : Option VoiceState) : Type 0 where
-  pub voice : VoiceState
-  pub held : after ≡ Some voice
-  pub limits : AreNumbers client server waiting profile voice.speaker.limits
-  pub says : Says voice.speaker []
-  pub frame : voice.frame ≡ []
+abbrev pub IsSilent : ℕ → ℕ → ℕ → ℕ → Option VoiceState → Type 0
+IsSilent = IsMadeOf (λ (v : VoiceState). v.speaker.limits) HasBegun

@@ -2,7 +2,7 @@
 ghost use Rattle.std.specs.Prelude.{◌≡◌, [], IfOk};
 ghost use Rattle.zk_talk.specs.Stands.{Stands, kept_on};
 ghost use Rattle.zk_lines.specs.Lines.{line};
-ghost use Rattle.zk_c.specs.Handle.{IsRenewed, IsStep, IsPass, IsFinish, AnswersOn, IsView, IsLine, IsEndingLine, IsFields, IsPayload, IsWaiting, IsHeld, TellsText};
+ghost use Rattle.zk_c.specs.Handle.{HasBegun, IsRenewed, IsStep, IsPass, IsFinish, AnswersOn, IsView, IsLine, IsEndingLine, IsFields, IsPayload, IsWaiting, IsHeld, TellsText};
 
 use crate::answer::{LineAnswer, MessageAnswer};
 use crate::counts::{HeldAnswer, WaitingAnswer};
@@ -60,8 +60,7 @@ impl Conversation {
     /// A conversation of which nothing has come.
     pub fn new(alloc: Global, limits: Limits) -> Result<Self, AllocError>
         ensures limits { IfOk result (λ t. t.limits ≡ limits) }
-        ensures stands { IfOk result (λ t. Stands t [] []) }
-        ensures none { IfOk result (λ t. (t.client_kept ≡ []) × (t.server_kept ≡ [])) }
+        ensures begun { IfOk result HasBegun }
     {
         let talk = Talk::new(alloc, limits)?;
         let line = Vec::new(alloc);

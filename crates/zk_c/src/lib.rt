@@ -24,7 +24,7 @@
 //! nothing. A struct that crosses to C may not hold a `Vec` or a `Box`, so the pointer is one to bytes, and a ghost
 //! field has the value. Only three functions make or open it, with proofs by hand: one of each, over whatever the
 //! pointer leads to (`proofs/Boxed.antt`), which each box's proofs name. Each call takes the box out, works on it as
-//! safe code does, and puts it back (`kept!`).
+//! safe code does, and puts it back (`with_value!`).
 //!
 //! **Each type has its own box and handle** (`TalkBox`, `PassageBox`, `VoiceBox`). A function that C calls takes no
 //! struct with type arguments, nor one that has such a field: the compiler refuses both (`unsupported-generic-in-c`,
@@ -45,7 +45,7 @@ mod asked;
 mod conversation;
 mod counts;
 mod cut;
-mod kept;
+mod handle;
 mod listing;
 mod loose;
 mod number;

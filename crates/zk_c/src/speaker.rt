@@ -10,7 +10,7 @@ ghost use Rattle.zk_c.specs.Judged.{payload_answer};
 ghost use Rattle.zk_c.specs.Saying.{say_answer, SaysLine, SaysBytes, IsSilent, Renews};
 
 use crate::answer::LineAnswer;
-use crate::kept::{filled, kept};
+use crate::handle::{fill, with_value};
 use crate::loose::Loose;
 use crate::number::{EMPTY, WELL};
 use crate::payload::PayloadAnswer;
@@ -82,7 +82,7 @@ pub extern "C" fn zk_speaker_new(
     // Nothing is changed if it is refused.
     ensures same { result ≢ 0 → handle.new ≡ handle.old }
 {
-    filled!(handle, alloc, limits_of(client, server, waiting, profile)
+    fill!(handle, alloc, limits_of(client, server, waiting, profile)
         => |limits| Voice::new(alloc, limits))
 }
 
@@ -94,7 +94,7 @@ pub extern "C" fn zk_speaker_renew(alloc: Global, handle: &mut SpeakerHandle) ->
     // The speaker has said nothing, and the handle keeps it.
     ensures renew { (v : VoiceState) → handle.old.held.value ≡ Some v → (result ≡ 0) × Renews v handle.new.held.value }
 {
-    kept!(handle, alloc, EMPTY => |voice| {
+    with_value!(handle, alloc, EMPTY => |voice| {
         voice.renew();
         WELL
     })
@@ -112,7 +112,7 @@ pub extern "C" fn zk_speaker_say(
     // The speaker says the line, and the handle keeps it.
     ensures say { (v : VoiceState) → handle.old.held.value ≡ Some v → SaysLine v line.now result handle.new.held.value }
 {
-    kept!(handle, alloc, SayAnswer::none(EMPTY) => |voice| voice.say(alloc, line))
+    with_value!(handle, alloc, SayAnswer::none(EMPTY) => |voice| voice.say(alloc, line))
 }
 
 /// Says the message of the side whose payload the bytes are; its frame is kept until the next message is said.
@@ -130,7 +130,7 @@ pub extern "C" fn zk_speaker_say_payload(
     // The speaker says the payload, and the handle keeps it.
     ensures say { (s : Side) (v : VoiceState) → side_of side ≡ Some s → handle.old.held.value ≡ Some v → SaysBytes v s payload.now result handle.new.held.value }
 {
-    kept!(handle, alloc, side, PayloadAnswer => |voice| voice.say_payload(side, payload))
+    with_value!(handle, alloc, side, PayloadAnswer => |voice| voice.say_payload(side, payload))
 }
 
 /// Writes the frame that was said last, if there is room for it.
@@ -149,7 +149,7 @@ pub extern "C" fn zk_speaker_frame(
     // The speaker stays as it is.
     ensures same { handle.new.held.value ≡ handle.old.held.value }
 {
-    kept!(handle, alloc, LineAnswer::none(EMPTY) => |voice| voice.frame(out))
+    with_value!(handle, alloc, LineAnswer::none(EMPTY) => |voice| voice.frame(out))
 }
 
 /// Frees the speaker and its memory; with no speaker nothing is done.

@@ -12,7 +12,7 @@ ghost use Rattle.zk_c.specs.Read.{no_read};
 use crate::answer::{EndingAnswer, LineAnswer, MessageAnswer, StepAnswer};
 use crate::conversation::Conversation;
 use crate::counts::{HeldAnswer, WaitingAnswer};
-use crate::kept::{filled, kept};
+use crate::handle::{fill, with_value};
 use crate::loose::Loose;
 use crate::number::{EMPTY, WELL};
 use crate::read_answer::ReadAnswer;
@@ -94,7 +94,7 @@ pub extern "C" fn zk_talk_new(
     // Nothing is changed if it is refused.
     ensures same { result ≢ 0 → handle.new ≡ handle.old }
 {
-    filled!(handle, alloc, limits_of(client, server, waiting, profile)
+    fill!(handle, alloc, limits_of(client, server, waiting, profile)
         => |limits| Conversation::new(alloc, limits))
 }
 
@@ -106,7 +106,7 @@ pub extern "C" fn zk_talk_renew(alloc: Global, handle: &mut TalkHandle) -> u32
     // The talk has come through the empty history, and the handle keeps it.
     ensures renew { (t : TalkState) → handle.old.held.value ≡ Some t → (result ≡ 0) × Renews t handle.new.held.value }
 {
-    kept!(handle, alloc, EMPTY => |talk| {
+    with_value!(handle, alloc, EMPTY => |talk| {
         talk.renew();
         WELL
     })
@@ -127,7 +127,7 @@ pub extern "C" fn zk_talk_step(
     // The talk makes the step, and the handle keeps it.
     ensures step { (s : Side) (t : TalkState) → side_of side ≡ Some s → handle.old.held.value ≡ Some t → Tells IsStep t s piece.now result handle.new.held.value }
 {
-    kept!(handle, alloc, side, StepAnswer => |talk| StepAnswer::of(talk.step(side, piece)))
+    with_value!(handle, alloc, side, StepAnswer => |talk| StepAnswer::of(talk.step(side, piece)))
 }
 
 /// Takes the piece's bytes as `zk_talk_step` does, and keeps no frame.
@@ -145,7 +145,7 @@ pub extern "C" fn zk_talk_pass(
     // The talk passes over the bytes, and the handle keeps it.
     ensures pass { (s : Side) (t : TalkState) → side_of side ≡ Some s → handle.old.held.value ≡ Some t → Tells IsPass t s piece.now result handle.new.held.value }
 {
-    kept!(handle, alloc, side, StepAnswer => |talk| StepAnswer::of(talk.pass(side, piece)))
+    with_value!(handle, alloc, side, StepAnswer => |talk| StepAnswer::of(talk.pass(side, piece)))
 }
 
 /// The message of the frame that the side keeps.
@@ -160,7 +160,7 @@ pub extern "C" fn zk_talk_view(alloc: Global, handle: &mut TalkHandle, side: u32
     // The talk stays as it is.
     ensures same { handle.new.held.value ≡ handle.old.held.value }
 {
-    kept!(handle, alloc, side, MessageAnswer => |talk| talk.view(side))
+    with_value!(handle, alloc, side, MessageAnswer => |talk| talk.view(side))
 }
 
 /// Writes the line of the message whose frame the side keeps, if there is room for it.
@@ -180,7 +180,7 @@ pub extern "C" fn zk_talk_line(
     // The talk stays as it is.
     ensures same { handle.new.held.value ≡ handle.old.held.value }
 {
-    kept!(handle, alloc, side, LineAnswer => |talk| talk.line(side, out))
+    with_value!(handle, alloc, side, LineAnswer => |talk| talk.line(side, out))
 }
 
 /// Writes the fields of the message whose frame the side keeps, as far as there is room.
@@ -200,7 +200,7 @@ pub extern "C" fn zk_talk_fields(
     // The talk stays as it is.
     ensures same { handle.new.held.value ≡ handle.old.held.value }
 {
-    kept!(handle, alloc, side, ReadAnswer => |talk| talk.fields(side, room))
+    with_value!(handle, alloc, side, ReadAnswer => |talk| talk.fields(side, room))
 }
 
 /// Writes the payload of the message whose frame the side keeps, if there is room for it.
@@ -220,7 +220,7 @@ pub extern "C" fn zk_talk_payload(
     // The talk stays as it is.
     ensures same { handle.new.held.value ≡ handle.old.held.value }
 {
-    kept!(handle, alloc, side, LineAnswer => |talk| talk.payload(side, out))
+    with_value!(handle, alloc, side, LineAnswer => |talk| talk.payload(side, out))
 }
 
 /// How many requests of the history so far wait for their replies, and what they weigh.
@@ -233,7 +233,7 @@ pub extern "C" fn zk_talk_waiting(alloc: Global, handle: &mut TalkHandle) -> Wai
     // The talk stays as it is.
     ensures same { handle.new.held.value ≡ handle.old.held.value }
 {
-    kept!(handle, alloc, WaitingAnswer::none(EMPTY) => |talk| talk.waiting())
+    with_value!(handle, alloc, WaitingAnswer::none(EMPTY) => |talk| talk.waiting())
 }
 
 /// How many bytes of the side are held of a frame that isn't whole.
@@ -248,7 +248,7 @@ pub extern "C" fn zk_talk_held(alloc: Global, handle: &mut TalkHandle, side: u32
     // The talk stays as it is.
     ensures same { handle.new.held.value ≡ handle.old.held.value }
 {
-    kept!(handle, alloc, side, HeldAnswer => |talk| talk.held(side))
+    with_value!(handle, alloc, side, HeldAnswer => |talk| talk.held(side))
 }
 
 /// How the history so far ends.
@@ -261,7 +261,7 @@ pub extern "C" fn zk_talk_finish(alloc: Global, handle: &mut TalkHandle) -> Endi
     // The talk stays as it is.
     ensures same { handle.new.held.value ≡ handle.old.held.value }
 {
-    kept!(handle, alloc, EndingAnswer::none(EMPTY) => |talk| EndingAnswer::of(talk.finish()))
+    with_value!(handle, alloc, EndingAnswer::none(EMPTY) => |talk| EndingAnswer::of(talk.finish()))
 }
 
 /// Writes the line of the ending of the history so far, if there is room for it.
@@ -278,7 +278,7 @@ pub extern "C" fn zk_talk_ending_line(
     // The talk stays as it is.
     ensures same { handle.new.held.value ≡ handle.old.held.value }
 {
-    kept!(handle, alloc, LineAnswer::none(EMPTY) => |talk| talk.ending_line(alloc, out))
+    with_value!(handle, alloc, LineAnswer::none(EMPTY) => |talk| talk.ending_line(alloc, out))
 }
 
 /// Frees the talk and its memory; with no talk nothing is done.

@@ -10,7 +10,7 @@ ghost use Rattle.zk_c.specs.Passage.{PassageState};
 ghost use Rattle.zk_c.specs.Passing.{no_passed, IsMade, IsNew, IsJoined, Renews, TellsStep, IsView, IsLine, IsFields, IsLeftOut, IsFinish};
 
 use crate::answer::{EndingAnswer, LineAnswer, MessageAnswer};
-use crate::kept::{filled, kept};
+use crate::handle::{fill, with_value};
 use crate::loose::Loose;
 use crate::number::{EMPTY, WELL};
 use crate::passage::Passage;
@@ -79,7 +79,7 @@ fn make(
     ensures made { result ≡ 0 → IsMade late client server waiting profile handle.new.held.value }
     ensures same { result ≢ 0 → handle.new ≡ handle.old }
 {
-    filled!(handle, alloc, limits_of(client, server, waiting, profile)
+    fill!(handle, alloc, limits_of(client, server, waiting, profile)
         => |limits| Passage::new(alloc, limits, late))
 }
 
@@ -139,7 +139,7 @@ pub extern "C" fn zk_through_renew(alloc: Global, handle: &mut ThroughHandle) ->
     // Nothing has come, and the handle keeps it.
     ensures renew { (p : PassageState) → handle.old.held.value ≡ Some p → (result ≡ 0) × Renews p handle.new.held.value }
 {
-    kept!(handle, alloc, EMPTY => |passage| {
+    with_value!(handle, alloc, EMPTY => |passage| {
         passage.renew();
         WELL
     })
@@ -160,7 +160,7 @@ pub extern "C" fn zk_through_step(
     // The passage makes the step, and the handle keeps it.
     ensures step { (s : Side) (p : PassageState) → side_of side ≡ Some s → handle.old.held.value ≡ Some p → TellsStep p s piece.now result handle.new.held.value }
 {
-    kept!(handle, alloc, side, PassedAnswer => |passage| PassedAnswer::of(passage.step(side, piece)))
+    with_value!(handle, alloc, side, PassedAnswer => |passage| PassedAnswer::of(passage.step(side, piece)))
 }
 
 /// The message of the side's newest whole frame.
@@ -179,7 +179,7 @@ pub extern "C" fn zk_through_view(
     // The passage stays as it is.
     ensures same { handle.new.held.value ≡ handle.old.held.value }
 {
-    kept!(handle, alloc, side, MessageAnswer => |passage| passage.view(side))
+    with_value!(handle, alloc, side, MessageAnswer => |passage| passage.view(side))
 }
 
 /// Writes the line of that message, if there is room for it.
@@ -199,7 +199,7 @@ pub extern "C" fn zk_through_line(
     // The passage stays as it is.
     ensures same { handle.new.held.value ≡ handle.old.held.value }
 {
-    kept!(handle, alloc, side, LineAnswer => |passage| passage.line(side, out))
+    with_value!(handle, alloc, side, LineAnswer => |passage| passage.line(side, out))
 }
 
 /// Writes the fields of that message, as far as there is room.
@@ -219,7 +219,7 @@ pub extern "C" fn zk_through_fields(
     // The passage stays as it is.
     ensures same { handle.new.held.value ≡ handle.old.held.value }
 {
-    kept!(handle, alloc, side, ReadAnswer => |passage| passage.fields(side, room))
+    with_value!(handle, alloc, side, ReadAnswer => |passage| passage.fields(side, room))
 }
 
 /// Writes the payload of the frame that the side's last step left out or passed over, if there is room for it.
@@ -239,7 +239,7 @@ pub extern "C" fn zk_through_payload(
     // The passage stays as it is.
     ensures same { handle.new.held.value ≡ handle.old.held.value }
 {
-    kept!(handle, alloc, side, LineAnswer => |passage| passage.payload(side, out))
+    with_value!(handle, alloc, side, LineAnswer => |passage| passage.payload(side, out))
 }
 
 /// How the history so far ends.
@@ -252,7 +252,7 @@ pub extern "C" fn zk_through_finish(alloc: Global, handle: &mut ThroughHandle) -
     // The passage stays as it is.
     ensures same { handle.new.held.value ≡ handle.old.held.value }
 {
-    kept!(handle, alloc, EndingAnswer::none(EMPTY) => |passage| EndingAnswer::of(passage.finish()))
+    with_value!(handle, alloc, EndingAnswer::none(EMPTY) => |passage| EndingAnswer::of(passage.finish()))
 }
 
 /// Frees the passage and its memory; with no passage nothing is done.

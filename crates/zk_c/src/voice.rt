@@ -2,7 +2,7 @@
 ghost use Rattle.std.specs.Prelude.{◌≡◌, ◌≢◌, [], false, length, IfOk, IsTrue};
 ghost use Rattle.zk_talk.specs.Said.{Says};
 ghost use Rattle.zk_c.specs.Handle.{TellsText};
-ghost use Rattle.zk_c.specs.Saying.{IsRenewed, TellsSay, TellsPayload, say_answer};
+ghost use Rattle.zk_c.specs.Saying.{HasBegun, IsRenewed, TellsSay, TellsPayload, say_answer};
 
 use crate::answer::LineAnswer;
 use crate::number::WELL;
@@ -32,8 +32,7 @@ impl Voice {
     /// A speaker that has said nothing.
     pub fn new(alloc: Global, limits: Limits) -> Result<Self, AllocError>
         ensures limits { IfOk result (λ v. v.speaker.limits ≡ limits) }
-        ensures says { IfOk result (λ v. Says v.speaker []) }
-        ensures frame { IfOk result (λ v. v.frame ≡ []) }
+        ensures begun { IfOk result HasBegun }
     {
         let speaker = Speaker::new(alloc, limits)?;
         let frame = Vec::new(alloc);

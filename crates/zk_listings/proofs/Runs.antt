@@ -16,7 +16,7 @@ use Rattle.zk_listings.specs.declared.listing.Listing.TheVariants.{All, Last}
 use Rattle.zk_listings.specs.declared.progress.Progress.{Progress}
 use Rattle.zk_listings.specs.declared.summary.Summary.{Summary}
 use Rattle.zk_listings.specs.declared.summary.Summary.TheVariants.{Ended, Broken}
-use Rattle.zk_listings.specs.Following.{IsHeadedBy, IsKnown, Steps, Takes, ended_by}
+use Rattle.zk_listings.specs.Following.{IsHeadedBy, IsLastingSummary, Steps, Takes, ended_by}
 use Rattle.zk_listings.specs.Gathered.{SideBytes}
 use Rattle.zk_listings.specs.Gathering.{AdvancesBut, FollowsBut, Gathers, GathersIn, HasAllBut, HasAllButOr, IsGathered, ReachesBut, StepsBut}
 use Rattle.zk_listings.specs.Outcome.{IsBroken}
@@ -99,20 +99,20 @@ module _ (g now : SideBytes) (p p' : Progress) (lines block : List ℕ) (used : 
         let there = subst (λ h. HasAllButOr now now_limits p'.talk other h (messages ++ m.0)) (sym (goes-history i.recording r.new (take used block) side r.goes_on)) here in
         (m.0, stays.headed, subst (λ l. HasAllButOr now l p'.talk other (history_of r.new) (messages ++ m.0)) e there)
 
-  -- a fault or a damage stands, whatever follows the block
-  pub run-known : (other : Option Fault) (found : Option Summary) → refused ≡ other → IsKnown p'.reader other found → StepsBut g Last p lines block used found now p' lines
-  run-known (Some fault) found e known = subst (λ z. StepsBut g Last p lines block used z now p' lines) (sym known) (λ limits x messages i size.
+  -- the block was taken as its lasting summary says
+  pub run-lasting : (other : Option Fault) (found : Option Summary) → refused ≡ other → IsLastingSummary p'.reader other found → StepsBut g Last p lines block used found now p' lines
+  run-lasting (Some fault) found e lasting = subst (λ z. StepsBut g Last p lines block used z now p' lines) (sym lasting) (λ limits x messages i size.
       let r = next limits x messages i in
       let c = comes limits x messages i (Some fault) e in
       (c.0, decides-by_fault limits x block used r.new (messages ++ c.0) p'.talk fault r.is.spells c.1 c.2, sym (append-nil lines)))
-  run-known None (Some (Broken d)) e damaged = λ limits x messages i size.
+  run-lasting None (Some (Broken d)) e damaged = λ limits x messages i size.
       let r = next limits x messages i in
       let c = comes limits x messages i None e in
       let read : length (x ++ take used block) < 2 ^ 62 = omega (arith, size, part, length-append x (take used block), length-take-le used block part) in
       let good = good-but now (limits_of limits r.new) p'.talk (history_of r.new) (messages ++ c.0) c.2.0 c.2.1 (omega (arith, read, history-within now.side r.new _ r.is.spells)) in
       (c.0, decides-by_damage limits x block used r.new (messages ++ c.0) p'.talk d r.is.spells (damaged _ r.new r.is) good, sym (append-nil lines))
-  run-known None (Some (Ended ending)) e known = absurd known
-  run-known None None e undamaged = λ limits x messages i size.
+  run-lasting None (Some (Ended ending)) e lasting = absurd lasting
+  run-lasting None None e undamaged = λ limits x messages i size.
       let r = next limits x messages i in
       let c = comes limits x messages i None e in (
         c.0,
@@ -130,18 +130,18 @@ module _ (g now : SideBytes) (p p' : Progress) (lines block : List ℕ) (used : 
 
 -- ---- content that was read after what is gathered
 
--- what a reader of which no damage is known adds
-known-by : (reader : ReaderState) (refused : Option Fault) → IsUndamaged reader → IsKnown reader refused (ended_by refused)
-known-by reader None undamaged = undamaged
-known-by reader (Some fault) undamaged = refl
+-- while what was read has no damage, a fault of the talk alone decides
+lasting-by : (reader : ReaderState) (refused : Option Fault) → IsUndamaged reader → IsLastingSummary reader refused (ended_by refused)
+lasting-by reader None undamaged = undamaged
+lasting-by reader (Some fault) undamaged = refl
 
 module _ (before now : SideBytes) (p : Progress) (state : ReaderState) (t u : TalkState) (bytes : List ℕ) (now_limits : Limits) (refused : Option Fault)
     (talk : p.talk ≡ Some t)
     (reads : ReadsContent p.reader before.side bytes state) (still : IsUndamaged state)
     (limits_are : (x : List ℕ) (r : Recording) → IsAt state x r → IsHeaded (place_of r) → now_limits ≡ limits_of p.limits r)
     (gathers : Gathers now_limits t (record before { bytes = before.bytes ++ bytes }) [] refused u now) where
-  abbrev taken-to : Progress
-  taken-to = record p { reader = state; talk = Some u }
+  abbrev after-read : Progress
+  after-read = record p { reader = state; talk = Some u }
 
   within : GathersIn now_limits p.talk before (content_of (Some before.side) (take (length bytes) bytes)) refused (Some u) now
   within =
@@ -152,22 +152,22 @@ module _ (before now : SideBytes) (p : Progress) (state : ReaderState) (t u : Ta
   reads-all : (x : List ℕ) (r : Recording) → IsAt p.reader x r → ReadsOn state x r (take (length bytes) bytes) (Some before.side)
   reads-all x r i = subst (λ b. ReadsOn state x r b (Some before.side)) (sym (take-length bytes)) (reads x r i)
 
-  pub read-known : (lines : List ℕ) → AdvancesBut before Last p lines bytes (ended_by refused) now taken-to lines
-  read-known lines = advances (ended_by refused) (run-known before now p taken-to lines bytes (length bytes) (Some before.side) now_limits refused (λ e. none-some t _ (sym talk ∙ e)) (omega arith) refl reads-all limits_are within refused
-      (ended_by refused) refl (known-by state refused still)) where
-        advances : (found : Option Summary) → StepsBut before Last p lines bytes (length bytes) found now taken-to lines → AdvancesBut before Last p lines bytes found now taken-to lines
-        advances None steps = subst (λ b. AdvancesBut before Last p lines b None now taken-to lines) (take-length bytes) steps
+  pub read-advances : (lines : List ℕ) → AdvancesBut before Last p lines bytes (ended_by refused) now after-read lines
+  read-advances lines = advances (ended_by refused) (run-lasting before now p after-read lines bytes (length bytes) (Some before.side) now_limits refused (λ e. none-some t _ (sym talk ∙ e)) (omega arith) refl reads-all limits_are within refused
+      (ended_by refused) refl (lasting-by state refused still)) where
+        advances : (found : Option Summary) → StepsBut before Last p lines bytes (length bytes) found now after-read lines → AdvancesBut before Last p lines bytes found now after-read lines
+        advances None steps = subst (λ b. AdvancesBut before Last p lines b None now after-read lines) (take-length bytes) steps
         advances (Some summary) steps = steps
 
 -- ---- all is given to the talk
 
 module _ (g now : SideBytes) (p : Progress) (t u : TalkState) (refused : Option Fault) (talk : p.talk ≡ Some t)
     (empty : now.bytes ≡ []) (same : u.limits ≡ t.limits) (taken : (lines : List ℕ) → Takes Last t lines (on g.side g.bytes) refused u lines) where
-  abbrev given-to : Progress
-  given-to = record p { talk = Some u }
+  abbrev after-given : Progress
+  after-given = record p { talk = Some u }
 
   reaches : (limits : Limits) (x : List ℕ) (earlier messages : List Message) (i : FollowsBut g limits x earlier p) (other : Option Fault) →
-      HasAllButOr now (limits_of limits i.recording) (Some u) other (history_of i.recording) messages → ReachesBut now limits (x ++ []) messages given-to (ended_by other)
+      HasAllButOr now (limits_of limits i.recording) (Some u) other (history_of i.recording) messages → ReachesBut now limits (x ++ []) messages after-given (ended_by other)
   reaches limits x earlier messages i None has = record {
     options = i.options;
     recording = i.recording;
@@ -181,8 +181,8 @@ module _ (g now : SideBytes) (p : Progress) (t u : TalkState) (refused : Option 
       decides-by_fault limits x [] 0 i.recording messages (Some u) fault (subst (λ y. Spells y i.recording) (sym (append-nil x)) i.at.spells)
       (subst (λ z. IsHeadedBy z (place_of i.recording)) talk i.headed) has
 
-  pub all-known : (lines : List ℕ) → AdvancesBut g Last p lines [] (ended_by refused) now given-to lines
-  all-known lines limits x messages i size =
+  pub all-advances : (lines : List ℕ) → AdvancesBut g Last p lines [] (ended_by refused) now after-given lines
+  all-advances lines limits x messages i size =
       let l = limits_of limits i.recording in
       let c = given-all l t u g now refused empty same taken (history_of i.recording) messages (subst (λ z. HasAllBut g l z (history_of i.recording) messages) talk i.has) in
       (c.0, reaches limits x messages (messages ++ c.0) i refused c.1, sym (append-nil lines))

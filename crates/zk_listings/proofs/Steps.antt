@@ -10,7 +10,7 @@ use Rattle.zk_listings.specs.declared.summary.Summary.{Summary}
 use Rattle.zk_listings.specs.declared.summary.Summary.TheVariants.{Ended, Broken}
 use Rattle.zk_recordings.specs.Recording.{Recording, place_of, history_of, limits_of}
 use Rattle.zk_recordings.specs.Reading.{IsAt, IsHeaded, ReadsOn, content_of}
-use Rattle.zk_listings.specs.Following.{Follows, IsKnown, Steps, TakesContent}
+use Rattle.zk_listings.specs.Following.{Follows, IsLastingSummary, Steps, TakesContent}
 use Rattle.zk_listings.proofs.Stops.{decides-by_fault, decides-by_damage}
 use Rattle.zk_listings.proofs.Decided.{broken-by}
 use Rattle.zk_listings.proofs.Talking.{Given, given, has-good}
@@ -29,18 +29,18 @@ module _ (listing : Listing) (p now : Progress) (lines lines_now block : List �
       (λ is. limits_are _ r.new r.is is ∙ ap (λ l. limits_of l r.new) i.options) i.talks
       (subst (λ z. TakesContent now_limits listing p.talk lines (content_of side (take used block)) z now.talk lines_now) e gives) same
 
-  -- a fault or a damage stands, whatever follows the block
-  pub steps-known : (other : Option Fault) (found : Option Summary) → refused ≡ other → IsKnown now.reader other found → Steps listing p lines block used found now lines_now
-  steps-known (Some fault) found e known = subst (λ z. Steps listing p lines block used z now lines_now) (sym known) (λ limits x messages i.
+  -- the block was taken as its lasting summary says
+  pub steps-lasting : (other : Option Fault) (found : Option Summary) → refused ≡ other → IsLastingSummary now.reader other found → Steps listing p lines block used found now lines_now
+  steps-lasting (Some fault) found e lasting = subst (λ z. Steps listing p lines block used z now lines_now) (sym lasting) (λ limits x messages i.
       let r = reads x i.recording i.at in
       let g = comes limits x messages i (Some fault) e in
       (g.0, decides-by_fault limits x block used r.new (messages ++ g.0) now.talk fault r.is.spells g.1.0 g.1.1, g.2))
-  steps-known None (Some (Broken d)) e damaged = λ limits x messages i.
+  steps-lasting None (Some (Broken d)) e damaged = λ limits x messages i.
       let r = reads x i.recording i.at in
       let g = comes limits x messages i None e in
       (g.0, decides-by_damage limits x block used r.new (messages ++ g.0) now.talk d r.is.spells (damaged _ r.new r.is) (has-good (limits_of limits r.new) now.talk (history_of r.new) (messages ++ g.0) g.1.has), g.2)
-  steps-known None (Some (Ended ending)) e known = absurd known
-  steps-known None None e undamaged = λ limits x messages i.
+  steps-lasting None (Some (Ended ending)) e lasting = absurd lasting
+  steps-lasting None None e undamaged = λ limits x messages i.
       let r = reads x i.recording i.at in
       let g = comes limits x messages i None e in (
         g.0,

@@ -107,12 +107,13 @@ TakesContent limits listing old lines bytes refused new lines_now = (h : History
 
 -- ---- what a block does to a recording that is read
 
--- what is known of the summary, whatever follows, from a fault of the talk and a damage of what was read
-abbrev pub IsKnown : ReaderState → Option Fault → Option Summary → Type 0
-IsKnown reader (Some fault) found = found ≡ ended_by (Some fault)
-IsKnown reader None None = IsUndamaged reader
-IsKnown reader None (Some (Broken damage)) = IsDamagedBy reader damage
-IsKnown reader None (Some (Ended ending)) = ⊥
+-- the summary that stays, whatever follows: by the fault for which the talk refused, or else by the damage of what was read; or
+-- there is none yet
+abbrev pub IsLastingSummary : ReaderState → Option Fault → Option Summary → Type 0
+IsLastingSummary reader (Some fault) found = found ≡ ended_by (Some fault)
+IsLastingSummary reader None None = IsUndamaged reader
+IsLastingSummary reader None (Some (Broken damage)) = IsDamagedBy reader damage
+IsLastingSummary reader None (Some (Ended ending)) = ⊥
 
 -- the recording goes on, or its summary is known
 abbrev pub Reaches : Limits → List ℕ → List Message → Progress → Option Summary → Type 0

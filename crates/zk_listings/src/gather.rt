@@ -169,7 +169,7 @@ impl Progress {
         let limits = self.reader.limits(self.limits);
         let bytes = &block[..run.used];
         let refused = gather_run(&mut self.talk, gathered, &limits, run.side, bytes)?;
-        *found = self.known(refused);
+        *found = self.lasting_summary(refused);
         Ok(run.used)
     }
 

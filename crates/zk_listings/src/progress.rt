@@ -10,7 +10,7 @@ ghost use Rattle.zk_listings.specs.declared.listing.Listing.TheVariants.{All, La
 ghost use Rattle.zk_listings.specs.Earliest.{TellsBody};
 ghost use Rattle.zk_recordings.specs.Reading.{content_of, place_in};
 ghost use Rattle.zk_listings.specs.Following as following;
-ghost use Rattle.zk_listings.specs.Following.{Follows, Finishes, HasRefused, IsKnown, Takes, TakesTo, TakesContent, Has, Steps};
+ghost use Rattle.zk_listings.specs.Following.{Follows, Finishes, HasRefused, IsLastingSummary, Takes, TakesTo, TakesContent, Has, Steps};
 ghost use Rattle.zk_listings.specs.Gathering.{AdvancesBut, StepsBut};
 
 use crate::gathered::Gathered;
@@ -235,14 +235,15 @@ impl Progress {
             listing,
             lines,
         )?;
-        *found = self.known(refused);
+        *found = self.lasting_summary(refused);
         Ok(run.used)
     }
 
-    /// The recording's summary, if it is known, whatever follows: that of a fault of the conversation, or of a damage.
+    /// The recording's summary that stays, whatever follows: `Refused`, if the conversation was refused for the fault in
+    /// `refused`; else by the damage of what was read. `None` if there is neither: what follows may decide.
     #[inline(always)]
-    pub fn known(&self, refused: Option<Fault>) -> Option<Summary>
-        ensures { IsKnown self.now.reader refused result }
+    pub fn lasting_summary(&self, refused: Option<Fault>) -> Option<Summary>
+        ensures { IsLastingSummary self.now.reader refused result }
     {
         match refused {
             Some(fault) => Some(Summary::Ended(Ending::Refused(fault))),
@@ -338,7 +339,7 @@ impl Progress {
     }
 }
 
-/// The summary of a recording whose conversation has this fault.
+/// The summary of a recording whose conversation was refused for the fault in `refused`; `None` if it wasn't refused.
 #[inline(always)]
 pub(crate) fn ended_by(refused: Option<Fault>) -> Option<Summary>
     ensures { result ≡ following.ended_by refused }

@@ -1,13 +1,7 @@
-use Rattle.std.proofs.Common.{Some, sym, ap, subst, ◌∙◌}
-use Rattle.zk_talk.specs.declared.limits.Limits.{Limits}
-use Rattle.zk_c.specs.Handle.{AreNumbers}
+use Rattle.zk_c.specs.Voice.{VoiceState}
+use Rattle.zk_c.specs.Saying.{HasBegun}
+use Rattle.zk_c.proofs.Handles.{is_made}
 use Rattle.zk_c.proofs.speaker.zk_speaker_new.Goals as goal
 
 pub returns-clause-new : goal.returns-clause-new
-returns-clause-new c well = record {
-  voice = c.in-Ok.value;
-  held = c.put.ensures ∙ ap Some c.in-Ok-new.ensures.ok;
-  limits = subst (λ (l : Limits). AreNumbers c.args.client c.args.server c.args.waiting c.args.profile l) (sym c.in-Ok.ensures.limits) c.in-Some.ensures.value;
-  says = c.in-Ok.ensures.says;
-  frame = c.in-Ok.ensures.frame;
-}
+returns-clause-new c well = is_made (λ (v : VoiceState). v.speaker.limits) HasBegun c.put.ensures c.in-Ok-new.ensures.ok c.in-Ok.ensures.limits c.in-Some.ensures.value c.in-Ok.ensures.begun

@@ -10,8 +10,8 @@ last-only : (listing : Listing) → (listing ≡ All → ⊥) → Last ≡ listi
 last-only All none = absurd (none refl)
 last-only Last none = refl
 
-after : (g now : SideBytes) (more : List ℕ) → now.side ≡ g.side → now.bytes ≡ g.bytes ++ more → now ≡ record g { bytes = g.bytes ++ more }
-after g now more s b = λ i. record { side = s i; bytes = b i }
+extended : (g now : SideBytes) (more : List ℕ) → now.side ≡ g.side → now.bytes ≡ g.bytes ++ more → now ≡ record g { bytes = g.bytes ++ more }
+extended g now more s b = λ i. record { side = s i; bytes = b i }
 
 pub returns-in_ok-found-in-Block-clause-has : goal.returns-in_ok-found-in-Block-clause-has
 returns-in_ok-found-in-Block-clause-has g c =
@@ -31,7 +31,7 @@ returns-in_ok-count-in-Content-clause-has g c =
     let more = read.bytes.0 in
     let next = subst (IsNextRead c.args.progress.now before) c.in-Content.is c.next_read.ensures in
     let listing = last-only c.args.listing (λ all. next.4 (c.requires.listed all)) in
-    let is = after before c.read-in-Content.new.self more read.side read.bytes.3 in (
+    let is = extended before c.read-in-Content.new.self more read.side read.bytes.3 in (
       more,
       read.bytes.1,
       read.bytes.2,

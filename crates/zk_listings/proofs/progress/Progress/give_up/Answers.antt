@@ -1,7 +1,7 @@
 use Rattle.std.proofs.Common.{ap}
 use Rattle.zk_listings.specs.Gathered.{SideBytes}
 use Rattle.zk_listings.specs.declared.listing.Listing.TheVariants.{Last}
-use Rattle.zk_listings.proofs.Runs.{advances-but-none, all-known, none-begun, none-on}
+use Rattle.zk_listings.proofs.Runs.{advances-but-none, all-advances, none-begun, none-on}
 use Rattle.zk_listings.proofs.progress.Progress.give_up.Goals as goal
 
 pub returns-then-is_empty-clause-advances : goal.returns-then-is_empty-clause-advances
@@ -13,5 +13,5 @@ returns-in_default-clause-advances c = λ lines.
 
 pub returns-clause-advances : goal.returns-clause-advances
 returns-clause-advances c = λ lines.
-    rw c.ended_by.ensures (all-known c.args.gathered.now c.settle.new.gathered c.args.self.now c.in-Some.talk c.settle.new.talk c.settle.result
+    rw c.ended_by.ensures (all-advances c.args.gathered.now c.settle.new.gathered c.args.self.now c.in-Some.talk c.settle.new.talk c.settle.result
     c.in-Some.is (ap (λ (g : SideBytes). g.bytes) c.settle.ensures.empty) c.settle.ensures.limits c.settle.ensures.taken lines)

@@ -1,14 +1,14 @@
-//! `kept!` and `filled!`: the body of a call over the handle that C keeps, of whichever type.
+//! `with_value!` and `fill!`: the body of a call over the handle that C keeps, of whichever type.
 
-/// Asks the value that the handle holds, and goes on holding. If it holds none, the call returns `$none`. With `$side`, the
-/// number of a side, it returns `$none::none` of the status: `RANGE` if the number is no side's, `EMPTY` if the handle
-/// holds none.
-macro_rules! kept {
+/// Takes the value that the handle holds, answers by it, and puts it back. If the handle holds none, the call returns
+/// `$none`. With `$side`, the number of a side, which in `$answer` is the `Side`, the call returns `$none::none` of a
+/// status: `RANGE` if the number is no side's, `EMPTY` if the handle holds none.
+macro_rules! with_value {
     ($handle:ident, $alloc:ident, $side:ident, $none:ident => |$value:ident| $answer:expr) => {{
         let Some($side) = $crate::number::side_of($side) else {
             return $none::none($crate::number::RANGE);
         };
-        kept!($handle, $alloc, $none::none($crate::number::EMPTY) => |$value| $answer)
+        with_value!($handle, $alloc, $none::none($crate::number::EMPTY) => |$value| $answer)
     }};
     ($handle:ident, $alloc:ident, $none:expr => |$value:ident| $answer:expr) => {{
         let Some(mut $value) = $handle.take($alloc) else {
@@ -20,8 +20,9 @@ macro_rules! kept {
     }};
 }
 
-/// Makes a value of these limits, and puts it into the handle, which has to be empty. Gives the status.
-macro_rules! filled {
+/// Makes a value of the limits, and puts it into the handle; the status is `WELL`. The call returns `IN_USE` if the
+/// handle holds a value, `RANGE` if `$limits` is `None`, and `NO_MEMORY` if memory is refused.
+macro_rules! fill {
     ($handle:ident, $alloc:ident, $limits:expr => |$given:ident| $value:expr) => {{
         if $handle.live {
             return $crate::number::IN_USE;
@@ -40,5 +41,5 @@ macro_rules! filled {
     }};
 }
 
-pub(crate) use filled;
-pub(crate) use kept;
+pub(crate) use fill;
+pub(crate) use with_value;
