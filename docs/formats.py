@@ -20,6 +20,10 @@ class Field(NamedTuple):
     kind: str
 
 
+# What may follow the record of a connect request or response; section 3 has it in words.
+READ_ONLY = Field("read_only", "read_only", "bool")
+
+
 class Row(NamedTuple):
     """A row of a table of operations or parts: the line, the number, the name, the variant, the record of the request,
     and the fields of the request and the reply."""
@@ -111,6 +115,12 @@ def spelled(head):
     for line, (names, text) in rows("Operation", head):
         text = "" if text == "nothing" else re.sub(r"^`(?= )|`", "", text)
         yield from ((name, (line, text)) for name in names.split(", "))
+
+
+def messages():
+    """By message, the line of its row in the tables of whole lines, and the name and the item of each of its fields."""
+    for line, (message, text) in rows("Message", "Line"):
+        yield message, (line, re.findall(r"(\w+)=(\w+)", text.replace("`", "")))
 
 
 def columns(of):

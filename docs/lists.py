@@ -15,8 +15,9 @@ KINDS = (("operation", "int32_t", "i32", "OPERATIONS", "an operation, or of a pa
          ("event", "int64_t", "i64", "EVENTS", "an event's type"),
          ("field", "uint16_t", "u16", "FIELDS", "a field's name"),
          ("status", "uint32_t", "u32", "STATUSES", "a status"))
-# A kind of field in tools/operations.py.
-TOOLS = {"int": "number", "bool": "bit", "blob": "data", "acl": "acls"}
+# A kind of field, or an item of a line, in tools/operations.py and tools/forms.py.
+TOOLS = {"int": "number", "bool": "bit", "blob": "data", "acl": "acls", "ro": "readonly", "kcode": "kind",
+         "ecode": "err"}
 ODD_OPERATIONS = ("0", "10", "-1", "INT32_MIN", "INT32_MAX")
 NOT_ALONE = {"NONE", "PERMS", "ID", "ERR"}      # fields that tools/columns/json.c writes elsewhere
 
@@ -90,12 +91,17 @@ def plugin_names(lines):
     return [*found, "const value_string reason_names[] = {", *wrapped([*entries, "{0, NULL},"], 120), "};"]
 
 
+def is_id(name, kind):
+    """Whether a field is a zxid or a session, which the tools write in hexadecimal."""
+    return kind == "long" and re.search("zxid|session|owner", name) is not None
+
+
 def form(fields):
-    """Fields as tools/operations.py has them."""
+    """Fields as tools/operations.py and tools/forms.py have them."""
     words = []
     for name, kind in fields:
-        is_id = kind == "long" and (name.endswith("zxid") or name.startswith("session"))
-        words.append(f"{source.in_line(name)}:{'hexadecimal' if is_id else TOOLS.get(kind, kind)}")
+        shown = "hexadecimal" if is_id(name, kind) else "secret" if name == "passwd" else TOOLS.get(kind, kind)
+        words.append(f"{source.in_line(name)}:{shown}")
     return " ".join(words)
 
 

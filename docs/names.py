@@ -26,6 +26,8 @@ ENTRY = re.compile(r'-?\d+: "\w+"|\{[\w()-]+, "\w+"\}|\{-?\d+, (?:true|false)[^}
                    r"|(?<=[( ])-?\d+(?=, -?[\dI])")
 # A kind of field in a line.
 LINES = {"int": "num", "long": "num", "bool": "bit", "texts": "list of text", "acl": "list of acl"}
+# Items of more than a kind: numbers that may have a name, and a bit that may be absent.
+ITEMS = {"kcode": "num", "ecode": "num", "ro": "bit"}
 # The enumerations of the package for Python: how each name begins in the header.
 ENUMERATIONS = {"Side": "ZK_", "Profile": "ZK_PROFILE_", "Kind": "ZK_", "FieldKind": "ZK_KIND_", "Went": "ZK_"}
 CONSTANTS = ("bench/peer/peer.rs", "bench/make_recording.py", "wireshark/message.h", "examples/server.c")
@@ -99,8 +101,25 @@ def compare_codes(page, found, wanted):
                 for number, (line, name) in found.items() if wanted.get(number) != name)
 
 
+def on_page(name):
+    """The fields of a record of the page."""
+    return [(field.name, field.kind) for field in formats.records().get(name, (0, []))[1]]
+
+
+def messages():
+    """The messages whose fields are no operation's: the name on the page, that of the form in tools/forms.py, and the
+    fields by the page's records."""
+    read_only, header = (formats.READ_ONLY.name, formats.READ_ONLY.kind), on_page("ReplyHeader")[1:]
+    return (("connect request", "CONNECT", [*on_page("ConnectRequest"), read_only]),
+            ("connect response", "REPLIES[listing.CONNECT]", [*on_page("ConnectResponse"), read_only]),
+            ("event", "REPLIES[listing.EVENT]", [*header[:1], *on_page("WatcherEvent")]),
+            ("reply with an error", "FAILED", header),
+            ("reply", "REPLIES", header[:1]))
+
+
 def compare_lines():
-    """How the page spells the lines of requests and replies."""
+    """How the page spells the lines of messages: those of requests and replies by the sources, the others by its
+    records."""
     asks, tails = dict(formats.spelled("ask")), dict(formats.spelled("Tail"))
     for each in source.operations():
         for what, rows, begin, fields in (("request", asks, each.name, each.request), ("reply", tails, "", each.reply)):
@@ -110,6 +129,13 @@ def compare_lines():
                 yield f"docs/FORMATS.md: no row of the line of a {what} of {each.name}"
             elif each.name != "multi" and re.sub(r"^name\b", each.name, there) != here:
                 yield f"docs/FORMATS.md:{line}: a {what} of {each.name} is {there!r}, and in the sources {here!r}"
+    lines = dict(formats.messages())
+    for message, _, fields in messages():
+        line, items = lines.get(message, (0, []))
+        there = " ".join(f"{name}={ITEMS.get(item, item)}" for name, item in items)
+        here = " ".join(f"{source.in_line(name)}={LINES.get(kind, kind)}" for name, kind in fields)
+        if there != here:
+            yield f"docs/FORMATS.md:{line}: the line of the {message} has {there!r}, and its records {here!r}"
 
 
 def reasons():
@@ -137,19 +163,32 @@ def compare_others():
                                                                                        each.name != "check"))
 
 
+def wanted_forms():
+    """What tools/forms.py should have besides the forms of operations, by the page: names of fields, or each with its
+    kind."""
+    stat, lines, found = on_page("Stat"), dict(formats.messages()), {}
+    found["STAT"] = [source.in_line(name) for name, _ in stat]
+    found["HEXADECIMAL"] = [source.in_line(name) for name, kind in stat if lists.is_id(name, kind)]
+    for message, form, fields in messages():
+        items = [item for _, item in lines.get(message, (0, []))[1]]
+        found[form] = lists.form((name, item if item in ITEMS else kind)
+                                 for (name, kind), item in zip(fields, items)).split()
+    results = [(part.name, lists.form((field.name, field.kind) for field in part.reply).split())
+               for part in formats.table("PartOp")]
+    results.append(("fail", found["FAILED"][-1:]))
+    found["RESULTS"] = [word for name, form in results for word in (name, *form)]
+    return found
+
+
 def compare_forms():
-    """The names of the fields that tools/forms.py has, besides those of operations."""
-    text, records = (TOP / "tools" / "forms.py").read_text(), source.records()
-    ro, zxid = ("read_only", "bool"), ("zxid", "long")
-    for name, fields in (("STAT", records["Stat"]), ("CONNECT", [*records["ConnectRequest"], ro]),
-                         ("REPLIES[listing.CONNECT]", [*records["ConnectResponse"], ro]),
-                         ("REPLIES[listing.EVENT]", [zxid, *records["WatcherEvent"]])):
-        row = re.search(rf"^{re.escape(name)} = (.*?)\n(?=\S)", text, re.M | re.S)
-        found = ["".join(pair) for pair in re.findall(r'"(\w+)"|(\w+):\w+', row[1] if row else "")]
-        wanted = [source.in_line(name) for name, _ in fields]
+    """The forms that tools/forms.py has, besides those of operations: the names and the kinds of their fields."""
+    text = (TOP / "tools" / "forms.py").read_text()
+    for name, wanted in wanted_forms().items():
+        row = re.search(rf"^{re.escape(name)} = (.*?)\n(?=\S|\Z)", text, re.M | re.S)
+        found = ["".join(pair) for pair in re.findall(r'"(\w+)"|(\w+:\w+)', row[1] if row else "")]
         if found != wanted:
             line = text.count("\n", 0, row.start()) + 1 if row else 0
-            yield f"tools/forms.py:{line}: {name} has {', '.join(found)}, and in the sources {', '.join(wanted)}"
+            yield f"tools/forms.py:{line}: {name} has {', '.join(found)}, and in docs/FORMATS.md {', '.join(wanted)}"
 
 
 def compare_field_rows():

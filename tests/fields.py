@@ -13,7 +13,11 @@ sys.path.append(str(pathlib.Path(__file__).resolve().parent.parent / "docs"))
 import formats  # noqa: E402
 
 KINDS = dict(zip(("int", "long", "bool", "text", "blob", "list", "part"), range(1, 8)))
-STAT = formats.columns(formats.records()["Stat"][1])
+RECORDS = {name: of for name, (_, of) in formats.records().items()}
+CONNECTS = {"first": formats.columns([*RECORDS["ConnectRequest"], formats.READ_ONLY]),
+            "connected": formats.columns([*RECORDS["ConnectResponse"], formats.READ_ONLY])}
+EVENT = formats.columns(RECORDS["WatcherEvent"])
+STAT = formats.columns(RECORDS["Stat"])
 ASKS = {row.number: formats.columns(row.request) for row in formats.table("Op")}
 BODIES = {row.number: formats.columns(row.reply) for row in formats.table("Op")}
 PARTS = {row.number: formats.columns(row.request) for row in formats.table("PartOp")}
@@ -273,11 +277,10 @@ def split(words):
 
 def words_of(kind, operation, err=0):
     """Where a message's fields begin, and the columns that it has."""
-    hello = "protocol_version:int {}time_out:int session_id:long passwd:blob read_only:bool"
-    if kind in ("first", "connected"):
-        return 0, hello.format("last_zxid_seen:long " if kind == "first" else "")
+    if kind in CONNECTS:
+        return 0, CONNECTS[kind]
     if kind == "event":
-        return 16, "type:int state:int path:text" if err == 0 else ""
+        return 16, EVENT if err == 0 else ""
     if kind == "request":
         return 8, ASKS.get(operation, "")
     return 16, BODIES.get(operation, "") if err == 0 else ""

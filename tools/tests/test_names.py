@@ -75,8 +75,35 @@ COMPARED = (
      ("wireshark/names.c: op_is_newer is wrong on 15 create2",)),
     ("tools/forms.py", '"cversion", "aversion"', '"aversion", "cversion"',
      ("tools/forms.py:{line}: STAT has czxid, mzxid, ctime, mtime, version, aversion, cversion, ephemeralOwner, "
-      "dataLength, numChildren, pzxid, and in the sources czxid, mzxid, ctime, mtime, version, cversion, aversion, "
+      "dataLength, numChildren, pzxid, and in docs/FORMATS.md czxid, mzxid, ctime, mtime, version, cversion, aversion, "
       "ephemeralOwner, dataLength, numChildren, pzxid",)),
+    ("tools/forms.py", '{"czxid", "mzxid", "ephemeralOwner",', '{"czxid", "mzxid", "ctime", "ephemeralOwner",',
+     ("tools/forms.py:{line}: HEXADECIMAL has czxid, mzxid, ctime, ephemeralOwner, pzxid, "
+      "and in docs/FORMATS.md czxid, mzxid, ephemeralOwner, pzxid",)),
+    ("tools/forms.py", "version:number zxid:hexadecimal timeout", "version:number zxid:number timeout",
+     ("tools/forms.py:{line}: CONNECT has version:number, zxid:number, timeout:number, session:hexadecimal, "
+      "passwd:secret, ro:readonly, and in docs/FORMATS.md version:number, zxid:hexadecimal, timeout:number, "
+      "session:hexadecimal, passwd:secret, ro:readonly",)),
+    ("tools/forms.py", 'passwd:secret ro:readonly")', 'passwd:data ro:bit")',
+     ("tools/forms.py:{line}: REPLIES[listing.CONNECT] has version:number, timeout:number, session:hexadecimal, "
+      "passwd:data, ro:bit, and in docs/FORMATS.md version:number, timeout:number, session:hexadecimal, "
+      "passwd:secret, ro:readonly",)),
+    ("tools/forms.py", "kind:kind state:number", "kind:number state:number",
+     ("tools/forms.py:{line}: REPLIES[listing.EVENT] has zxid:hexadecimal, kind:number, state:number, path:text, "
+      "and in docs/FORMATS.md zxid:hexadecimal, kind:kind, state:number, path:text",)),
+    ("tools/forms.py", '"zxid:hexadecimal err:err"', '"zxid:hexadecimal err:number"',
+     ("tools/forms.py:{line}: FAILED has zxid:hexadecimal, err:number, "
+      "and in docs/FORMATS.md zxid:hexadecimal, err:err",)),
+    ("tools/forms.py", '"zxid:hexadecimal " +', '"zxid:number " +',
+     ("tools/forms.py:{line}: REPLIES has zxid:number, and in docs/FORMATS.md zxid:hexadecimal",)),
+    ("tools/forms.py", '"create": Form("path:text")', '"create": Form("path:data")',
+     ("tools/forms.py:{line}: RESULTS has create, path:data, delete, setData, stat:stat, check, fail, err:err, "
+      "and in docs/FORMATS.md create, path:text, delete, setData, stat:stat, check, fail, err:err",)),
+    ("docs/FORMATS.md", "`S event zxid=`num` kind=`kcode", "`S event zxid=`num` kind=`text",
+     ("docs/FORMATS.md:{line}: the line of the event has 'zxid=num kind=text state=num path=text', "
+      "and its records 'zxid=num kind=num state=num path=text'",
+      "tools/forms.py:*: REPLIES[listing.EVENT] has zxid:hexadecimal, kind:kind, state:number, path:text, "
+      "and in docs/FORMATS.md zxid:hexadecimal, kind:number, state:number, path:text")),
     ("wireshark/tree.c", "[ZK_NAME_AUTH] = FIELD_AUTH, ", "", ("wireshark/tree.c: no row of ZK_NAME_AUTH",)),
     ("examples/python/libzk/_messages.py", "    BLOB = 5", "    BLOB = 6",
      ("examples/python/libzk/_messages.py:*: FieldKind.BLOB is 6, and ZK_KIND_BLOB 5",)),
