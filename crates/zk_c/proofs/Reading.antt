@@ -1,13 +1,11 @@
 -- What is told of a frame whose fields are written.
-use Rattle.std.proofs.Common.{◌≡◌, ℕ, ℤ, ◌-◌, ◌<◌, List, length, refl, sym, ap, subst, ◌∙◌, arith}
+use Rattle.std.proofs.Common.{◌≡◌, ℕ, ℤ, ◌-◌, ◌<◌, ◌^◌, List, length, refl, sym, ap, subst, ◌∙◌, arith}
 use Rattle.std.proofs.lemmas.Bool.Decides.{nat_tests}
 use Rattle.zk_asks.specs.Held.{ClientFrame}
 use Rattle.zk_answers.specs.Held.{ServerFrame}
-use Rattle.zk_answers.specs.declared.frame.ServerFrameOf.TheVariants.{Connected, Answered, Event}
 use Rattle.zk_records.specs.declared.profile.Profile.{Profile}
 use Rattle.zk_records.specs.declared.profile.Profile.TheVariants.{V34, V35}
 use Rattle.zk_records.specs.Codes.{profile_number}
-use Rattle.zk_asks.specs.declared.frame.ClientFrameOf.TheVariants.{Connect, Ask}
 use Rattle.zk_fields.specs.declared.field.Field.{Field}
 use Rattle.zk_fields.specs.Frames.{AreWritten, client_fields, server_fields}
 use Rattle.zk_c.specs.declared.read_answer.ReadAnswer.{ReadAnswer}
@@ -17,30 +15,26 @@ use Rattle.zk_jute.specs.declared.fault.ItemFault.{ItemFault}
 use Rattle.zk_fields.specs.declared.opened.Opened.{Opened}
 use Rattle.zk_c.specs.Read.{client_read, server_read, refused_read, fields_before, head_of, number_of, int_there, long_there, TellsClient, TellsServer, TellsRefused}
 
-client_count : (room count : ℕ) (f : ClientFrame) → (client_read room count f).count ≡ count
-client_count room count (Connect hello flag) = refl
-client_count room count (Ask xid a) = refl
+-- an answer that counts the fields that are written
+counted : {A : Type 0} (fields : A → List Field) (read : ℕ → A → ReadAnswer) (x : A) (before after : List Field) (count : ℕ) (answer : ReadAnswer) →
+    AreWritten (fields x) before after count → answer ≡ read count x → answer.count ≡ count → AreWritten (fields x) before after answer.count × (answer ≡ read answer.count x)
+counted fields read x before after count answer written told same =
+    (subst (AreWritten (fields x) before after) (sym same) written, subst (λ (n : ℕ). answer ≡ read n x) (sym same) told)
 
 pub tells_client : (f : ClientFrame) (before after : List Field) (count : ℕ) (answer : ReadAnswer) → AreWritten (client_fields f) before after count → answer ≡ client_read (length before) count f → TellsClient f before after answer
 tells_client f before after count answer written told =
-    let same : answer.count ≡ count = ap (λ (a : ReadAnswer). a.count) told ∙ client_count (length before) count f in
-    record {
-      written = subst (AreWritten (client_fields f) before after) (sym same) written;
-      told = subst (λ (n : ℕ). answer ≡ client_read (length before) n f) (sym same) told;
-    }
+    let c = counted client_fields (client_read (length before)) f before after count answer written told (ap (λ (a : ReadAnswer). a.count) told) in
+    record { written = c.0; told = c.1 }
 
-server_count : (room count : ℕ) (f : ServerFrame) → (server_read room count f).count ≡ count
-server_count room count (Connected hello flag) = refl
-server_count room count (Answered r) = refl
-server_count room count (Event zxid e) = refl
+pub tells_server : (s : ServerFrame) (before after : List Field) (count : ℕ) (answer : ReadAnswer) → AreWritten (server_fields s) before after count → answer ≡ server_read (length before) count s → TellsServer s before after answer
+tells_server s before after count answer written told =
+    let c = counted server_fields (server_read (length before)) s before after count answer written told (ap (λ (a : ReadAnswer). a.count) told) in
+    record { written = c.0; told = c.1 }
 
-pub tells_server : (f : ServerFrame) (before after : List Field) (count : ℕ) (answer : ReadAnswer) → AreWritten (server_fields f) before after count → answer ≡ server_read (length before) count f → TellsServer f before after answer
-tells_server f before after count answer written told =
-    let same : answer.count ≡ count = ap (λ (a : ReadAnswer). a.count) told ∙ server_count (length before) count f in
-    record {
-      written = subst (AreWritten (server_fields f) before after) (sym same) written;
-      told = subst (λ (n : ℕ). answer ≡ server_read (length before) n f) (sym same) told;
-    }
+-- the fields of the one frame that a payload is
+pub reads_it : {F : Type 0} (Tells : F → Type 0) {frame other : F} {bytes payload : List ℕ} →
+    frame ≡ other → bytes ≡ payload → length bytes < 2 ^ 32 → (length payload < 2 ^ 32 → Tells frame) → Tells other
+reads_it Tells same is small tells = subst Tells same (tells (subst (λ (b : List ℕ). length b < 2 ^ 32) is small))
 
 pub profile_apart : (p q : Profile) → profile_number p ≡ profile_number q → p ≡ q
 profile_apart V34 V34 e = refl

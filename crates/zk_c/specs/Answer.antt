@@ -1,9 +1,11 @@
 -- What calls return, in numbers.
-use Rattle.std.specs.Prelude.{ℕ, ◌-◌, pos, negsuc, false, Option, unwrap_or, Result, Ok, Err}
+use Rattle.std.specs.Prelude.{ℕ, ℤ, ◌-◌, pos, negsuc, false, Option, unwrap_or, Result, Ok, Err}
 use Rattle.zk_records.specs.Codes.{op_number}
 use Rattle.zk_asks.specs.Rows.{op_of_ask}
+use Rattle.zk_asks.specs.Held.{ClientFrame}
 use Rattle.zk_asks.specs.declared.frame.ClientFrameOf.TheVariants.{Connect, Ask}
 use Rattle.zk_answers.specs.Frames.{op_of_reply, err_of}
+use Rattle.zk_answers.specs.Held.{ServerFrame}
 use Rattle.zk_answers.specs.declared.frame.ServerFrameOf.TheVariants.{Connected, Answered, Event}
 use Rattle.zk_talk.specs.Held.{Message}
 use Rattle.zk_talk.specs.declared.message.MessageOf.TheVariants.{Client as FromClient, Server as FromServer}
@@ -39,53 +41,59 @@ abbrev pub no_step : ℕ → StepAnswer
 no_step status = record { used = 0; status = status; whole = false; fault = no_fault }
 
 abbrev pub step_answer : Result Stepped Fault → StepAnswer
-step_answer (Ok s) = record { used = s.used; status = 0; whole = s.whole; fault = no_fault }
-step_answer (Err f) = record { used = 0; status = reason_number f.reason; whole = false; fault = fault_numbers f }
+step_answer (Ok s) = record (no_step 0) { used = s.used; whole = s.whole }
+step_answer (Err f) = record (no_step (reason_number f.reason)) { fault = fault_numbers f }
 
 abbrev pub no_ending : ℕ → EndingAnswer
 no_ending status = record { status = status; kind = 0; unanswered = 0; side = 0; got = 0; frame = 0; fault = no_fault }
 
 abbrev pub ending_answer : Ending → EndingAnswer
-ending_answer (Whole unanswered) = record { status = 0; kind = 1; unanswered = unanswered; side = 0; got = 0; frame = 0; fault = no_fault }
-ending_answer (Cut side frame got) = record { status = 0; kind = 2; unanswered = 0; side = side_number side; got = got; frame = frame; fault = no_fault }
-ending_answer (Refused f) = record { status = 0; kind = 3; unanswered = 0; side = 0; got = 0; frame = 0; fault = fault_numbers f }
+ending_answer (Whole unanswered) = record (no_ending 0) { kind = 1; unanswered = unanswered }
+ending_answer (Cut side frame got) = record (no_ending 0) { kind = 2; side = side_number side; got = got; frame = frame }
+ending_answer (Refused f) = record (no_ending 0) { kind = 3; fault = fault_numbers f }
 
 abbrev pub no_message : ℕ → MessageAnswer
 no_message status = record { status = status; kind = 0; xid = pos 0; operation = pos 0; size = 0; err = pos 0; zxid = pos 0; frame = 0; answers = 0 }
 
--- a message whose frame has `size` bytes, is the last of `frames`, and answers the client's frame of this number; the
--- operation of a reply is its request's
+-- a message's kind, and the numbers of its header; the operation of a reply is its request's
+pub record Head : Type 0 where
+  pub kind : ℕ
+  pub xid : ℤ
+  pub operation : ℤ
+  pub err : ℤ
+  pub zxid : ℤ
+
+abbrev pub bare_head : ℕ → Head
+bare_head kind = record { kind = kind; xid = pos 0; operation = pos 0; err = pos 0; zxid = pos 0 }
+
+abbrev pub client_head : ClientFrame → Head
+client_head (Connect hello read_only) = bare_head 1
+client_head (Ask xid ask) = record (bare_head 2) { xid = xid; operation = op_number (op_of_ask ask) }
+
+abbrev pub server_head : ServerFrame → Head
+server_head (Connected hello read_only) = bare_head 3
+server_head (Answered reply) =
+    record (bare_head 4) { xid = reply.xid; operation = op_number (op_of_reply reply); err = err_of reply.outcome; zxid = reply.zxid }
+server_head (Event zxid event) = record (bare_head 5) { xid = negsuc 0; zxid = zxid }
+
+abbrev pub message_head : Message → Head
+message_head (FromClient f) = client_head f
+message_head (FromServer s) = server_head s
+
+-- a message whose frame has `size` bytes, is the last of `frames`, and answers the client's frame of this number
 abbrev pub message_answer : ℕ → ℕ → Option ℕ → Message → MessageAnswer
-message_answer size frames answered (FromClient (Connect hello read_only)) =
-    record { status = 0; kind = 1; xid = pos 0; operation = pos 0; size = size; err = pos 0; zxid = pos 0; frame = frames - 1; answers = unwrap_or answered 0 }
-message_answer size frames answered (FromClient (Ask xid ask)) =
+message_answer size frames answered m =
     record {
       status = 0;
-      kind = 2;
-      xid = xid;
-      operation = op_number (op_of_ask ask);
+      kind = (message_head m).kind;
+      xid = (message_head m).xid;
+      operation = (message_head m).operation;
       size = size;
-      err = pos 0;
-      zxid = pos 0;
+      err = (message_head m).err;
+      zxid = (message_head m).zxid;
       frame = frames - 1;
       answers = unwrap_or answered 0;
     }
-message_answer size frames answered (FromServer (Connected hello read_only)) =
-    record { status = 0; kind = 3; xid = pos 0; operation = pos 0; size = size; err = pos 0; zxid = pos 0; frame = frames - 1; answers = unwrap_or answered 0 }
-message_answer size frames answered (FromServer (Answered reply)) =
-    record {
-      status = 0;
-      kind = 4;
-      xid = reply.xid;
-      operation = op_number (op_of_reply reply);
-      size = size;
-      err = err_of reply.outcome;
-      zxid = reply.zxid;
-      frame = frames - 1;
-      answers = unwrap_or answered 0;
-    }
-message_answer size frames answered (FromServer (Event zxid event)) =
-    record { status = 0; kind = 5; xid = negsuc 0; operation = pos 0; size = size; err = pos 0; zxid = zxid; frame = frames - 1; answers = unwrap_or answered 0 }
 
 abbrev pub no_line : ℕ → LineAnswer
 no_line status = record { status = status; length = 0 }

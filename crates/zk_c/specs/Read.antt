@@ -1,5 +1,5 @@
 -- What is returned of a message whose fields are written.
-use Rattle.std.specs.Prelude.{◌≡◌, ◌≢◌, ◌⊎◌, ◌<◌, ◌^◌, ℕ, ℤ, pos, negsuc, List, [], length, Option, Some, None, Ok, Err, nat_le, if◌then◌else◌}
+use Rattle.std.specs.Prelude.{◌≡◌, ◌≢◌, ◌⊎◌, ◌<◌, ◌^◌, ℕ, ℤ, pos, List, [], length, Option, Some, None, Ok, Err, nat_le, if◌then◌else◌}
 use Rattle.zk_jute.specs.declared.fault.Reason.{Reason}
 use Rattle.zk_jute.specs.declared.fault.Reason.TheVariants.{NoMemory, UnknownOp}
 use Rattle.zk_jute.specs.declared.fault.ItemFault.{ItemFault}
@@ -9,12 +9,8 @@ use Rattle.zk_records.specs.declared.header.ReplyHeader.{ReplyHeader}
 use Rattle.zk_records.specs.declared.op.Op.{Op}
 use Rattle.zk_records.specs.declared.profile.Profile.{Profile}
 use Rattle.zk_records.specs.Codes.{op_number, HasOp, IsNoOp}
-use Rattle.zk_asks.specs.Rows.{op_of_ask}
 use Rattle.zk_asks.specs.Held.{ClientFrame}
-use Rattle.zk_asks.specs.declared.frame.ClientFrameOf.TheVariants.{Connect, Ask}
 use Rattle.zk_answers.specs.Held.{ServerFrame}
-use Rattle.zk_answers.specs.Frames.{op_of_reply, err_of}
-use Rattle.zk_answers.specs.declared.frame.ServerFrameOf.TheVariants.{Connected, Answered, Event}
 use Rattle.zk_fields.specs.declared.field.Field.{Field}
 use Rattle.zk_fields.specs.declared.opened.Opened.{Opened}
 use Rattle.zk_fields.specs.declared.opened.Opened.TheVariants as opened
@@ -22,6 +18,7 @@ use Rattle.zk_fields.specs.Frames.{AreWritten, client_fields, server_fields}
 use Rattle.zk_fields.specs.Walks.{opened_fields}
 use Rattle.zk_c.specs.declared.read_answer.ReadAnswer.{ReadAnswer}
 use Rattle.zk_c.specs.Numbers.{reason_number}
+use Rattle.zk_c.specs.Answer.{Head, client_head, server_head}
 use Rattle.zk_records.specs.declared.op.PartOp.{PartOp}
 use Rattle.zk_asks.specs.Faults.{IsFirstFault, IsAskFault}
 use Rattle.zk_answers.specs.Faults.{IsHead, IsHeadFault, IsConnectedFault, IsReplyFault, IsEventFault}
@@ -46,64 +43,24 @@ abbrev pub room_status : ℕ → ℕ → ℕ
 room_status room count = if nat_le count room then 0 else 68
 
 -- the header's numbers, and how many fields there are
-abbrev pub client_read : ℕ → ℕ → ClientFrame → ReadAnswer
-client_read room count (Connect hello flag) =
+abbrev pub head_read : ℕ → ℕ → Head → ReadAnswer
+head_read room count head =
     record {
       status = room_status room count;
       place = 0;
       count = count;
-      kind = 1;
-      xid = pos 0;
-      operation = pos 0;
-      err = pos 0;
-      zxid = pos 0;
-    }
-client_read room count (Ask xid a) =
-    record {
-      status = room_status room count;
-      place = 0;
-      count = count;
-      kind = 2;
-      xid = xid;
-      operation = op_number (op_of_ask a);
-      err = pos 0;
-      zxid = pos 0;
+      kind = head.kind;
+      xid = head.xid;
+      operation = head.operation;
+      err = head.err;
+      zxid = head.zxid;
     }
 
+abbrev pub client_read : ℕ → ℕ → ClientFrame → ReadAnswer
+client_read room count f = head_read room count (client_head f)
+
 abbrev pub server_read : ℕ → ℕ → ServerFrame → ReadAnswer
-server_read room count (Connected hello flag) =
-    record {
-      status = room_status room count;
-      place = 0;
-      count = count;
-      kind = 3;
-      xid = pos 0;
-      operation = pos 0;
-      err = pos 0;
-      zxid = pos 0;
-    }
-server_read room count (Answered r) =
-    record {
-      status = room_status room count;
-      place = 0;
-      count = count;
-      kind = 4;
-      xid = r.xid;
-      operation = op_number (op_of_reply r);
-      err = err_of r.outcome;
-      zxid = r.zxid;
-    }
-server_read room count (Event zxid event) =
-    record {
-      status = room_status room count;
-      place = 0;
-      count = count;
-      kind = 5;
-      xid = negsuc 0;
-      operation = pos 0;
-      err = pos 0;
-      zxid = zxid;
-    }
+server_read room count s = head_read room count (server_head s)
 
 -- the frame's fields are written, as many as there is room for, and the answer counts them all
 pub record TellsClient (f : ClientFrame) (before after : List Field) (answer : ReadAnswer) : Type 0 where
@@ -127,19 +84,10 @@ abbrev pub long_there : List ℕ → ℕ → ℤ
 long_there payload place = number_of (long_at payload place)
 
 abbrev pub ask_head : List ℕ → ReadAnswer
-ask_head payload = record { status = 0; place = 0; count = 0; kind = 0; xid = int_there payload 0; operation = int_there payload 4; err = pos 0; zxid = pos 0 }
+ask_head payload = record (no_read 0) { xid = int_there payload 0; operation = int_there payload 4 }
 
 abbrev pub answer_head : List ℕ → ReadAnswer
-answer_head payload = record {
-  status = 0;
-  place = 0;
-  count = 0;
-  kind = 0;
-  xid = int_there payload 0;
-  operation = pos 0;
-  err = int_there payload 12;
-  zxid = long_there payload 4;
-}
+answer_head payload = record (no_read 0) { xid = int_there payload 0; err = int_there payload 12; zxid = long_there payload 4 }
 
 -- by what it is read as; a request of no operation has a header too
 abbrev pub head_of : Option Opened → List ℕ → ReadAnswer
@@ -202,31 +150,29 @@ IsAskOf profile payload (Some o) = (op : Op) × (o ≡ opened.Ask op) × HasOp p
 
 -- ---- a payload is that of a message, whose fields are written; or its first fault is returned
 
+abbrev pub MessageOrFault : {A : Type 0} → (A → Type 0) → (ℕ → Reason → Type 0) → (Option Opened → Type 0) → List ℕ → List Field → List Field → ReadAnswer → Type 0
+MessageOrFault {A} Is IsFault IsOpened payload before after answer = ((x : A) × Is x) ⊎ IsReadFault IsFault IsOpened payload before after answer
+
 abbrev pub ConnectOrFault : List ℕ → List Field → List Field → ReadAnswer → Type 0
-ConnectOrFault payload before after answer = ((f : ClientFrame) × IsConnect payload f) ⊎
-    IsReadFault (IsFirstFault payload) (Just opened.First) payload before after answer
+ConnectOrFault payload = MessageOrFault (IsConnect payload) (IsFirstFault payload) (Just opened.First) payload
 
 abbrev pub ReadsRequest : Profile → List ℕ → List Field → List Field → ReadAnswer → Type 0
 ReadsRequest profile payload before after answer = (f : ClientFrame) → IsRequest profile payload f → TellsClient f before after answer
 
 abbrev pub RequestOrFault : Profile → List ℕ → List Field → List Field → ReadAnswer → Type 0
-RequestOrFault profile payload before after answer = ((f : ClientFrame) × IsRequest profile payload f) ⊎
-    IsReadFault (IsAskFault profile payload) (IsAskOf profile payload) payload before after answer
+RequestOrFault profile payload = MessageOrFault (IsRequest profile payload) (IsAskFault profile payload) (IsAskOf profile payload) payload
 
 abbrev pub WelcomeOrFault : List ℕ → List Field → List Field → ReadAnswer → Type 0
-WelcomeOrFault payload before after answer = ((s : ServerFrame) × IsWelcome payload s) ⊎
-    IsReadFault (IsConnectedFault payload) (Just opened.Connected) payload before after answer
+WelcomeOrFault payload = MessageOrFault (IsWelcome payload) (IsConnectedFault payload) (Just opened.Connected) payload
 
 abbrev pub ReadsReply : Op → List PartOp → List ℕ → List Field → List Field → ReadAnswer → Type 0
 ReadsReply op parts payload before after answer = (s : ServerFrame) → IsReply op parts payload s → TellsServer s before after answer
 
 abbrev pub ReplyOrFault : Op → List PartOp → List ℕ → List Field → List Field → ReadAnswer → Type 0
-ReplyOrFault op parts payload before after answer = ((s : ServerFrame) × IsReply op parts payload s) ⊎
-    IsReadFault (IsReplyFault op parts payload) (Just (opened.Reply op)) payload before after answer
+ReplyOrFault op parts payload = MessageOrFault (IsReply op parts payload) (IsReplyFault op parts payload) (Just (opened.Reply op)) payload
 
 abbrev pub NoticeOrFault : List ℕ → List Field → List Field → ReadAnswer → Type 0
-NoticeOrFault payload before after answer = ((s : ServerFrame) × IsNotice payload s) ⊎
-    IsReadFault (IsEventFault payload) (Just opened.Event) payload before after answer
+NoticeOrFault payload = MessageOrFault (IsNotice payload) (IsEventFault payload) (Just opened.Event) payload
 
 -- so it is of a payload whose places are numbers, and whose header, where it has one, isn't an event's
 abbrev pub WhereReply : ℤ → List ℤ → List ℕ → (Op → List PartOp → Type 0) → Type 0

@@ -1,8 +1,8 @@
-use Rattle.std.proofs.Common.{◌≡◌, ℕ, ◌<◌, ◌^◌, List, length, inl, inr, refl, subst}
-use Rattle.zk_answers.specs.Held.{ServerFrame}
+use Rattle.std.proofs.Common.{◌≡◌, inl, inr, refl}
 use Rattle.zk_c.specs.Read.{TellsServer}
 use Rattle.std.specs.Prelude.{Some}
 use Rattle.zk_fields.specs.declared.opened.Opened.TheVariants as opened
+use Rattle.zk_c.proofs.Reading.{reads_it}
 use Rattle.zk_c.proofs.read.reply_in.Goals as goal
 
 pub borrow_reply-requires : goal.borrow_reply-requires
@@ -10,10 +10,9 @@ borrow_reply-requires c = λ header rest h e. c.requires (header, rest, h, e)
 
 pub returns-in-Ok-clause-only : goal.returns-in-Ok-clause-only
 returns-in-Ok-clause-only c = λ small s is.
-    let found = c.in-Ok.ensures.found in
-    let same : c.in-Ok.frame ≡ s = let read = c.in-Ok.ensures.only s is.reply is.sent is.is in cc in
-    let few = subst (λ (bytes : List ℕ). length bytes < 2 ^ 32) found.2 small in
-    subst (λ (g : ServerFrame). TellsServer g c.args.room.now c.read_server.new.room c.read_server.result) same (c.read_server.ensures found.1 few)
+    let read = c.in-Ok.ensures.only s is.reply is.sent is.is in
+    let same : c.in-Ok.frame ≡ s = cc in
+    reads_it (λ g. TellsServer g c.args.room.now c.read_server.new.room c.read_server.result) same c.in-Ok.ensures.found.2 small (c.read_server.ensures c.in-Ok.ensures.found.1)
 
 pub returns-in-Ok-clause-found : goal.returns-in-Ok-clause-found
 returns-in-Ok-clause-found c = λ small.

@@ -1,16 +1,15 @@
-use Rattle.std.proofs.Common.{◌≡◌, ℕ, ◌<◌, ◌^◌, List, length, inl, inr, refl, subst}
-use Rattle.zk_asks.specs.Held.{ClientFrame}
+use Rattle.std.proofs.Common.{◌≡◌, inl, inr, refl}
 use Rattle.zk_c.specs.Read.{TellsClient}
 use Rattle.std.specs.Prelude.{Some}
 use Rattle.zk_fields.specs.declared.opened.Opened.TheVariants as opened
+use Rattle.zk_c.proofs.Reading.{reads_it}
 use Rattle.zk_c.proofs.read.zk_read_first.Goals as goal
 
 pub returns-in-Ok-clause-only : goal.returns-in-Ok-clause-only
 returns-in-Ok-clause-only c = λ f small is.
-    let found = c.in-Ok.ensures.found in
-    let same : c.in-Ok.frame ≡ f = let read = c.in-Ok.ensures.only f is.first is.sent is.is in cc in
-    let few = subst (λ (bytes : List ℕ). length bytes < 2 ^ 32) found.2 small in
-    subst (λ (g : ClientFrame). TellsClient g c.args.room.now c.read_client.new.room c.read_client.result) same (c.read_client.ensures found.1 few)
+    let read = c.in-Ok.ensures.only f is.first is.sent is.is in
+    let same : c.in-Ok.frame ≡ f = cc in
+    reads_it (λ g. TellsClient g c.args.room.now c.read_client.new.room c.read_client.result) same c.in-Ok.ensures.found.2 small (c.read_client.ensures c.in-Ok.ensures.found.1)
 
 pub returns-in-Ok-clause-found : goal.returns-in-Ok-clause-found
 returns-in-Ok-clause-found c = λ small.
