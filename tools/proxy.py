@@ -136,14 +136,14 @@ class Connection:
         self.proxy.left(self)
 
     def step(self, server, _events):
-        """Begins to pass on, since the server has answered, or tries the next address."""
+        """Is about to pass on, since the server has answered, or tries the next address."""
+        self.proxy.wait_for(server, 0)
         failure = server.getsockopt(socket.SOL_SOCKET, socket.SO_ERROR)
         if failure:
-            self.proxy.wait_for(server, 0)
             server.close()
             self.connect(os.strerror(failure))
         else:
-            self.begin()
+            self.proxy.connected.append(self)
 
     def begin(self):
         """Begins to pass on."""
@@ -222,8 +222,8 @@ class Proxy:
     a connection's observer: its `piece(side, data)` is called before the bytes are passed on, and its `over()` once the
     connection has ended.
 
-    `connected` has those whose server has answered at once, and which begin together: many steps of one kind take less
-    time than as many by turns. `ended` has those that are not over yet. Each turn takes some of both."""
+    `connected` has those whose server has answered, and which begin together: many steps of one kind take less time than
+    as many by turns. `ended` has those that are not over yet. Each turn takes some of both."""
 
     descriptors = 0         # the most descriptors of an observer
 

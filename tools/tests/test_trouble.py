@@ -1,5 +1,6 @@
 """Tests of record.py and zkwatch.py in trouble: the other connections are not delayed, and it is reported once."""
 
+import errno
 import resource
 import socket
 import subprocess
@@ -134,13 +135,21 @@ class Crowd(TroubleCase):
         self.pass_on()
         self.assertEqual(receive(steady, 5), b"hello")
 
+    def most_at_once(self, count):
+        """As many clients, and the most of them that begin in one turn."""
+        clients = [self.client(self.passing.listeners[0].getsockname()[1]) for _ in range(count)]
+        most = begun = 0
+        while begun < count:
+            self.passing.turn(1)
+            before, begun = begun, sum(each.observer is not None for each in self.passing.connections)
+            most = max(most, begun - before)
+        return clients, most
+
     def test_observers_that_take_long(self):
         """As on a slow disk: one of the clients that wait begins, and one ends, between the turns of the others."""
         self.passing.seconds = 2 * proxy.MOMENT
-        clients = [self.client(self.passing.listeners[0].getsockname()[1]) for _ in range(20)]
-        for begun in range(1, 21):
-            self.passing.turn(1)
-            self.assertEqual(len([each for each in self.passing.connections if each.observer]), begun)
+        clients, most = self.most_at_once(20)
+        self.assertEqual(most, 1)
         for client in clients:
             client.close()
         self.passing.turn(1)
@@ -149,6 +158,21 @@ class Crowd(TroubleCase):
             before = len(self.passing.connections)
             self.passing.turn(1)
             self.assertLessEqual(before - len(self.passing.connections), 1)
+
+    def test_a_server_that_is_not_connected_at_once(self):
+        made = socket.socket.connect_ex
+
+        def late(end, address):
+            made(end, address)
+            return errno.EINPROGRESS
+
+        self.passing.seconds = 2 * proxy.MOMENT
+        with unittest.mock.patch.object(socket.socket, "connect_ex", late):
+            clients, most = self.most_at_once(5)
+        self.assertEqual(most, 1)
+        clients[0].sendall(b"hello")
+        self.pass_on()
+        self.assertEqual(receive(clients[0], 5), b"hello")
 
 
 class Ends(TroubleCase):
