@@ -1,4 +1,4 @@
--- The talk that a handle held is the one that made the step.
+-- What a handle held is what the call was of, and what the call left is behind it.
 use Rattle.std.proofs.Common.{◌≡◌, ℕ, Bool, List, Option, Some, Result, IsSomeAnd, refl, sym, ap, subst, ◌∙◌}
 use Rattle.std.specs.Prelude.{unwrap_or}
 use Rattle.zk_talk.specs.declared.message.Side.{Side}
@@ -30,11 +30,11 @@ pub stays_held : {A : Type 0} (Is : A → A → Type 0) {x y new : A} {after : O
 stays_held Is {y = y} {new = new} same held is = is_held (Is y) held (subst (λ o. Is o new) same is)
 
 -- a value that was made with these limits was put behind it
-pub is_made : {A : Type 0} (limits_of : A → Limits) (HasBegun : A → Type 0) {client server waiting profile : ℕ} {limits : Limits} {made new : A} {after : Option A} →
-    after ≡ Some new → new ≡ made → limits_of made ≡ limits → AreNumbers client server waiting profile limits → HasBegun made →
-    IsMadeOf limits_of HasBegun client server waiting profile after
-is_made limits_of HasBegun {client = client} {server = server} {waiting = waiting} {profile = profile} held same its numbers begun =
-    is_held (λ value. AreNumbers client server waiting profile (limits_of value) × HasBegun value) (held ∙ ap Some same)
+pub is_made : {A : Type 0} (limits_of : A → Limits) (Begun : A → Type 0) {client server waiting profile : ℕ} {limits : Limits} {made new : A} {after : Option A} →
+    after ≡ Some new → new ≡ made → limits_of made ≡ limits → AreNumbers client server waiting profile limits → Begun made →
+    IsMadeOf limits_of Begun client server waiting profile after
+is_made limits_of Begun {client = client} {server = server} {waiting = waiting} {profile = profile} held same its numbers begun =
+    is_held (λ value. AreNumbers client server waiting profile (limits_of value) × Begun value) (held ∙ ap Some same)
     (subst (AreNumbers client server waiting profile) (sym its) numbers, begun)
 
 -- the answer of a call, which left this value behind it

@@ -63,6 +63,7 @@ pub record Head : Type 0 where
   pub err : ℤ
   pub zxid : ℤ
 
+-- of a message without such numbers
 abbrev pub bare_head : ℕ → Head
 bare_head kind = record { kind = kind; xid = pos 0; operation = pos 0; err = pos 0; zxid = pos 0 }
 

@@ -85,13 +85,13 @@ AreNoLimits client server waiting profile = (p : Profile) → profile ≡ profil
 
 -- a value whose limits are these numbers is behind the handle, and has begun
 abbrev pub IsMadeOf : {A : Type 0} → (A → Limits) → (A → Type 0) → ℕ → ℕ → ℕ → ℕ → Option A → Type 0
-IsMadeOf limits_of HasBegun client server waiting profile after =
-    IsSomeAnd after (λ value. AreNumbers client server waiting profile (limits_of value) × HasBegun value)
+IsMadeOf limits_of Begun client server waiting profile after =
+    IsSomeAnd after (λ value. AreNumbers client server waiting profile (limits_of value) × Begun value)
 
 -- the new value has the limits of the old one, and has begun
-pub record BeginsAnew {A : Type 0} (limits_of : A → Limits) (HasBegun : A → Type 0) (old new : A) : Type 0 where
+pub record BeginsAnew {A : Type 0} (limits_of : A → Limits) (Begun : A → Type 0) (old new : A) : Type 0 where
   pub limits : limits_of new ≡ limits_of old
-  pub begun : HasBegun new
+  pub begun : Begun new
 
 -- nothing has come, and no side keeps a frame
 pub record HasBegun (talk : TalkState) : Type 0 where

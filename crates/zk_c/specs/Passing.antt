@@ -109,7 +109,7 @@ IsJoined = IsMade true
 abbrev pub IsRenewed : PassageState → PassageState → Type 0
 IsRenewed = BeginsAnew (λ (p : PassageState). p.through.talk.limits) HasBegun
 
--- and is behind the handle
+-- the passage has begun anew behind the handle
 abbrev pub Renews : PassageState → Option PassageState → Type 0
 Renews old after = IsSomeAnd after (IsRenewed old)
 

@@ -103,7 +103,7 @@ pub record HasBegun (v : VoiceState) : Type 0 where
 abbrev pub IsRenewed : VoiceState → VoiceState → Type 0
 IsRenewed = BeginsAnew (λ (v : VoiceState). v.speaker.limits) HasBegun
 
--- and is behind the handle
+-- the speaker has begun anew behind the handle
 abbrev pub Renews : VoiceState → Option VoiceState → Type 0
 Renews old after = IsSomeAnd after (IsRenewed old)
 

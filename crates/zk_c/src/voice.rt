@@ -1,6 +1,5 @@
 //! `Voice`: a speaker, and the frame that it said last.
 ghost use Rattle.std.specs.Prelude.{◌≡◌, ◌≢◌, [], false, length, IfOk, IsTrue};
-ghost use Rattle.zk_talk.specs.Said.{Says};
 ghost use Rattle.zk_c.specs.Handle.{TellsText};
 ghost use Rattle.zk_c.specs.Saying.{HasBegun, IsRenewed, TellsSay, TellsPayload, say_answer};
 
