@@ -2,8 +2,8 @@
 use std::process::Abort;
 use std::test::Fail;
 use zk_jute::{
-    BlobRef, Decode, Ends, ItemFault, Items, Payload, Reason, TextList, TextRef, Undecided,
-    bool_at, int_at, long_at, scan,
+    BlobRef, Ends, ItemFault, Items, Reason, TextList, TextRef, Undecided, bool_at, int_at,
+    long_at, read_ref, scan,
 };
 
 #[test]
@@ -16,14 +16,12 @@ fn numbers(rt: HostRuntime) -> Result<(), Fail> {
 }
 
 /// A list of a text and null.
-const TWO: Payload = Payload {
-    bytes: b"\0\0\0\x02\0\0\0\x02/a\xff\xff\xff\xff",
-};
+const TWO: &[u8] = b"\0\0\0\x02\0\0\0\x02/a\xff\xff\xff\xff";
 
 /// A text, borrowed from its payload.
 #[test]
 fn text(rt: HostRuntime) -> Result<(), Fail> {
-    let (text, end) = TextRef::read_in(&TWO, 4)?;
+    let (text, end) = read_ref::<TextRef>(TWO, 4)?;
     let TextRef::Full(text) = text else {
         return Err("null".into());
     };
@@ -34,7 +32,7 @@ fn text(rt: HostRuntime) -> Result<(), Fail> {
 /// Data at the same place.
 #[test]
 fn data_at_a_place(rt: HostRuntime) -> Result<(), Fail> {
-    let (blob, end) = BlobRef::read_in(&TWO, 4)?;
+    let (blob, end) = read_ref::<BlobRef>(TWO, 4)?;
     let BlobRef::Full(blob) = blob else {
         return Err("null".into());
     };
@@ -45,15 +43,15 @@ fn data_at_a_place(rt: HostRuntime) -> Result<(), Fail> {
 /// Where the text ends.
 #[test]
 fn ends(rt: HostRuntime) -> Result<(), Fail> {
-    assert_eq!(rt; scan::<TextRef>(TWO.bytes, 4)?, 10);
-    assert_eq!(rt; TextRef::end::<ItemFault>(TWO.bytes, 4)?, 10);
+    assert_eq!(rt; scan::<TextRef>(TWO, 4)?, 10);
+    assert_eq!(rt; TextRef::end::<ItemFault>(TWO, 4)?, 10);
     let short = ItemFault::at(4, Reason::Short);
     assert_eq!(rt;
-        TextRef::end::<ItemFault>(&TWO.bytes[..9], 4).err(),
+        TextRef::end::<ItemFault>(&TWO[..9], 4).err(),
         Some(short)
     );
-    assert_eq!(rt; TextRef::end::<Undecided>(TWO.bytes, 4).ok(), Some(10));
-    assert_eq!(rt; TextRef::end::<Undecided>(&TWO.bytes[..9], 4).ok(), None);
+    assert_eq!(rt; TextRef::end::<Undecided>(TWO, 4).ok(), Some(10));
+    assert_eq!(rt; TextRef::end::<Undecided>(&TWO[..9], 4).ok(), None);
     Ok(())
 }
 
@@ -65,7 +63,7 @@ fn ends_of_lists(rt: HostRuntime) -> Result<(), Fail> {
     let stray = b"\0\0\0\x02\0\0\0\x02\xc3\xa4\0\0\0\x01\xc3";
     assert_eq!(rt; TextList::end::<Undecided>(plain, 0).ok(), Some(14));
     assert_eq!(rt; TextList::end::<Undecided>(&plain[..13], 0).ok(), None);
-    assert_eq!(rt; TextList::end::<Undecided>(TWO.bytes, 0).ok(), Some(14));
+    assert_eq!(rt; TextList::end::<Undecided>(TWO, 0).ok(), Some(14));
     assert_eq!(rt; TextList::end::<Undecided>(letters, 0).ok(), Some(14));
     assert_eq!(rt; TextList::end::<Undecided>(stray, 0).ok(), None);
     let short = ItemFault::at(10, Reason::Short);
@@ -105,14 +103,14 @@ fn ends_of_many(rt: HostRuntime) -> Result<(), Fail> {
 /// The elements of a list come in order, and are counted.
 #[test]
 fn listed(rt: HostRuntime) -> Result<(), Fail> {
-    let (list, end) = TextList::read_in(&TWO, 0)?;
+    let (list, end) = read_ref::<TextList>(TWO, 0)?;
     assert_eq!(rt; (list.is_null(), list.count(), end), (false, 2, 14));
     let mut items = list.items();
     assert_eq!(rt; items.size_hint(), (2, Some(2)));
     assert!(rt; matches!(items.next(), Some(TextRef::Full(_))));
     assert!(rt; matches!(items.next(), Some(TextRef::Null)));
     assert!(rt; items.next().is_none());
-    let (null, end) = TextList::read_in(&TWO, 10)?;
+    let (null, end) = read_ref::<TextList>(TWO, 10)?;
     assert_eq!(rt; (null.is_null(), null.count(), end), (true, 0, 14));
     Ok(())
 }
@@ -146,13 +144,11 @@ fn fault_in_words(rt: HostRuntime) -> Result<(), Fail> {
 /// The place of a fault is counted from the payload's beginning, through a pair within a pair.
 #[test]
 fn place_within_a_pair(rt: HostRuntime) {
-    let cut = Payload {
-        bytes: b"\0\x01\0\0\0\x02\0\0\0\x02/",
-    };
+    let cut = b"\0\x01\0\0\0\x02\0\0\0\x02/";
     let fault = ItemFault {
         place: 6,
         reason: Reason::Short,
     };
-    let answer = <(bool, (bool, TextList)) as Decode<Payload>>::read_in(&cut, 0);
+    let answer = read_ref::<(bool, (bool, TextList))>(cut, 0);
     assert_eq!(rt; answer.err(), Some(fault));
 }

@@ -6,7 +6,7 @@ use std::fmt::Debug;
 use std::process::Abort;
 use std::test::Fail;
 use zk_jute::{
-    Blob, Decode, ItemFault, Kept, List, Spell, Text, Wire, laws, read_flagged, reason_name,
+    Blob, ItemFault, List, Spell, Text, Wire, laws, read_flagged, reason_name,
 };
 use zk_records::{
     Acl, AclBody, AuthAsk, CheckAsk, ChildrenBody, ConnectRequest, ConnectResponse, CreateAsk,
@@ -42,10 +42,7 @@ fn again<T: Spell + Debug>(alloc: Global, value: &T, bytes: &[u8]) -> Result<Str
 }
 
 /// The value of the bytes, which is written again as they are, or what is wrong with them, in words.
-fn told<'a, T: Wire + Decode<Kept<'a>> + Debug>(
-    alloc: Global,
-    bytes: &'a [u8],
-) -> Result<String, Fail> {
+fn told<T: Wire + Debug>(alloc: Global, bytes: &[u8]) -> Result<String, Fail> {
     match T::read(alloc, bytes, 0) {
         Ok((value, _end)) => again(alloc, &value, bytes),
         Err(fault) => Ok(fault_told(alloc, &fault)?),
@@ -116,10 +113,7 @@ fn change_told(alloc: Global, name: &str, bytes: &[u8]) -> Result<String, Fail> 
 }
 
 /// The value and the boolean of the bytes, or what is wrong with them, in words.
-fn flagged_told<'a, T: Wire + Decode<Kept<'a>> + Debug>(
-    alloc: Global,
-    bytes: &'a [u8],
-) -> Result<String, Fail> {
+fn flagged_told<T: Wire + Debug>(alloc: Global, bytes: &[u8]) -> Result<String, Fail> {
     match read_flagged::<T>(alloc, bytes) {
         Ok(read) => again(alloc, &read, bytes),
         Err(fault) => Ok(fault_told(alloc, &fault)?),

@@ -1,6 +1,5 @@
 -- The results of a multi (ZooKeeper 3.4, MultiResponse): what each one spells, and for which parts they are.
 use Rattle.std.specs.Prelude.{◌≡◌, ◌≢◌, ℕ, ◌+◌, ℤ, pos, negsuc, false, List, [], ◌∷◌, ◌++◌, length, ◌⊎◌}
-use Rattle.std.specs.List.{flat_map}
 use Rattle.zk_jute.specs.declared.fault.Reason.{Reason}
 use Rattle.zk_jute.specs.declared.fault.Reason.TheVariants.{BadPart}
 use Rattle.zk_jute.specs.Item.{Int, Ustring, Item, AnInt, bytes_of, HaveBytes}

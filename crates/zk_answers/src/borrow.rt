@@ -12,7 +12,7 @@ use crate::frame::{ServerFrameOf, ServerRef};
 use crate::judge::{judge_event, judge_reply};
 use crate::known::{event_ref, known_reply};
 use zk_asks::Asked;
-use zk_jute::{ItemFault, Payload, read_ref, scan_flagged};
+use zk_jute::{ItemFault, read_ref, scan_flagged};
 use zk_records::{ConnectResponseRef, ReplyHeader};
 
 fn connected_in<'a>(payload: &'a [u8]) -> Result<ServerRef<'a>, ItemFault>
@@ -40,15 +40,15 @@ pub fn borrow_connected<'a>(payload: &'a [u8]) -> Result<ServerRef<'a>, ItemFaul
 fn reply_in<'a, F: Asked>(
     form: &F,
     head: &ReplyHeader,
-    src: &Payload<'a>,
+    payload: &'a [u8],
 ) -> Result<ServerRef<'a>, ItemFault>
-    requires head { (rest : List ℕ) × IsHead src.now.bytes.now head.now rest }
+    requires head { (rest : List ℕ) × IsHead payload.now head.now rest }
     requires reply { head.now.xid ≢ negsuc 0 }
-    ensures found { IfOk result (λ s. IsReplyTo (F.operation form.now) (F.part_ops form.now) s × IsSent s × (src.now.bytes.now ≡ sent.payload s)) }
-    ensures fault { IfErr result (IsSurelyTold (IsReplyFault (F.operation form.now) (F.part_ops form.now) src.now.bytes.now)) }
+    ensures found { IfOk result (λ s. IsReplyTo (F.operation form.now) (F.part_ops form.now) s × IsSent s × (payload.now ≡ sent.payload s)) }
+    ensures fault { IfErr result (IsSurelyTold (IsReplyFault (F.operation form.now) (F.part_ops form.now) payload.now)) }
 {
-    judge_reply::<F, ItemFault>(form, head, src.bytes)?;
-    Ok(known_reply::<true>(form.op(), src.bytes))
+    judge_reply::<F, ItemFault>(form, head, payload)?;
+    Ok(known_reply::<true>(form.op(), payload))
 }
 
 /// The reply to `form`, borrowed, with the header `head`, which was read from the payload. Decides as `borrow_reply` does,
@@ -67,16 +67,16 @@ pub fn borrow_reply_under<'a, F: Asked>(
     // Else the first case that applies is reported.
     ensures fault { IfErr result (IsSurelyTold (IsReplyFault (F.operation form.now) (F.part_ops form.now) payload.now)) }
 {
-    reply_in(form, head, &Payload { bytes: payload })
+    reply_in(form, head, payload)
 }
 
-fn whole_reply<'a, F: Asked>(form: &F, src: &Payload<'a>) -> Result<ServerRef<'a>, ItemFault>
-    requires { (header : records.ReplyHeader) (rest : List ℕ) → IsHead src.now.bytes.now header rest → header.xid ≢ negsuc 0 }
-    ensures found { IfOk result (λ s. IsReplyTo (F.operation form.now) (F.part_ops form.now) s × IsSent s × (src.now.bytes.now ≡ sent.payload s)) }
-    ensures fault { IfErr result (IsSurelyTold (IsReplyFault (F.operation form.now) (F.part_ops form.now) src.now.bytes.now)) }
+fn whole_reply<'a, F: Asked>(form: &F, payload: &'a [u8]) -> Result<ServerRef<'a>, ItemFault>
+    requires { (header : records.ReplyHeader) (rest : List ℕ) → IsHead payload.now header rest → header.xid ≢ negsuc 0 }
+    ensures found { IfOk result (λ s. IsReplyTo (F.operation form.now) (F.part_ops form.now) s × IsSent s × (payload.now ≡ sent.payload s)) }
+    ensures fault { IfErr result (IsSurelyTold (IsReplyFault (F.operation form.now) (F.part_ops form.now) payload.now)) }
 {
-    let (head, _) = read_ref::<_, ReplyHeader>(src, 0)?;
-    reply_in(form, &head, src)
+    let (head, _) = read_ref::<ReplyHeader>(payload, 0)?;
+    reply_in(form, &head, payload)
 }
 
 /// A reply to the request `form`, borrowed. Decides as `read_reply` does, allocates nothing, and never returns `NoMemory`.
@@ -90,18 +90,18 @@ pub fn borrow_reply<'a, F: Asked>(form: &F, payload: &'a [u8]) -> Result<ServerR
     // Else the first case that applies is reported.
     ensures fault { IfErr result (IsSurelyTold (IsReplyFault (F.operation form.now) (F.part_ops form.now) payload.now)) }
 {
-    whole_reply(form, &Payload { bytes: payload })
+    whole_reply(form, payload)
 }
 
 /// The event with the header `head`: what follows the header is judged.
-fn event_in<'a>(head: &ReplyHeader, src: &Payload<'a>) -> Result<ServerRef<'a>, ItemFault>
-    requires head { (rest : List ℕ) × IsHead src.now.bytes.now head.now rest }
+fn event_in<'a>(head: &ReplyHeader, payload: &'a [u8]) -> Result<ServerRef<'a>, ItemFault>
+    requires head { (rest : List ℕ) × IsHead payload.now head.now rest }
     requires event { head.now.xid ≡ negsuc 0 }
-    ensures found { IfOk result (λ s. IsEvent s × IsSent s × (src.now.bytes.now ≡ sent.payload s)) }
-    ensures fault { IfErr result (IsSurelyTold (IsEventFault src.now.bytes.now)) }
+    ensures found { IfOk result (λ s. IsEvent s × IsSent s × (payload.now ≡ sent.payload s)) }
+    ensures fault { IfErr result (IsSurelyTold (IsEventFault payload.now)) }
 {
-    judge_event::<ItemFault>(head, src.bytes)?;
-    Ok(event_ref(src.bytes))
+    judge_event::<ItemFault>(head, payload)?;
+    Ok(event_ref(payload))
 }
 
 /// An event, borrowed, with the header `head`, which was read from the payload. Decides as `borrow_event` does, and reads
@@ -119,16 +119,16 @@ pub fn borrow_event_under<'a>(
     // Else the first case that applies is reported.
     ensures fault { IfErr result (IsSurelyTold (IsEventFault payload.now)) }
 {
-    event_in(head, &Payload { bytes: payload })
+    event_in(head, payload)
 }
 
-fn whole_event<'a>(src: &Payload<'a>) -> Result<ServerRef<'a>, ItemFault>
-    requires { (header : records.ReplyHeader) (rest : List ℕ) → IsHead src.now.bytes.now header rest → header.xid ≡ negsuc 0 }
-    ensures found { IfOk result (λ s. IsEvent s × IsSent s × (src.now.bytes.now ≡ sent.payload s)) }
-    ensures fault { IfErr result (IsSurelyTold (IsEventFault src.now.bytes.now)) }
+fn whole_event<'a>(payload: &'a [u8]) -> Result<ServerRef<'a>, ItemFault>
+    requires { (header : records.ReplyHeader) (rest : List ℕ) → IsHead payload.now header rest → header.xid ≡ negsuc 0 }
+    ensures found { IfOk result (λ s. IsEvent s × IsSent s × (payload.now ≡ sent.payload s)) }
+    ensures fault { IfErr result (IsSurelyTold (IsEventFault payload.now)) }
 {
-    let (head, _) = read_ref::<_, ReplyHeader>(src, 0)?;
-    event_in(&head, src)
+    let (head, _) = read_ref::<ReplyHeader>(payload, 0)?;
+    event_in(&head, payload)
 }
 
 /// An event, borrowed. Decides as `read_event` does, allocates nothing, and never returns `NoMemory`. Its header, if it
@@ -142,5 +142,5 @@ pub fn borrow_event<'a>(payload: &'a [u8]) -> Result<ServerRef<'a>, ItemFault>
     // Else the first case that applies is reported.
     ensures fault { IfErr result (IsSurelyTold (IsEventFault payload.now)) }
 {
-    whole_event(&Payload { bytes: payload })
+    whole_event(payload)
 }

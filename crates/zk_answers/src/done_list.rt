@@ -13,9 +13,7 @@ ghost use Rattle.zk_answers.specs.Shown.{done_value};
 use crate::frame::{PartDoneOf, PartDoneRef};
 use crate::multi::{ResultMark, result_mark_of};
 use zk_asks::{Asked, is_end};
-use zk_jute::{
-    Ends, KnownIn, Member, Payload, Reason, Sequence, TextRef, Verdict, known_at, read_ref,
-};
+use zk_jute::{Ends, KnownIn, Member, Reason, Sequence, TextRef, Verdict, known_at, read_ref};
 use zk_records::{MultiHeader, PartOp, Stat, part_of};
 
 /// The results of a multi's parts, borrowed.
@@ -96,12 +94,11 @@ fn done_end<V: Verdict>(payload: &[u8], place: usize, op: PartOp) -> Result<usiz
     ensures fault { IfErr result (Says V.tells (IsDoneFaultAt op payload.now place)) }
     ensures within { IfOk result (λ end. end ≤ length payload.now) }
 {
-    let src = Payload { bytes: payload };
-    let (header, after) = V::on(read_ref::<_, MultiHeader>(&src, place))?;
+    let (header, after) = V::on(read_ref::<MultiHeader>(payload, place))?;
     match result_mark_of(&header, op) {
         ResultMark::Bad => Err(V::at(place, Reason::BadPart)),
         ResultMark::Error => {
-            let (number, end) = V::on(read_ref::<_, i32>(&src, after))?;
+            let (number, end) = V::on(read_ref::<i32>(payload, after))?;
             if number != header.err {
                 return Err(V::at(place, Reason::BadPart));
             }
@@ -128,7 +125,7 @@ pub(crate) fn results_end<F: Asked, V: Verdict>(
         let next = done_end::<V>(payload, at, op)?;
         at = next;
     }
-    let (header, end) = V::on(read_ref::<_, MultiHeader>(&Payload { bytes: payload }, at))?;
+    let (header, end) = V::on(read_ref::<MultiHeader>(payload, at))?;
     if !is_end(&header) {
         return Err(V::at(at, Reason::BadPart));
     }

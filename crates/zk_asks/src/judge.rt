@@ -10,7 +10,7 @@ use crate::ask_rows;
 use crate::codes::allowed;
 use crate::part_list::multi_end;
 use crate::request::MultiRef;
-use zk_jute::{Ends, Payload, Reason, Sequence, Verdict, read_ref};
+use zk_jute::{Ends, Reason, Sequence, Verdict, read_ref};
 use zk_records::{
     AuthAskRef, CreateAskRef, DeleteAskRef, Op, PathAskRef, Profile, RequestHeader, SetAclAskRef,
     SetDataAskRef, SetWatchesAskRef, WatchAskRef, op_of,
@@ -61,7 +61,7 @@ fn asked_head<V: Verdict>(profile: Profile, payload: &[u8]) -> Result<(i32, Op, 
     ensures fault { IfErr result (Says V.tells (IsSurelyTold (IsAskFault profile payload.now))) }
     ensures within { IfOk result (λ r. r.2 ≤ length payload.now) }
 {
-    let (header, place) = V::on(read_ref::<_, RequestHeader>(&Payload { bytes: payload }, 0))?;
+    let (header, place) = V::on(read_ref::<RequestHeader>(payload, 0))?;
     let Some(op) = op_of(profile, header.kind) else {
         return Err(V::at(4, Reason::UnknownOp));
     };

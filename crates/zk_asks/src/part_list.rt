@@ -14,7 +14,7 @@ ghost use Rattle.zk_asks.specs.Shown.{part_value};
 use crate::frame::{PartOf, PartRef};
 use crate::multi::{PartMark, part_mark_of};
 use crate::part_rows;
-use zk_jute::{Ends, KnownIn, Member, Payload, Reason, Sequence, Verdict, known_at, read_ref};
+use zk_jute::{Ends, KnownIn, Member, Reason, Sequence, Verdict, known_at, read_ref};
 use zk_records::{
     CheckAskRef, CreateAskRef, DeleteAskRef, MultiHeader, PartOp, SetDataAskRef, part_of,
 };
@@ -116,7 +116,7 @@ pub(crate) fn multi_end<V: Verdict>(payload: &[u8], place: usize) -> Result<(usi
     let mut count = 0;
     let mut at = place;
     loop {
-        let (header, after) = V::on(read_ref::<_, MultiHeader>(&Payload { bytes: payload }, at))?;
+        let (header, after) = V::on(read_ref::<MultiHeader>(payload, at))?;
         match part_mark_of(&header) {
             PartMark::Part(op) => {
                 let next = part_end::<V>(payload, after, op)?;

@@ -14,9 +14,7 @@ use crate::list::{show_count, show_null};
 use crate::name::*;
 use crate::show::Show;
 use std::marker::PhantomData;
-use zk_jute::{
-    BlobRef, Decode, Element, Form, ItemFault, Payload, Reason, Series, TextRef, int_at,
-};
+use zk_jute::{BlobRef, Element, Ends, Form, ItemFault, Reason, Series, TextRef, View, int_at};
 use zk_records::{AclRef, ConnectRequestRef, ConnectResponseRef, IdRef, Stat, borrowed, fields_of};
 
 /// What the fields came to, and the place after them; `None` if the next item isn't whole there.
@@ -76,7 +74,7 @@ impl<'a> Item for BlobRef<'a> {
 }
 
 /// Writes the field of one item, if it is whole there.
-fn walk_item<'a, T: Item + Decode<Payload<'a>>>(
+fn walk_item<'a, T: Item + Ends + View<'a>>(
     payload: &'a [u8],
     place: usize,
     name: u16,
@@ -87,11 +85,14 @@ fn walk_item<'a, T: Item + Decode<Payload<'a>>>(
     ensures walks { Walks at room.old (item_met name (items_at T.wired.layout payload.now place)) result room.new }
     ensures within { IfSome result.end (λ end. end ≤ length payload.now) }
 {
-    match T::decode(&Payload { bytes: payload }, place) {
-        Ok((item, end)) => Walked {
-            at: item.show(name, room, at),
-            end: Some(end),
-        },
+    match T::find::<ItemFault>(payload, place) {
+        Ok(_) => {
+            let (item, end) = T::view(payload, place);
+            Walked {
+                at: item.show(name, room, at),
+                end: Some(end),
+            }
+        }
         Err(_fault) => Walked { at, end: None },
     }
 }

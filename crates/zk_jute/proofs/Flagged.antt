@@ -10,7 +10,7 @@ use Rattle.zk_jute.specs.Layout.{Layout, Unfolds, IsValueOf}
 use Rattle.zk_jute.specs.Reading.{told_place}
 use Rattle.zk_jute.specs.Told.{StandsAt, IsReadAs, IsToldFault, IsTold}
 use Rattle.zk_jute.specs.Flagged.{flag_items, flag_layout, IsFlaggedFault, in_value, in_flag, behind_flag}
-use Rattle.zk_jute.proofs.Layouts.{bytes_only, bytes_both, have_parts, has_byte}
+use Rattle.zk_jute.proofs.Layouts.{bytes_only, bytes_both, have_both, have_parts, has_byte}
 use Rattle.zk_jute.proofs.Sequels.{Same, Sequel, sequel_same, sequel_not, stands_then, is_left}
 
 -- ---- what a reader refuses
@@ -41,6 +41,16 @@ refused_rest l src value flag middle place lt v s w t =
     inr (length (bytes_of (value ++ flag)), behind_flag src (drop place src) value flag v w both.0 (is_left src place lt), ap told_place told)
 
 pub ruleset refusals = (refused_value, refused_flag, refused_rest)
+
+flag_has : (flag : Option Bool) → HaveBytes (flag_items flag)
+flag_has None = tt
+flag_has (Some b) = (tt, tt)
+
+-- a value, and what all bytes after it are
+pub flagged_found : (l : Layout) (src : List ℕ) (value : List Item) (place : ℕ) (flag : Option Bool) → IsValueOf l value → StandsAt value src 0 place → drop place src ≡ bytes_of (flag_items flag)
+    → HaveBytes (value ++ flag_items flag) × (src ≡ bytes_of (value ++ flag_items flag))
+flagged_found l src value place flag v s e =
+    (have_both value (flag_items flag) v.1 (flag_has flag), s.0 ∙ ap (λ (b : List ℕ). bytes_of value ++ b) e ∙ sym (bytes_both value (flag_items flag)))
 
 -- ---- laws
 

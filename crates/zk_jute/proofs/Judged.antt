@@ -7,11 +7,11 @@ use Rattle.std.proofs.lemmas.Option.{IfSome_then}
 use Rattle.zk_jute.specs.declared.fault.ItemFault.{ItemFault}
 use Rattle.zk_jute.specs.Item.{Item, ACount, bytes_of, HaveBytes}
 use Rattle.zk_jute.specs.Layout.{Layout, End, Each, IsValueOf, ◌then◌}
-use Rattle.zk_jute.specs.Reading.{Fault, Read, Tells, Scans, Fails, told, end_of, read_map, size_at, times_at, items_at}
+use Rattle.zk_jute.specs.Reading.{Fault, Read, Tells, Fails, told, end_of, read_map, size_at, times_at, items_at}
 use Rattle.zk_jute.specs.Told.{StandsAt, HasSureFault}
 use Rattle.zk_jute.specs.Wired.{Wired, int, long}
 use Rattle.zk_jute.specs.Shown.{Stretch}
-use Rattle.zk_jute.specs.Verdict.{Says, Keeps, KeepsPlace, Judges, IsValueAt}
+use Rattle.zk_jute.specs.Verdict.{Says, KeepsPlace, Judges, IsValueAt}
 use Rattle.zk_jute.proofs.Steps.{IsBytes}
 use Rattle.zk_jute.proofs.Layouts.{items_found, items_again, have_parts}
 use Rattle.zk_jute.proofs.Fields.{end_map, int_is, long_is, fails_told, list_none, list_some, list_fails, elements_fail}
@@ -60,10 +60,6 @@ module _ {V : Type 0} (tells : V → Option ItemFault) where
     both_judged middle first (Err v) h = says_more _ _ (λ e. then_fails_later a b src place e middle first) v h
 
   -- ---- values of one layout, one after the other
-
-  pub ends_judged : (answer : Result ℕ ItemFault) (read : Read (List Item)) → Scans answer read → (result : Result ℕ V) → Keeps tells result answer → Judges tells result read
-  ends_judged answer read is (Ok end) k = subst (λ (a : Result ℕ ItemFault). Scans a read) k is
-  ends_judged answer read is (Err v) k = says_more _ _ (λ e same. subst (λ (a : Result ℕ ItemFault). Scans a read) same is) v k
 
   pub elements_refused : (at : ℕ → Read (List Item)) (count i place : ℕ) (total : Read (List Item)) (v : V) → i < count → Says tells (λ e. Fails e (at place)) v
       → IsScanning at count i place total → Says tells (λ e. Fails e total) v

@@ -1,12 +1,11 @@
 -- A list that lies in a payload shows what stands there.
-use Rattle.std.proofs.Common.{◌≡◌, ◌≤◌, ◌-◌, ℕ, zero, suc, List, [], ◌∷◌, ◌++◌, length, drop, Option, Some, None, Ok, Err, refl, sym, ap, subst, ◌∙◌, arith}
+use Rattle.std.proofs.Common.{◌≡◌, ◌≤◌, ℕ, zero, suc, List, [], ◌∷◌, ◌++◌, length, drop, Option, Some, None, Ok, Err, refl, sym, ap, subst, ◌∙◌, arith}
 use Rattle.std.specs.List.{flat_map}
 use Rattle.std.proofs.lemmas.List.{length-append, length-drop}
-use Rattle.zk_jute.specs.declared.fault.ItemFault.{ItemFault}
 use Rattle.zk_jute.specs.declared.value.Nullable.TheVariants as nullable
 use Rattle.zk_jute.specs.Item.{Item, ACount, bytes_of, HaveBytes}
 use Rattle.zk_jute.specs.Layout.{Layout, Each, End}
-use Rattle.zk_jute.specs.Reading.{Read, Fails, Refuses, ◌>>=◌, read_map, end_of, size_at, times_at, items_at}
+use Rattle.zk_jute.specs.Reading.{Read, ◌>>=◌, read_map, end_of, size_at, times_at, items_at}
 use Rattle.zk_jute.specs.Held.{Vector}
 use Rattle.zk_jute.specs.Told.{StandsAt}
 use Rattle.zk_jute.specs.Standing.{OneStands}
@@ -17,7 +16,7 @@ use Rattle.zk_jute.proofs.Layouts.{items_found, items_again, have_both}
 use Rattle.zk_jute.proofs.Sequels.{stands_then}
 use Rattle.zk_jute.proofs.Steps.{IsBytes}
 use Rattle.zk_jute.proofs.Stretches.{none_passed}
-use Rattle.zk_jute.proofs.Fields.{end_map, list_none, list_some, elements_fail, refuses_fails}
+use Rattle.zk_jute.proofs.Fields.{end_map, list_none, list_some}
 
 module _ {X : Type 0} (items : X → List Item) (at : ℕ → Read X) (read : ℕ → Read (List Item)) (is : (place : ℕ) → read place ≡ read_map items (at place)) where
   -- what reading them gives is what they show, and where it ends
@@ -92,7 +91,7 @@ abbrev items_read : Read (List Item) → List Item
 items_read (Ok x) = x.0
 items_read (Err f) = []
 
-one_read : (read : Read (List Item)) (x y : List Item) (m n : ℕ) → read ≡ Ok (x, m) → read ≡ Ok (y, n) → x ≡ y
+pub one_read : (read : Read (List Item)) (x y : List Item) (m n : ℕ) → read ≡ Ok (x, m) → read ≡ Ok (y, n) → x ≡ y
 one_read read x y m n a b = sym (ap items_read a) ∙ ap items_read b
 
 -- what is known of a list that stands somewhere, once its count is read
@@ -125,6 +124,3 @@ module _ {X : Type 0} (w : Wired X) (src : List ℕ) (at : ℕ → Read X) (is :
   list_is (Some n) start size v end have stands =
       let shown = list_shows w.layout w.items src at is n start end (times_end n start size v end (have, stands)) place size in
       (vector w).tells_apart (nullable.Full (values_at at n start)) v (one_read read _ _ end end shown (read_again v end (have, stands)))
-
-pub elements_refuse : (l : Layout) (src : List ℕ) (place n after : ℕ) (e : ItemFault) → size_at src place ≡ Ok (Some n, after) → Fails e (times_at (items_at l src) n after) → Refuses e (items_at (Each l End) src place)
-elements_refuse l src place n after e size h = refuses_fails e (items_at (Each l End) src place) (elements_fail l src place n after e size h)

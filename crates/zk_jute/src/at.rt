@@ -1,4 +1,4 @@
-//! `scan`, the end of a value at a place of a payload; `known_at` and `at`, values that are known to be at one.
+//! `read_ref` and `scan` judge a value at a place of a payload; `known_at` and `at` return one that is known to be there.
 ghost use Rattle.std.specs.Prelude.{◌≡◌, ◌≤◌, ℕ, length, IfOk, IfErr};
 ghost use Rattle.zk_jute.specs.Held.{Text, Blob, Vector};
 ghost use Rattle.zk_jute.specs.Item.{HaveBytes};
@@ -7,32 +7,51 @@ ghost use Rattle.zk_jute.specs.Told.{StandsAt, HasSureFault};
 ghost use Rattle.zk_jute.specs.Standing.{OneStands};
 ghost use Rattle.zk_jute.specs.Values.{text_items, blob_items, list_items};
 
-use crate::decode::Decode;
+use crate::ends::Ends;
 use crate::fault::ItemFault;
-use crate::origin::{KnownPayload, Payload};
 use crate::series::TextList;
 use crate::value::{BlobRef, TextRef};
+use crate::view::View;
+
+/// The value at `place` of `src`, and the place after it; nothing is allocated.
+///
+/// # Errors
+///
+/// The first fault from the left, its place counted from the beginning of `src`.
+#[inline(always)]
+pub fn read_ref<'a, T: View<'a> + Ends>(
+    src: &'a [u8],
+    place: usize,
+) -> Result<(T, usize), ItemFault>
+    requires { place ≤ length src.now }
+    ensures found { IfOk result (λ x. IsValueOf T.wired.layout (T.wired.items x.0) × StandsAt (T.wired.items x.0) src.now place x.1) }
+    ensures fault { IfErr result (HasSureFault (IsValueOf T.wired.layout) src.now place) }
+    ensures within { IfOk result (λ x. x.1 ≤ length src.now) }
+{
+    T::end::<ItemFault>(src, place)?;
+    Ok(T::view(src, place))
+}
 
 /// The place after the value at `place` of `src`; else the first fault from the left, its place counted from the
 /// beginning of `src`. Decides as `Wire::read` does, and allocates nothing: `T` is a borrowed type.
-pub fn scan<'a, T: Decode<Payload<'a>>>(src: &'a [u8], place: usize) -> Result<usize, ItemFault>
+pub fn scan<'a, T: View<'a> + Ends>(src: &'a [u8], place: usize) -> Result<usize, ItemFault>
     requires { place ≤ length src.now }
     ensures found { IfOk result (λ end. (x : T) × HaveBytes (T.wired.items x) × StandsAt (T.wired.items x) src.now place end) }
     ensures fault { IfErr result (HasSureFault (IsValueOf T.wired.layout) src.now place) }
     ensures within { IfOk result (λ end. end ≤ length src.now) }
 {
-    let (_, end) = T::read_in(&Payload { bytes: src }, place)?;
+    let (_, end) = read_ref::<T>(src, place)?;
     Ok(end)
 }
 
 /// The value that is known to be at `place` of `src`, and the place after it. It isn't judged again.
 #[inline(always)]
-pub fn known_at<'a, T: Decode<KnownPayload<'a>>>(src: &'a [u8], place: usize) -> (T, usize)
+pub fn known_at<'a, T: View<'a>>(src: &'a [u8], place: usize) -> (T, usize)
     requires place { place ≤ length src.now }
     requires stands { OneStands T.wired.items src.now place }
     ensures { (v : T) (end : ℕ) → HaveBytes (T.wired.items v) → StandsAt (T.wired.items v) src.now place end → result ≡ (v, end) }
 {
-    T::read_in(&KnownPayload { bytes: src }, place).unwrap()
+    T::view(src, place)
 }
 
 impl<'a> TextRef<'a> {

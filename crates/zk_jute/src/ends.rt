@@ -9,13 +9,12 @@ ghost use Rattle.zk_jute.specs.Values.{text_items};
 ghost use Rattle.zk_jute.specs.Wired.{ustring, buffer, vector};
 ghost use Rattle.zk_jute.specs.Ends.{IsUtf8Between, TextsIfUtf8, IsRunOfLowSize};
 
-use crate::decode::Form;
+use crate::form::Form;
 use crate::number::{bool_at, int_at, long_at};
-use crate::origin::Payload;
 use crate::run::{run_at, size_at, text_at};
-use crate::series::{Element, Series, elements_end};
+use crate::series::{Element, Series};
 use crate::utf8::is_long_text;
-use crate::value::{BlobRef, TextRef};
+use crate::value::{Blob, BlobRef, List, Text, TextRef};
 use crate::verdict::Verdict;
 
 /// How many bytes of a list's texts get one look: about as many, in whole texts.
@@ -82,13 +81,25 @@ impl Ends for bool {
     }
 }
 
+impl Ends for Text {
+    fn find<V: Verdict>(payload: &[u8], place: usize) -> Result<usize, V> {
+        TextRef::find(payload, place)
+    }
+}
+
 impl<'a> Ends for BlobRef<'a> {
     fn find<V: Verdict>(payload: &[u8], place: usize) -> Result<usize, V>
         requires { place ≤ length payload.now }
         ensures exact { Judges V.tells result (items_at buffer.layout payload.now place) }
         ensures within { IfOk result (λ end. end ≤ length payload.now) }
     {
-        V::behind(run_at::<false>(payload, place))
+        V::behind(run_at(payload, place))
+    }
+}
+
+impl Ends for Blob {
+    fn find<V: Verdict>(payload: &[u8], place: usize) -> Result<usize, V> {
+        BlobRef::find(payload, place)
     }
 }
 
@@ -163,7 +174,7 @@ fn next_text(payload: &[u8], from: usize, place: usize) -> Option<(usize, usize)
     if let Some(end) = low_end(payload, place) {
         return Some((from, end));
     }
-    let Ok((_, end)) = run_at::<false>(payload, place) else {
+    let Ok((_, end)) = run_at(payload, place) else {
         return None;
     };
     if are_text(payload, from, place) {
@@ -245,7 +256,7 @@ impl<'a> Ends for TextRef<'a> {
         ensures exact { Judges V.tells result (items_at ustring.layout payload.now place) }
         ensures within { IfOk result (λ end. end ≤ length payload.now) }
     {
-        V::behind(text_at::<false>(payload, place))
+        V::behind(text_at(payload, place))
     }
 
     fn find_all<V: Verdict>(payload: &[u8], count: usize, place: usize) -> Result<usize, V>
@@ -262,12 +273,21 @@ impl<'a> Ends for TextRef<'a> {
         }
         match V::silent() {
             Some(verdict) => Err(verdict),
-            None => V::on(elements_end::<Payload<'_>, TextRef<'_>>(
-                &Payload { bytes: payload },
-                count,
-                place,
-            )),
+            None => Text::find_all(payload, count, place),
         }
+    }
+}
+
+/// The place after the list at `place`, whose elements are each a `T`.
+fn list_end<T: Ends, V: Verdict>(payload: &[u8], place: usize) -> Result<usize, V>
+    requires { place ≤ length payload.now }
+    ensures exact { Judges V.tells result (items_at (vector T.wired).layout payload.now place) }
+    ensures within { IfOk result (λ end. end ≤ length payload.now) }
+{
+    let (count, start) = V::on(size_at(payload, place))?;
+    match count {
+        None => Ok(start),
+        Some(count) => T::find_all::<V>(payload, count, start),
     }
 }
 
@@ -277,10 +297,12 @@ impl<'a, R: Element + Ends> Ends for Series<'a, R> {
         ensures exact { Judges V.tells result (items_at (vector R.wired).layout payload.now place) }
         ensures within { IfOk result (λ end. end ≤ length payload.now) }
     {
-        let (count, start) = V::on(size_at(payload, place))?;
-        match count {
-            None => Ok(start),
-            Some(count) => R::find_all::<V>(payload, count, start),
-        }
+        list_end::<R, V>(payload, place)
+    }
+}
+
+impl<T: Ends> Ends for List<T> {
+    fn find<V: Verdict>(payload: &[u8], place: usize) -> Result<usize, V> {
+        list_end::<T, V>(payload, place)
     }
 }

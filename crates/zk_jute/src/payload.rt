@@ -1,18 +1,20 @@
 //! A payload that is a value, and then nothing or one boolean: those that open a connection.
 //!
 //! Old peers leave the boolean out (`ClientCnxnSocket.readConnectResult` of ZooKeeper 3.4).
-ghost use Rattle.std.specs.Prelude.{◌≡◌, ◌≢◌, Option, Bool, Ok, IfOk, IfErr};
+ghost use Rattle.std.specs.Prelude.{◌≡◌, ◌≢◌, ◌≤◌, Option, Bool, length, Ok, IfOk, IfErr};
 ghost use Rattle.zk_jute.specs.declared.fault.Reason.TheVariants.{NoMemory};
-ghost use Rattle.zk_jute.specs.Standing.{IsPlain, Known};
 ghost use Rattle.zk_jute.specs.Item.{bytes_of, HaveBytes};
-ghost use Rattle.zk_jute.specs.Told.{IsReadAs, IsTold, IsSurelyTold};
+ghost use Rattle.zk_jute.specs.Layout.{IsValueOf};
+ghost use Rattle.zk_jute.specs.Told.{StandsAt, IsReadAs, IsToldFault, IsTold, HasSureFault, IsSurelyTold};
 ghost use Rattle.zk_jute.specs.Flagged.{flag_items, flagged, IsFlaggedFault, OneIsFlagged};
 
-use crate::decode::{Decode, Form};
+use crate::at::read_ref;
+use crate::ends::Ends;
 use crate::fault::{ItemFault, Reason};
-use crate::origin::{Kept, KnownPayload, Origin, Payload};
+use crate::form::Form;
 use crate::output::Output;
-use crate::wire::Spell;
+use crate::view::View;
+use crate::wire::{Spell, Wire};
 use std::alloc::Global;
 
 impl Spell for Option<bool> {
@@ -26,19 +28,25 @@ impl Spell for Option<bool> {
     }
 }
 
+/// The value that was read at the beginning of `payload`, and the boolean after it, if there is one.
 #[tactic(auto, using(crate::proofs::Flagged::refusals))]
-fn flagged_of<P: Origin, T: Decode<P>>(src: &P) -> Result<(T, Option<bool>), ItemFault>
-    requires { Known P.knows (OneIsFlagged T.wired (P.payload src.now)) }
-    ensures found { IfOk result (λ x. HaveBytes (flagged T.wired x.0 x.1) × (P.payload src.now ≡ bytes_of (flagged T.wired x.0 x.1))) }
-    ensures fault { IfErr result (λ e. IsTold (IsFlaggedFault T.wired.layout (P.payload src.now)) e) }
-    ensures plain { IsPlain P.grows T.wired.layout → IfErr result (λ e. e.reason ≢ NoMemory) }
+fn with_flag<T: Form>(
+    payload: &[u8],
+    read: Result<(T, usize), ItemFault>,
+) -> Result<(T, Option<bool>), ItemFault>
+    requires found { IfOk read (λ x. IsValueOf T.wired.layout (T.wired.items x.0) × StandsAt (T.wired.items x.0) payload.now 0 x.1) }
+    requires fault { IfErr read (IsToldFault (IsValueOf T.wired.layout) payload.now 0) }
+    requires within { IfOk read (λ x. x.1 ≤ length payload.now) }
+    ensures found { IfOk result (λ x. HaveBytes (flagged T.wired x.0 x.1) × (payload.now ≡ bytes_of (flagged T.wired x.0 x.1))) }
+    ensures fault { IfErr result (λ e. IsTold (IsFlaggedFault T.wired.layout payload.now) e) }
+    ensures plain { IfErr read (HasSureFault (IsValueOf T.wired.layout) payload.now 0) → IfErr result (λ e. e.reason ≢ NoMemory) }
 {
-    let (value, place) = T::read_in(src, 0)?;
-    let end = src.payload().len();
+    let (value, place) = read?;
+    let end = payload.len();
     if place == end {
         return Ok((value, None));
     }
-    let (flag, place) = bool::read_in(src, place)?;
+    let (flag, place) = read_ref::<bool>(payload, place)?;
     if place < end {
         return Err(ItemFault::at(place, Reason::Trailing));
     }
@@ -50,10 +58,7 @@ fn flagged_of<P: Origin, T: Decode<P>>(src: &P) -> Result<(T, Option<bool>), Ite
 /// # Errors
 ///
 /// The first fault of the value or of the boolean; `Trailing` at bytes after the boolean; `NoMemory`.
-pub fn read_flagged<'a, T: Decode<Kept<'a>>>(
-    alloc: Global,
-    payload: &'a [u8],
-) -> Result<(T, Option<bool>), ItemFault>
+pub fn read_flagged<T: Wire>(alloc: Global, payload: &[u8]) -> Result<(T, Option<bool>), ItemFault>
     // What is read is the whole payload.
     ensures found { IfOk result (λ x. HaveBytes (flagged T.wired x.0 x.1) × (payload.now ≡ bytes_of (flagged T.wired x.0 x.1))) }
     // What has the form is read, unless memory is refused.
@@ -61,14 +66,11 @@ pub fn read_flagged<'a, T: Decode<Kept<'a>>>(
     // Else the first case that applies is reported, unless memory is refused.
     ensures fault { IfErr result (λ e. IsTold (IsFlaggedFault T.wired.layout payload.now) e) }
 {
-    flagged_of(&Kept {
-        alloc,
-        bytes: payload,
-    })
+    with_flag(payload, T::read(alloc, payload, 0))
 }
 
 /// The value that `payload` is, and the boolean after it, borrowed; errors as those of `read_flagged` but `NoMemory`.
-pub fn scan_flagged<'a, T: Decode<Payload<'a>>>(
+pub fn scan_flagged<'a, T: View<'a> + Ends>(
     payload: &'a [u8],
 ) -> Result<(T, Option<bool>), ItemFault>
     // What is read is the whole payload.
@@ -78,13 +80,18 @@ pub fn scan_flagged<'a, T: Decode<Payload<'a>>>(
     // Else the first case that applies is reported.
     ensures fault { IfErr result (IsSurelyTold (IsFlaggedFault T.wired.layout payload.now)) }
 {
-    flagged_of(&Payload { bytes: payload })
+    with_flag(payload, read_ref::<T>(payload, 0))
 }
 
 /// The value that `payload` is known to be, and the boolean after it, borrowed.
-pub fn known_flagged<'a, T: Decode<KnownPayload<'a>>>(payload: &'a [u8]) -> (T, Option<bool>)
+pub fn known_flagged<'a, T: View<'a>>(payload: &'a [u8]) -> (T, Option<bool>)
     requires { OneIsFlagged T.wired payload.now }
     ensures { (x : T) (flag : Option Bool) → HaveBytes (flagged T.wired x flag) → payload.now ≡ bytes_of (flagged T.wired x flag) → result ≡ (x, flag) }
 {
-    flagged_of(&KnownPayload { bytes: payload }).unwrap()
+    let (value, place) = T::view(payload, 0);
+    if place == payload.len() {
+        return (value, None);
+    }
+    let (flag, _) = bool::view(payload, place);
+    (value, Some(flag))
 }

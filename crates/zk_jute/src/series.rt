@@ -1,21 +1,19 @@
 //! `Series`: a list that is borrowed from a payload.
-ghost use Rattle.std.specs.Prelude.{◌≡◌, ◌≤◌, ◌↔◌, ℕ, List, length, refl, Ok, IsTrue, IsOk, IfOk};
+ghost use Rattle.std.specs.Prelude.{◌≡◌, ◌≤◌, ◌↔◌, ℕ, List, length, refl, Ok, IsTrue, IsOk};
 ghost use Rattle.zk_jute.specs.Held.{Text, Vector};
 ghost use Rattle.zk_jute.specs.Item.{HaveBytes};
 ghost use Rattle.zk_jute.specs.Told.{StandsAt};
-ghost use Rattle.zk_jute.specs.Reading.{Scans, items_at, read_map, times_at};
-ghost use Rattle.zk_jute.specs.Wired.{vector};
-ghost use Rattle.zk_jute.specs.Standing.{IsPlain, Known, OneStands};
+ghost use Rattle.zk_jute.specs.Reading.{end_of, items_at, read_map, times_at};
+ghost use Rattle.zk_jute.specs.Standing.{OneStands};
 ghost use Rattle.zk_jute.specs.Values.{text_items, list_items};
 ghost use Rattle.zk_jute.specs.Shown.{ListIsThere, IsNull, count_of, elements_of, list_at, text_value, text_is_value};
 
 use crate::at::known_at;
-use crate::decode::{Decode, Form, are_bytes};
-use crate::fault::ItemFault;
-use crate::origin::{Origin, PayloadOf};
-use crate::run::length_at;
+use crate::form::Form;
+use crate::run::known_size;
 use crate::sequence::{KnownIn, Member, Members, Sequence};
 use crate::value::{Nullable, TextRef};
+use crate::view::View;
 
 /// An element of a borrowed list: a member of one layout, its `Form`'s.
 pub trait Element: Form + Member {
@@ -111,48 +109,35 @@ pub fn known_list<'a, R: Element>(payload: &'a [u8], place: usize) -> Series<'a,
     requires stands { OneStands (list_items R.wired.items) payload.now place }
     ensures { (v : Vector R) (end : ℕ) → HaveBytes (list_items R.wired.items v) → StandsAt (list_items R.wired.items v) payload.now place end → result ≡ v }
 {
-    let (count, start) = length_at::<true>(payload, place).unwrap();
+    let (count, start) = known_size(payload, place);
     lying(payload, count, start)
 }
 
-#[tactic(auto, using(crate::proofs::Loops::scanning_goes_on, crate::proofs::Loops::scanning_ends))]
-/// The place after `count` elements of `src`, the first of them at `place`.
-pub(crate) fn elements_end<P: Origin, R: Decode<P>>(
-    src: &P,
-    count: usize,
-    place: usize,
-) -> Result<usize, ItemFault>
-    requires place { place ≤ length (P.payload src.now) }
-    requires plain { IsPlain P.grows R.wired.layout }
-    requires known { Known P.knows (IsOk (times_at (items_at R.wired.layout (P.payload src.now)) count place)) }
-    ensures exact { Scans result (times_at (items_at R.wired.layout (P.payload src.now)) count place) }
-    ensures within { IfOk result (λ after. after ≤ length (P.payload src.now)) }
+/// The place after the `count` elements that are known to be in `src` from `place` on.
+fn elements_end<'a, R: View<'a>>(src: &'a [u8], count: usize, place: usize) -> usize
+    requires place { place ≤ length src.now }
+    requires known { IsOk (times_at (items_at R.wired.layout src.now) count place) }
+    ensures exact { end_of (times_at (items_at R.wired.layout src.now) count place) ≡ Ok result }
+    ensures within { result ≤ length src.now }
 {
     let mut after = place;
     for _ in 0..count {
-        let (_, next) = R::decode(src, after)?;
+        let (_, next) = R::view(src, after);
         after = next;
     }
-    Ok(after)
+    after
 }
 
-impl<'a, R: Element> Form for Series<'a, R> {
-    ghost wired = { vector R.wired };
-}
-
-impl<'a, const KNOWN: bool, R: Element + Decode<PayloadOf<'a, KNOWN>>> Decode<PayloadOf<'a, KNOWN>>
-    for Series<'a, R> {
-    #[tactic(auto, using(crate::proofs::Fields::list_none, crate::proofs::Fields::list_fails, crate::proofs::Fields::list_refused, crate::proofs::Fields::elements_fail, crate::proofs::Lists::elements_refuse))]
+impl<'a, R: Element + View<'a>> View<'a> for Series<'a, R> {
+    #[tactic(auto, using(crate::proofs::Fields::list_none))]
     #[inline(always)]
-    fn decode(src: &PayloadOf<'a, KNOWN>, place: usize) -> Result<(Self, usize), ItemFault> {
-        // Where bytes are below 256, the elements that are read are there.
-        are_bytes(src.bytes);
-        let (count, start) = length_at::<KNOWN>(src.bytes, place)?;
+    fn view(src: &'a [u8], place: usize) -> (Self, usize) {
+        let (count, start) = known_size(src, place);
         match count {
-            None => Ok((lying(src.bytes, None, start), start)),
+            None => (lying(src, None, start), start),
             Some(count) => {
-                let end = elements_end::<PayloadOf<'a, KNOWN>, R>(src, count, start)?;
-                Ok((lying(src.bytes, Some(count), start), end))
+                let end = elements_end::<R>(src, count, start);
+                (lying(src, Some(count), start), end)
             }
         }
     }

@@ -1,16 +1,16 @@
 //! `Spell`, what is written as bytes; `Wire`, what is read and written alike; and their laws.
 //!
 //! They follow `BinaryInputArchive` and `BinaryOutputArchive` of ZooKeeper's jute.
-ghost use Rattle.std.specs.Prelude.{◌≡◌, ℕ, ◌≤◌, ◌<◌, ◌++◌, List, length, IfOk, IfErr, IsTrue, OnOk, OnErr};
+ghost use Rattle.std.specs.Prelude.{◌≡◌, ℕ, ◌≤◌, ◌<◌, ◌++◌, List, length, Ok, IsOk, IfOk, IfErr, IsTrue, OnOk, OnErr};
 ghost use Rattle.zk_jute.specs.Faults.{IsFault};
 ghost use Rattle.zk_jute.specs.Item.{Item, bytes_of, HaveBytes, Fit, IsSizeWithin};
 ghost use Rattle.zk_jute.specs.Layout.{IsValueOf, takes_none};
+ghost use Rattle.zk_jute.specs.Reading.{Fails, Gives, items_at};
 ghost use Rattle.zk_jute.specs.Told.{StandsAt, IsReadAs, IsToldFault, HasSureFault};
 ghost use Rattle.zk_jute.specs.Once.{HaveOneFault, IsReadFirst, BeginAlike};
 
-use crate::decode::{Decode, Form};
+use crate::ends::Ends;
 use crate::fault::ItemFault;
-use crate::origin::Kept;
 use crate::output::{Full, Output, Room};
 use std::alloc::{AllocError, Global};
 
@@ -55,22 +55,25 @@ pub trait Spell {
 }
 
 /// A value of jute: a primitive, a list or a record; what is written of it is what is read.
-pub trait Wire: Spell + Form {
+pub trait Wire: Spell + Ends {
+    /// The step of `read` that each impl writes: a copy of the value that is known to be at `place` of `src`, and the
+    /// place after it.
+    fn copied(alloc: Global, src: &[u8], place: usize) -> Result<(Self, usize), AllocError>
+        requires place { place ≤ length src.now }
+        requires known { IsOk (items_at Self.wired.layout src.now place) }
+        ensures exact { IfOk result (λ x. items_at Self.wired.layout src.now place ≡ Ok (Self.wired.items x.0, x.1)) }
+        ensures plain { IsTrue (takes_none Self.wired.layout) → IsOk result }
+        ensures within { IfOk result (λ x. x.1 ≤ length src.now) };
+
     /// What is written of a value is its items.
-    ghost written: { Self.items ≡ Self.wired.items };
+    ghost written: { Self.Spell.items ≡ Self.wired.items };
 
     /// The value at `place` of `src`, and the place after it.
     ///
     /// # Errors
     ///
     /// The first fault from the left, its place counted from the beginning of `src`; `NoMemory`.
-    final fn read<'a>(
-        alloc: Global,
-        src: &'a [u8],
-        place: usize,
-    ) -> Result<(Self, usize), ItemFault>
-    where
-        Self: Decode<Kept<'a>>,
+    final fn read(alloc: Global, src: &[u8], place: usize) -> Result<(Self, usize), ItemFault>
         requires { place ≤ length src.now }
         // What is read is there, each byte of it.
         ensures found { IfOk result (λ x. IsValueOf Self.wired.layout (Self.wired.items x.0) × StandsAt (Self.wired.items x.0) src.now place x.1) }
@@ -82,8 +85,20 @@ pub trait Wire: Spell + Form {
         ensures plain { IsTrue (takes_none Self.wired.layout) → IfErr result (HasSureFault (IsValueOf Self.wired.layout) src.now place) }
         ensures within { IfOk result (λ x. x.1 ≤ length src.now) }
     {
-        Self::read_in(&Kept { alloc, bytes: src }, place)
+        copy_at(alloc, src, place)
     }
+}
+
+/// The value at `place` of `src`, judged and then copied, and the place after it.
+#[tactic(auto, using(crate::proofs::Fields::refuses_fails, crate::proofs::Fields::refuses_memory))]
+fn copy_at<T: Wire>(alloc: Global, src: &[u8], place: usize) -> Result<(T, usize), ItemFault>
+    requires { place ≤ length src.now }
+    ensures exact { Gives (λ x. (T.wired.items x.0, x.1)) result (items_at T.wired.layout src.now place) }
+    ensures plain { IsTrue (takes_none T.wired.layout) → IfErr result (λ e. Fails e (items_at T.wired.layout src.now place)) }
+    ensures within { IfOk result (λ x. x.1 ≤ length src.now) }
+{
+    T::find::<ItemFault>(src, place)?;
+    Ok(T::copied(alloc, src, place)?)
 }
 
 /// The laws of each type's values as bytes; the function does nothing.

@@ -7,11 +7,12 @@ ghost use Rattle.zk_records.specs.Held as held;
 ghost use Rattle.zk_records.specs.Records.{id, acl, id_of, acl_of};
 ghost use Rattle.zk_records.specs.Shown.{acl_value, acl_is_value};
 
-use crate::fields::{decode, ends, held, pairs};
+use crate::fields::{copied, ends, held, pairs, view};
 use crate::fields_of;
+use std::alloc::{AllocError, Global};
 use zk_jute::{
-    Decode, Element, Ends, Form, ItemFault, KnownIn, Member, Origin, Output, Series, Spell, Text,
-    TextRef, Verdict, Wire, known_at,
+    Element, Ends, Form, KnownIn, Member, Output, Series, Spell, Text, TextRef, Verdict, View,
+    Wire, known_at,
 };
 
 /// Someone under a scheme of authentication: `Id`.
@@ -41,9 +42,9 @@ impl<T: Form> Form for IdOf<T> {
     ghost wired = { id_of T.wired };
 }
 
-impl<P: Origin, T: Decode<P>> Decode<P> for IdOf<T> {
-    fn decode(src: &P, place: usize) -> Result<(Self, usize), ItemFault> {
-        fields_of!(Id, decode, src, place, IdOf)
+impl<'a, T: View<'a>> View<'a> for IdOf<T> {
+    fn view(src: &'a [u8], place: usize) -> (Self, usize) {
+        fields_of!(Id, view, src, place, IdOf)
     }
 }
 
@@ -56,6 +57,10 @@ impl<T: Ends> Ends for IdOf<T> {
 
 impl Wire for Id {
     ghost written = { refl };
+
+    fn copied(alloc: Global, src: &[u8], place: usize) -> Result<(Self, usize), AllocError> {
+        fields_of!(Id, copied, alloc, src, place, IdOf)
+    }
 }
 
 /// Someone's rights: `ACL`.
@@ -85,9 +90,9 @@ impl<W: Form> Form for AclOf<W> {
     ghost wired = { acl_of W.wired };
 }
 
-impl<P: Origin, W: Decode<P>> Decode<P> for AclOf<W> {
-    fn decode(src: &P, place: usize) -> Result<(Self, usize), ItemFault> {
-        fields_of!(Acl, decode, src, place, AclOf)
+impl<'a, W: View<'a>> View<'a> for AclOf<W> {
+    fn view(src: &'a [u8], place: usize) -> (Self, usize) {
+        fields_of!(Acl, view, src, place, AclOf)
     }
 }
 
@@ -100,6 +105,10 @@ impl<W: Ends> Ends for AclOf<W> {
 
 impl Wire for Acl {
     ghost written = { refl };
+
+    fn copied(alloc: Global, src: &[u8], place: usize) -> Result<(Self, usize), AllocError> {
+        fields_of!(Acl, copied, alloc, src, place, AclOf)
+    }
 }
 
 impl<'a> Member for AclRef<'a> {

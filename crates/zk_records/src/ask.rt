@@ -6,12 +6,10 @@ ghost use Rattle.std.specs.Prelude.{◌≡◌, refl};
 ghost use Rattle.zk_records.specs.Records.{create_ask, delete_ask, set_data_ask, set_acl_ask, check_ask, create_ask_of, delete_ask_of, set_data_ask_of, set_acl_ask_of, check_ask_of};
 
 use crate::acl::{Acl, AclList};
-use crate::fields::{decode, ends, held, pairs};
+use crate::fields::{copied, ends, held, pairs, view};
 use crate::fields_of;
-use zk_jute::{
-    Blob, BlobRef, Decode, Ends, Form, ItemFault, List, Origin, Output, Spell, Text, TextRef,
-    Verdict, Wire,
-};
+use std::alloc::{AllocError, Global};
+use zk_jute::{Blob, BlobRef, Ends, Form, List, Output, Spell, Text, TextRef, Verdict, View, Wire};
 
 /// Creates a node: `CreateRequest`.
 #[derive(Debug, Drop)]
@@ -44,10 +42,10 @@ impl<T: Form, B: Form, A: Form> Form for CreateAskOf<T, B, A> {
     ghost wired = { create_ask_of T.wired B.wired A.wired };
 }
 
-impl<P: Origin, T: Decode<P>, B: Decode<P>, A: Decode<P>> Decode<P> for CreateAskOf<T, B, A> {
+impl<'a, T: View<'a>, B: View<'a>, A: View<'a>> View<'a> for CreateAskOf<T, B, A> {
     #[inline(always)]
-    fn decode(src: &P, place: usize) -> Result<(Self, usize), ItemFault> {
-        fields_of!(CreateAsk, decode, src, place, CreateAskOf)
+    fn view(src: &'a [u8], place: usize) -> (Self, usize) {
+        fields_of!(CreateAsk, view, src, place, CreateAskOf)
     }
 }
 
@@ -60,6 +58,10 @@ impl<T: Ends, B: Ends, A: Ends> Ends for CreateAskOf<T, B, A> {
 
 impl Wire for CreateAsk {
     ghost written = { refl };
+
+    fn copied(alloc: Global, src: &[u8], place: usize) -> Result<(Self, usize), AllocError> {
+        fields_of!(CreateAsk, copied, alloc, src, place, CreateAskOf)
+    }
 }
 
 /// Deletes a node: `DeleteRequest`.
@@ -89,10 +91,10 @@ impl<T: Form> Form for DeleteAskOf<T> {
     ghost wired = { delete_ask_of T.wired };
 }
 
-impl<P: Origin, T: Decode<P>> Decode<P> for DeleteAskOf<T> {
+impl<'a, T: View<'a>> View<'a> for DeleteAskOf<T> {
     #[inline(always)]
-    fn decode(src: &P, place: usize) -> Result<(Self, usize), ItemFault> {
-        fields_of!(DeleteAsk, decode, src, place, DeleteAskOf)
+    fn view(src: &'a [u8], place: usize) -> (Self, usize) {
+        fields_of!(DeleteAsk, view, src, place, DeleteAskOf)
     }
 }
 
@@ -105,6 +107,10 @@ impl<T: Ends> Ends for DeleteAskOf<T> {
 
 impl Wire for DeleteAsk {
     ghost written = { refl };
+
+    fn copied(alloc: Global, src: &[u8], place: usize) -> Result<(Self, usize), AllocError> {
+        fields_of!(DeleteAsk, copied, alloc, src, place, DeleteAskOf)
+    }
 }
 
 /// Sets a node's data: `SetDataRequest`.
@@ -136,10 +142,10 @@ impl<T: Form, B: Form> Form for SetDataAskOf<T, B> {
     ghost wired = { set_data_ask_of T.wired B.wired };
 }
 
-impl<P: Origin, T: Decode<P>, B: Decode<P>> Decode<P> for SetDataAskOf<T, B> {
+impl<'a, T: View<'a>, B: View<'a>> View<'a> for SetDataAskOf<T, B> {
     #[inline(always)]
-    fn decode(src: &P, place: usize) -> Result<(Self, usize), ItemFault> {
-        fields_of!(SetDataAsk, decode, src, place, SetDataAskOf)
+    fn view(src: &'a [u8], place: usize) -> (Self, usize) {
+        fields_of!(SetDataAsk, view, src, place, SetDataAskOf)
     }
 }
 
@@ -152,6 +158,10 @@ impl<T: Ends, B: Ends> Ends for SetDataAskOf<T, B> {
 
 impl Wire for SetDataAsk {
     ghost written = { refl };
+
+    fn copied(alloc: Global, src: &[u8], place: usize) -> Result<(Self, usize), AllocError> {
+        fields_of!(SetDataAsk, copied, alloc, src, place, SetDataAskOf)
+    }
 }
 
 /// Sets a node's access list: `SetACLRequest`.
@@ -183,10 +193,10 @@ impl<T: Form, A: Form> Form for SetAclAskOf<T, A> {
     ghost wired = { set_acl_ask_of T.wired A.wired };
 }
 
-impl<P: Origin, T: Decode<P>, A: Decode<P>> Decode<P> for SetAclAskOf<T, A> {
+impl<'a, T: View<'a>, A: View<'a>> View<'a> for SetAclAskOf<T, A> {
     #[inline(always)]
-    fn decode(src: &P, place: usize) -> Result<(Self, usize), ItemFault> {
-        fields_of!(SetAclAsk, decode, src, place, SetAclAskOf)
+    fn view(src: &'a [u8], place: usize) -> (Self, usize) {
+        fields_of!(SetAclAsk, view, src, place, SetAclAskOf)
     }
 }
 
@@ -199,6 +209,10 @@ impl<T: Ends, A: Ends> Ends for SetAclAskOf<T, A> {
 
 impl Wire for SetAclAsk {
     ghost written = { refl };
+
+    fn copied(alloc: Global, src: &[u8], place: usize) -> Result<(Self, usize), AllocError> {
+        fields_of!(SetAclAsk, copied, alloc, src, place, SetAclAskOf)
+    }
 }
 
 /// Checks a node's version, within a multi: `CheckVersionRequest`.
@@ -228,10 +242,10 @@ impl<T: Form> Form for CheckAskOf<T> {
     ghost wired = { check_ask_of T.wired };
 }
 
-impl<P: Origin, T: Decode<P>> Decode<P> for CheckAskOf<T> {
+impl<'a, T: View<'a>> View<'a> for CheckAskOf<T> {
     #[inline(always)]
-    fn decode(src: &P, place: usize) -> Result<(Self, usize), ItemFault> {
-        fields_of!(CheckAsk, decode, src, place, CheckAskOf)
+    fn view(src: &'a [u8], place: usize) -> (Self, usize) {
+        fields_of!(CheckAsk, view, src, place, CheckAskOf)
     }
 }
 
@@ -244,4 +258,8 @@ impl<T: Ends> Ends for CheckAskOf<T> {
 
 impl Wire for CheckAsk {
     ghost written = { refl };
+
+    fn copied(alloc: Global, src: &[u8], place: usize) -> Result<(Self, usize), AllocError> {
+        fields_of!(CheckAsk, copied, alloc, src, place, CheckAskOf)
+    }
 }

@@ -5,12 +5,12 @@ ghost use Rattle.std.specs.Prelude.{◌≡◌, refl};
 ghost use Rattle.zk_records.specs.Records.{data_body, acl_body, children_body, create_body, data_body_of, acl_body_of, children_body_of, create_body_of};
 
 use crate::acl::{Acl, AclList};
-use crate::fields::{decode, ends, held, pairs};
+use crate::fields::{copied, ends, held, pairs, view};
 use crate::fields_of;
 use crate::stat::Stat;
+use std::alloc::{AllocError, Global};
 use zk_jute::{
-    Blob, BlobRef, Decode, Ends, Form, ItemFault, List, Origin, Output, Spell, Text, TextList,
-    TextRef, Verdict, Wire,
+    Blob, BlobRef, Ends, Form, List, Output, Spell, Text, TextList, TextRef, Verdict, View, Wire,
 };
 
 /// A node's data, and its `Stat`: `GetDataResponse`.
@@ -40,10 +40,10 @@ impl<B: Form> Form for DataBodyOf<B> {
     ghost wired = { data_body_of B.wired };
 }
 
-impl<P: Origin, B: Decode<P>> Decode<P> for DataBodyOf<B> {
+impl<'a, B: View<'a>> View<'a> for DataBodyOf<B> {
     #[inline(always)]
-    fn decode(src: &P, place: usize) -> Result<(Self, usize), ItemFault> {
-        fields_of!(DataBody, decode, src, place, DataBodyOf)
+    fn view(src: &'a [u8], place: usize) -> (Self, usize) {
+        fields_of!(DataBody, view, src, place, DataBodyOf)
     }
 }
 
@@ -56,6 +56,10 @@ impl<B: Ends> Ends for DataBodyOf<B> {
 
 impl Wire for DataBody {
     ghost written = { refl };
+
+    fn copied(alloc: Global, src: &[u8], place: usize) -> Result<(Self, usize), AllocError> {
+        fields_of!(DataBody, copied, alloc, src, place, DataBodyOf)
+    }
 }
 
 /// A node's access list, and its `Stat`: `GetACLResponse`.
@@ -85,10 +89,10 @@ impl<A: Form> Form for AclBodyOf<A> {
     ghost wired = { acl_body_of A.wired };
 }
 
-impl<P: Origin, A: Decode<P>> Decode<P> for AclBodyOf<A> {
+impl<'a, A: View<'a>> View<'a> for AclBodyOf<A> {
     #[inline(always)]
-    fn decode(src: &P, place: usize) -> Result<(Self, usize), ItemFault> {
-        fields_of!(AclBody, decode, src, place, AclBodyOf)
+    fn view(src: &'a [u8], place: usize) -> (Self, usize) {
+        fields_of!(AclBody, view, src, place, AclBodyOf)
     }
 }
 
@@ -101,6 +105,10 @@ impl<A: Ends> Ends for AclBodyOf<A> {
 
 impl Wire for AclBody {
     ghost written = { refl };
+
+    fn copied(alloc: Global, src: &[u8], place: usize) -> Result<(Self, usize), AllocError> {
+        fields_of!(AclBody, copied, alloc, src, place, AclBodyOf)
+    }
 }
 
 /// The names of a node's children, and its `Stat`: `GetChildren2Response`.
@@ -130,10 +138,10 @@ impl<L: Form> Form for ChildrenBodyOf<L> {
     ghost wired = { children_body_of L.wired };
 }
 
-impl<P: Origin, L: Decode<P>> Decode<P> for ChildrenBodyOf<L> {
+impl<'a, L: View<'a>> View<'a> for ChildrenBodyOf<L> {
     #[inline(always)]
-    fn decode(src: &P, place: usize) -> Result<(Self, usize), ItemFault> {
-        fields_of!(ChildrenBody, decode, src, place, ChildrenBodyOf)
+    fn view(src: &'a [u8], place: usize) -> (Self, usize) {
+        fields_of!(ChildrenBody, view, src, place, ChildrenBodyOf)
     }
 }
 
@@ -146,6 +154,10 @@ impl<L: Ends> Ends for ChildrenBodyOf<L> {
 
 impl Wire for ChildrenBody {
     ghost written = { refl };
+
+    fn copied(alloc: Global, src: &[u8], place: usize) -> Result<(Self, usize), AllocError> {
+        fields_of!(ChildrenBody, copied, alloc, src, place, ChildrenBodyOf)
+    }
 }
 
 /// A new node's path, and its `Stat`: `Create2Response`.
@@ -175,10 +187,10 @@ impl<T: Form> Form for CreateBodyOf<T> {
     ghost wired = { create_body_of T.wired };
 }
 
-impl<P: Origin, T: Decode<P>> Decode<P> for CreateBodyOf<T> {
+impl<'a, T: View<'a>> View<'a> for CreateBodyOf<T> {
     #[inline(always)]
-    fn decode(src: &P, place: usize) -> Result<(Self, usize), ItemFault> {
-        fields_of!(CreateBody, decode, src, place, CreateBodyOf)
+    fn view(src: &'a [u8], place: usize) -> (Self, usize) {
+        fields_of!(CreateBody, view, src, place, CreateBodyOf)
     }
 }
 
@@ -191,4 +203,8 @@ impl<T: Ends> Ends for CreateBodyOf<T> {
 
 impl Wire for CreateBody {
     ghost written = { refl };
+
+    fn copied(alloc: Global, src: &[u8], place: usize) -> Result<(Self, usize), AllocError> {
+        fields_of!(CreateBody, copied, alloc, src, place, CreateBodyOf)
+    }
 }

@@ -2,9 +2,10 @@
 ghost use Rattle.std.specs.Prelude.{◌≡◌, refl};
 ghost use Rattle.zk_records.specs.Records.{connect_request, connect_response, connect_request_of, connect_response_of};
 
-use crate::fields::{decode, pairs};
+use crate::fields::{copied, ends, held, pairs, view};
 use crate::fields_of;
-use zk_jute::{Blob, BlobRef, Decode, Form, ItemFault, Origin, Output, Spell, Wire};
+use std::alloc::{AllocError, Global};
+use zk_jute::{Blob, BlobRef, Ends, Form, Output, Spell, Verdict, View, Wire};
 
 /// What a client asks a session with: `ConnectRequest`.
 #[derive(Debug, Drop)]
@@ -39,14 +40,25 @@ impl<B: Form> Form for ConnectRequestOf<B> {
     ghost wired = { connect_request_of B.wired };
 }
 
-impl<P: Origin, B: Decode<P>> Decode<P> for ConnectRequestOf<B> {
-    fn decode(src: &P, place: usize) -> Result<(Self, usize), ItemFault> {
-        fields_of!(ConnectRequest, decode, src, place, ConnectRequestOf)
+impl<'a, B: View<'a>> View<'a> for ConnectRequestOf<B> {
+    fn view(src: &'a [u8], place: usize) -> (Self, usize) {
+        fields_of!(ConnectRequest, view, src, place, ConnectRequestOf)
+    }
+}
+
+impl<B: Ends> Ends for ConnectRequestOf<B> {
+    #[inline(always)]
+    fn find<V: Verdict>(payload: &[u8], place: usize) -> Result<usize, V> {
+        fields_of!(ConnectRequest, ends, payload, place)
     }
 }
 
 impl Wire for ConnectRequest {
     ghost written = { refl };
+
+    fn copied(alloc: Global, src: &[u8], place: usize) -> Result<(Self, usize), AllocError> {
+        fields_of!(ConnectRequest, copied, alloc, src, place, ConnectRequestOf)
+    }
 }
 
 /// What a server grants a session with: `ConnectResponse`.
@@ -80,12 +92,30 @@ impl<B: Form> Form for ConnectResponseOf<B> {
     ghost wired = { connect_response_of B.wired };
 }
 
-impl<P: Origin, B: Decode<P>> Decode<P> for ConnectResponseOf<B> {
-    fn decode(src: &P, place: usize) -> Result<(Self, usize), ItemFault> {
-        fields_of!(ConnectResponse, decode, src, place, ConnectResponseOf)
+impl<'a, B: View<'a>> View<'a> for ConnectResponseOf<B> {
+    fn view(src: &'a [u8], place: usize) -> (Self, usize) {
+        fields_of!(ConnectResponse, view, src, place, ConnectResponseOf)
+    }
+}
+
+impl<B: Ends> Ends for ConnectResponseOf<B> {
+    #[inline(always)]
+    fn find<V: Verdict>(payload: &[u8], place: usize) -> Result<usize, V> {
+        fields_of!(ConnectResponse, ends, payload, place)
     }
 }
 
 impl Wire for ConnectResponse {
     ghost written = { refl };
+
+    fn copied(alloc: Global, src: &[u8], place: usize) -> Result<(Self, usize), AllocError> {
+        fields_of!(
+            ConnectResponse,
+            copied,
+            alloc,
+            src,
+            place,
+            ConnectResponseOf
+        )
+    }
 }

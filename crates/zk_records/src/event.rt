@@ -2,9 +2,10 @@
 ghost use Rattle.std.specs.Prelude.{◌≡◌, refl};
 ghost use Rattle.zk_records.specs.Records.{watcher_event, watcher_event_of};
 
-use crate::fields::{decode, ends, held, pairs};
+use crate::fields::{copied, ends, held, pairs, view};
 use crate::fields_of;
-use zk_jute::{Decode, Ends, Form, ItemFault, Origin, Output, Spell, Text, TextRef, Verdict, Wire};
+use std::alloc::{AllocError, Global};
+use zk_jute::{Ends, Form, Output, Spell, Text, TextRef, Verdict, View, Wire};
 
 /// A change that a watch saw: `WatcherEvent`.
 #[derive(Debug, Drop)]
@@ -35,9 +36,9 @@ impl<T: Form> Form for WatcherEventOf<T> {
     ghost wired = { watcher_event_of T.wired };
 }
 
-impl<P: Origin, T: Decode<P>> Decode<P> for WatcherEventOf<T> {
-    fn decode(src: &P, place: usize) -> Result<(Self, usize), ItemFault> {
-        fields_of!(WatcherEvent, decode, src, place, WatcherEventOf)
+impl<'a, T: View<'a>> View<'a> for WatcherEventOf<T> {
+    fn view(src: &'a [u8], place: usize) -> (Self, usize) {
+        fields_of!(WatcherEvent, view, src, place, WatcherEventOf)
     }
 }
 
@@ -50,4 +51,8 @@ impl<T: Ends> Ends for WatcherEventOf<T> {
 
 impl Wire for WatcherEvent {
     ghost written = { refl };
+
+    fn copied(alloc: Global, src: &[u8], place: usize) -> Result<(Self, usize), AllocError> {
+        fields_of!(WatcherEvent, copied, alloc, src, place, WatcherEventOf)
+    }
 }

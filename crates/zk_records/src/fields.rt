@@ -107,12 +107,20 @@ macro_rules! held {
     (id) => { W };
 }
 
-/// The body of `decode` for the record `R`: `fields_of!(R, decode, src, place, R)`.
-macro_rules! decode {
-    ($src:ident, $place:ident, $record:ident: $($field:ident $name:ident $kind:ident),+) => {
-        match Decode::decode($src, $place) {
+/// The body of `view` for the record `R`: `fields_of!(R, view, src, place, R)`.
+macro_rules! view {
+    ($src:ident, $place:ident, $record:ident: $($field:ident $name:ident $kind:ident),+) => {{
+        let (pairs!(let: $($field $name $kind),+), place) = View::view($src, $place);
+        ($record { $($field),+ }, place)
+    }};
+}
+
+/// The body of `copied`: `fields_of!(R, copied, alloc, src, place, R)`.
+macro_rules! copied {
+    ($alloc:ident, $src:ident, $place:ident, $record:ident: $($field:ident $name:ident $kind:ident),+) => {
+        match Wire::copied($alloc, $src, $place) {
             Ok((pairs!(let: $($field $name $kind),+), place)) => Ok(($record { $($field),+ }, place)),
-            Err(fault) => Err(fault),
+            Err(error) => Err(error),
         }
     };
 }
@@ -131,8 +139,9 @@ macro_rules! own {
     };
 }
 
-pub(crate) use decode;
+pub(crate) use copied;
 pub(crate) use ends;
 pub(crate) use held;
 pub(crate) use own;
 pub(crate) use pairs;
+pub(crate) use view;

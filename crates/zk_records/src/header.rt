@@ -4,9 +4,10 @@
 ghost use Rattle.std.specs.Prelude.{◌≡◌, refl};
 ghost use Rattle.zk_records.specs.Records.{request_header, reply_header, multi_header};
 
-use crate::fields::{decode, pairs};
+use crate::fields::{copied, ends, held, pairs, view};
 use crate::fields_of;
-use zk_jute::{Decode, Form, ItemFault, Origin, Output, Spell, Wire};
+use std::alloc::{AllocError, Global};
+use zk_jute::{Ends, Form, Output, Spell, Verdict, View, Wire};
 
 /// The header of each request: `RequestHeader`, 8 bytes.
 #[derive(Debug, Drop)]
@@ -29,15 +30,26 @@ impl Form for RequestHeader {
     ghost wired = { request_header };
 }
 
-impl<P: Origin> Decode<P> for RequestHeader {
+impl<'a> View<'a> for RequestHeader {
     #[inline(always)]
-    fn decode(src: &P, place: usize) -> Result<(Self, usize), ItemFault> {
-        fields_of!(RequestHeader, decode, src, place, RequestHeader)
+    fn view(src: &'a [u8], place: usize) -> (Self, usize) {
+        fields_of!(RequestHeader, view, src, place, RequestHeader)
+    }
+}
+
+impl Ends for RequestHeader {
+    #[inline(always)]
+    fn find<V: Verdict>(payload: &[u8], place: usize) -> Result<usize, V> {
+        fields_of!(RequestHeader, ends, payload, place)
     }
 }
 
 impl Wire for RequestHeader {
     ghost written = { refl };
+
+    fn copied(alloc: Global, src: &[u8], place: usize) -> Result<(Self, usize), AllocError> {
+        fields_of!(RequestHeader, copied, alloc, src, place, RequestHeader)
+    }
 }
 
 /// The header of each reply and event: `ReplyHeader`, 16 bytes.
@@ -63,15 +75,26 @@ impl Form for ReplyHeader {
     ghost wired = { reply_header };
 }
 
-impl<P: Origin> Decode<P> for ReplyHeader {
+impl<'a> View<'a> for ReplyHeader {
     #[inline(always)]
-    fn decode(src: &P, place: usize) -> Result<(Self, usize), ItemFault> {
-        fields_of!(ReplyHeader, decode, src, place, ReplyHeader)
+    fn view(src: &'a [u8], place: usize) -> (Self, usize) {
+        fields_of!(ReplyHeader, view, src, place, ReplyHeader)
+    }
+}
+
+impl Ends for ReplyHeader {
+    #[inline(always)]
+    fn find<V: Verdict>(payload: &[u8], place: usize) -> Result<usize, V> {
+        fields_of!(ReplyHeader, ends, payload, place)
     }
 }
 
 impl Wire for ReplyHeader {
     ghost written = { refl };
+
+    fn copied(alloc: Global, src: &[u8], place: usize) -> Result<(Self, usize), AllocError> {
+        fields_of!(ReplyHeader, copied, alloc, src, place, ReplyHeader)
+    }
 }
 
 /// The header of each part of a multi, and after the last part: `MultiHeader`, 9 bytes.
@@ -97,13 +120,24 @@ impl Form for MultiHeader {
     ghost wired = { multi_header };
 }
 
-impl<P: Origin> Decode<P> for MultiHeader {
+impl<'a> View<'a> for MultiHeader {
     #[inline(always)]
-    fn decode(src: &P, place: usize) -> Result<(Self, usize), ItemFault> {
-        fields_of!(MultiHeader, decode, src, place, MultiHeader)
+    fn view(src: &'a [u8], place: usize) -> (Self, usize) {
+        fields_of!(MultiHeader, view, src, place, MultiHeader)
+    }
+}
+
+impl Ends for MultiHeader {
+    #[inline(always)]
+    fn find<V: Verdict>(payload: &[u8], place: usize) -> Result<usize, V> {
+        fields_of!(MultiHeader, ends, payload, place)
     }
 }
 
 impl Wire for MultiHeader {
     ghost written = { refl };
+
+    fn copied(alloc: Global, src: &[u8], place: usize) -> Result<(Self, usize), AllocError> {
+        fields_of!(MultiHeader, copied, alloc, src, place, MultiHeader)
+    }
 }

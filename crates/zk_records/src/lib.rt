@@ -1,7 +1,7 @@
 //! The records of ZooKeeper 3.4, and `create2` of 3.5: headers, bodies, and the numbers and names of operations.
 //!
 //! Each record of zookeeper.jute is a struct of its fields, in jute's order, that is read and written by `zk_jute`'s
-//! `Wire` and `Decode`. One with texts, blobs or lists is generic, as `CreateAskOf`, and has two names: the owned
+//! `Wire` and `View`. One with texts, blobs or lists is generic, as `CreateAskOf`, and has two names: the owned
 //! `CreateAsk` and the borrowed `CreateAskRef`. `Own::own` copies the borrowed one into memory of its own.
 //!
 //! - Headers: `RequestHeader`, `ReplyHeader`, `MultiHeader`.

@@ -5,9 +5,10 @@
 ghost use Rattle.std.specs.Prelude.{◌≡◌, refl};
 ghost use Rattle.zk_records.specs.Records.{watch_ask, path_ask, watch_ask_of, path_ask_of};
 
-use crate::fields::{decode, ends, held, pairs};
+use crate::fields::{copied, ends, held, pairs, view};
 use crate::fields_of;
-use zk_jute::{Decode, Ends, Form, ItemFault, Origin, Output, Spell, Text, TextRef, Verdict, Wire};
+use std::alloc::{AllocError, Global};
+use zk_jute::{Ends, Form, Output, Spell, Text, TextRef, Verdict, View, Wire};
 
 /// Looks at a node, and may set a watch: `ExistsRequest`, `GetDataRequest`, `GetChildrenRequest` and
 /// `GetChildren2Request`.
@@ -37,10 +38,10 @@ impl<T: Form> Form for WatchAskOf<T> {
     ghost wired = { watch_ask_of T.wired };
 }
 
-impl<P: Origin, T: Decode<P>> Decode<P> for WatchAskOf<T> {
+impl<'a, T: View<'a>> View<'a> for WatchAskOf<T> {
     #[inline(always)]
-    fn decode(src: &P, place: usize) -> Result<(Self, usize), ItemFault> {
-        fields_of!(WatchAsk, decode, src, place, WatchAskOf)
+    fn view(src: &'a [u8], place: usize) -> (Self, usize) {
+        fields_of!(WatchAsk, view, src, place, WatchAskOf)
     }
 }
 
@@ -53,6 +54,10 @@ impl<T: Ends> Ends for WatchAskOf<T> {
 
 impl Wire for WatchAsk {
     ghost written = { refl };
+
+    fn copied(alloc: Global, src: &[u8], place: usize) -> Result<(Self, usize), AllocError> {
+        fields_of!(WatchAsk, copied, alloc, src, place, WatchAskOf)
+    }
 }
 
 /// A path alone: `GetACLRequest` and `SyncRequest`.
@@ -80,10 +85,10 @@ impl<T: Form> Form for PathAskOf<T> {
     ghost wired = { path_ask_of T.wired };
 }
 
-impl<P: Origin, T: Decode<P>> Decode<P> for PathAskOf<T> {
+impl<'a, T: View<'a>> View<'a> for PathAskOf<T> {
     #[inline(always)]
-    fn decode(src: &P, place: usize) -> Result<(Self, usize), ItemFault> {
-        fields_of!(PathAsk, decode, src, place, PathAskOf)
+    fn view(src: &'a [u8], place: usize) -> (Self, usize) {
+        fields_of!(PathAsk, view, src, place, PathAskOf)
     }
 }
 
@@ -96,4 +101,8 @@ impl<T: Ends> Ends for PathAskOf<T> {
 
 impl Wire for PathAsk {
     ghost written = { refl };
+
+    fn copied(alloc: Global, src: &[u8], place: usize) -> Result<(Self, usize), AllocError> {
+        fields_of!(PathAsk, copied, alloc, src, place, PathAskOf)
+    }
 }

@@ -2,11 +2,11 @@
 ghost use Rattle.std.specs.Prelude.{◌≡◌, refl};
 ghost use Rattle.zk_records.specs.Records.{auth_ask, set_watches_ask, auth_ask_of, set_watches_ask_of};
 
-use crate::fields::{decode, ends, held, pairs};
+use crate::fields::{copied, ends, held, pairs, view};
 use crate::fields_of;
+use std::alloc::{AllocError, Global};
 use zk_jute::{
-    Blob, BlobRef, Decode, Ends, Form, ItemFault, List, Origin, Output, Spell, Text, TextList,
-    TextRef, Verdict, Wire,
+    Blob, BlobRef, Ends, Form, List, Output, Spell, Text, TextList, TextRef, Verdict, View, Wire,
 };
 
 /// Authenticates the client: `AuthPacket`.
@@ -38,9 +38,9 @@ impl<T: Form, B: Form> Form for AuthAskOf<T, B> {
     ghost wired = { auth_ask_of T.wired B.wired };
 }
 
-impl<P: Origin, T: Decode<P>, B: Decode<P>> Decode<P> for AuthAskOf<T, B> {
-    fn decode(src: &P, place: usize) -> Result<(Self, usize), ItemFault> {
-        fields_of!(AuthAsk, decode, src, place, AuthAskOf)
+impl<'a, T: View<'a>, B: View<'a>> View<'a> for AuthAskOf<T, B> {
+    fn view(src: &'a [u8], place: usize) -> (Self, usize) {
+        fields_of!(AuthAsk, view, src, place, AuthAskOf)
     }
 }
 
@@ -53,6 +53,10 @@ impl<T: Ends, B: Ends> Ends for AuthAskOf<T, B> {
 
 impl Wire for AuthAsk {
     ghost written = { refl };
+
+    fn copied(alloc: Global, src: &[u8], place: usize) -> Result<(Self, usize), AllocError> {
+        fields_of!(AuthAsk, copied, alloc, src, place, AuthAskOf)
+    }
 }
 
 /// Sets watches again, after a reconnect: `SetWatches`.
@@ -86,9 +90,9 @@ impl<L: Form> Form for SetWatchesAskOf<L> {
     ghost wired = { set_watches_ask_of L.wired };
 }
 
-impl<P: Origin, L: Decode<P>> Decode<P> for SetWatchesAskOf<L> {
-    fn decode(src: &P, place: usize) -> Result<(Self, usize), ItemFault> {
-        fields_of!(SetWatchesAsk, decode, src, place, SetWatchesAskOf)
+impl<'a, L: View<'a>> View<'a> for SetWatchesAskOf<L> {
+    fn view(src: &'a [u8], place: usize) -> (Self, usize) {
+        fields_of!(SetWatchesAsk, view, src, place, SetWatchesAskOf)
     }
 }
 
@@ -101,4 +105,8 @@ impl<L: Ends> Ends for SetWatchesAskOf<L> {
 
 impl Wire for SetWatchesAsk {
     ghost written = { refl };
+
+    fn copied(alloc: Global, src: &[u8], place: usize) -> Result<(Self, usize), AllocError> {
+        fields_of!(SetWatchesAsk, copied, alloc, src, place, SetWatchesAskOf)
+    }
 }

@@ -2,9 +2,10 @@
 ghost use Rattle.std.specs.Prelude.{◌≡◌, refl};
 ghost use Rattle.zk_records.specs.Records.{stat};
 
-use crate::fields::{decode, ends, held, pairs};
+use crate::fields::{copied, ends, held, pairs, view};
 use crate::fields_of;
-use zk_jute::{Decode, Ends, Form, ItemFault, Origin, Output, Spell, Verdict, Wire};
+use std::alloc::{AllocError, Global};
+use zk_jute::{Ends, Form, Output, Spell, Verdict, View, Wire};
 
 /// What is known of a node: `Stat`, 68 bytes.
 #[derive(Clone, Copy, Debug)]
@@ -45,10 +46,10 @@ impl Form for Stat {
     ghost wired = { stat };
 }
 
-impl<P: Origin> Decode<P> for Stat {
+impl<'a> View<'a> for Stat {
     #[inline(always)]
-    fn decode(src: &P, place: usize) -> Result<(Self, usize), ItemFault> {
-        fields_of!(Stat, decode, src, place, Stat)
+    fn view(src: &'a [u8], place: usize) -> (Self, usize) {
+        fields_of!(Stat, view, src, place, Stat)
     }
 }
 
@@ -72,4 +73,8 @@ impl Ends for Stat {
 
 impl Wire for Stat {
     ghost written = { refl };
+
+    fn copied(alloc: Global, src: &[u8], place: usize) -> Result<(Self, usize), AllocError> {
+        fields_of!(Stat, copied, alloc, src, place, Stat)
+    }
 }

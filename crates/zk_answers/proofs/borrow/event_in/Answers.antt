@@ -10,4 +10,4 @@ pub returns-clause-found : goal.returns-clause-found
 returns-clause-found c =
     let s = c.in_ok-judge_event.ensures.found refl in
     let is = c.event_ref.ensures s.0 s.1 s.2 s.3 in
-    subst (λ (t : ServerFrame). IsEvent t × IsSent t × (c.args.src.now.bytes.now ≡ payload t)) (sym is) (s.1, s.2, s.3)
+    subst (λ (t : ServerFrame). IsEvent t × IsSent t × (c.args.payload.now ≡ payload t)) (sym is) (s.1, s.2, s.3)

@@ -17,4 +17,4 @@ returns-clause-found g c =
     let op = g.F.Asked.operation c.args.form.now in
     let parts = g.F.Asked.part_ops c.args.form.now in
     let is = c.known_reply.ensures parts (frame.Answered r.0) (subst (λ (o : Op). IsReplyTo o parts (frame.Answered r.0)) (sym c.op.ensures) r.2) r.3 r.4 in
-    subst (λ (s : ServerFrame). IsReplyTo op parts s × IsSent s × (c.args.src.now.bytes.now ≡ payload s)) (sym is) (r.2, r.3, r.4)
+    subst (λ (s : ServerFrame). IsReplyTo op parts s × IsSent s × (c.args.payload.now ≡ payload s)) (sym is) (r.2, r.3, r.4)

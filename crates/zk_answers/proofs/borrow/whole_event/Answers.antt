@@ -7,16 +7,16 @@ pub returns-in_err-head-clause-fault : goal.returns-in_err-head-clause-fault
 returns-in_err-head-clause-fault c =
     let p = err_from_is_err_and c.from_residual.result c.from_residual.ensures.1 in
     let e = c.in_err-head.ensures.fault in
-    rw (p.1, p.2) (event_short c.args.src.now.bytes.now c.in_err-head.field-0.0 (inr e.0), e.1)
+    rw (p.1, p.2) (event_short c.args.payload.now c.in_err-head.field-0.0 (inr e.0), e.1)
 
 pub event_in-requires-clause-head : goal.event_in-requires-clause-head
 event_in-requires-clause-head c =
-    let src = c.args.src.now.bytes.now in
+    let src = c.args.payload.now in
     let f = c.in_ok-head.ensures.found in
     (drop c.in_ok-head.field-0-1 src, head_of src c.in_ok-head.head c.in_ok-head.field-0-1 f.0 f.1)
 
 pub event_in-requires-clause-event : goal.event_in-requires-clause-event
 event_in-requires-clause-event c =
-    let src = c.args.src.now.bytes.now in
+    let src = c.args.payload.now in
     let f = c.in_ok-head.ensures.found in
     c.requires c.in_ok-head.head _ (head_of src c.in_ok-head.head c.in_ok-head.field-0-1 f.0 f.1)

@@ -7,16 +7,16 @@ pub returns-in_err-head-clause-fault : goal.returns-in_err-head-clause-fault
 returns-in_err-head-clause-fault g c =
     let p = err_from_is_err_and c.from_residual.result c.from_residual.ensures.1 in
     let e = c.in_err-head.ensures.fault in
-    rw (p.1, p.2) (reply_short (g.F.Asked.operation c.args.form.now) (g.F.Asked.part_ops c.args.form.now) c.args.src.now.bytes.now c.in_err-head.field-0.0 (inr e.0), e.1)
+    rw (p.1, p.2) (reply_short (g.F.Asked.operation c.args.form.now) (g.F.Asked.part_ops c.args.form.now) c.args.payload.now c.in_err-head.field-0.0 (inr e.0), e.1)
 
 pub reply_in-requires-clause-head : goal.reply_in-requires-clause-head
 reply_in-requires-clause-head g c =
-    let src = c.args.src.now.bytes.now in
+    let src = c.args.payload.now in
     let f = c.in_ok-head.ensures.found in
     (drop c.in_ok-head.field-0-1 src, head_of src c.in_ok-head.head c.in_ok-head.field-0-1 f.0 f.1)
 
 pub reply_in-requires-clause-reply : goal.reply_in-requires-clause-reply
 reply_in-requires-clause-reply g c =
-    let src = c.args.src.now.bytes.now in
+    let src = c.args.payload.now in
     let f = c.in_ok-head.ensures.found in
     c.requires c.in_ok-head.head _ (head_of src c.in_ok-head.head c.in_ok-head.field-0-1 f.0 f.1)

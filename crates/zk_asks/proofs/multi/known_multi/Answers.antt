@@ -1,4 +1,4 @@
-use Rattle.std.proofs.Common.{◌≡◌, ◌+◌, ◌≤◌, ℕ, Bool, List, length, true, false, refl, sym, ap, subst, ◌∙◌, arith}
+use Rattle.std.proofs.Common.{◌≡◌, ◌+◌, ◌≤◌, ℕ, Bool, List, length, true, false, refl, sym, subst, ◌∙◌, arith}
 use Rattle.zk_jute.specs.Item.{Item, HaveBytes}
 use Rattle.zk_jute.specs.Told.{StandsAt}
 use Rattle.zk_jute.specs.Standing.{OneStands}
