@@ -38,8 +38,8 @@ def peer(folder):
     subprocess.run(["rustc", "-O", "-C", "codegen-units=1", "--edition", "2021", HERE / "peer" / PEER, "-o", program],
                    check=True)
     for listing in sorted((timing.TOP / "captures").glob("*.show*")):
-        profile = ["--profile", "3.5"] if listing.suffix == ".show35" else []
-        timing.run([program, *profile], listing.with_suffix(".zkr"), folder / "answer")
+        release = ".".join(listing.suffix[len(".show"):])
+        timing.run([program, *(["--profile", release] if release else [])], listing.with_suffix(".zkr"), folder / "answer")
         lines = listing.read_bytes().count(b"\n") - 1
         if (folder / "answer").read_text() != f"{lines} messages\n":
             sys.exit(f"{PEER} does not count {lines} messages, as {listing} has")

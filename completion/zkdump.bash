@@ -9,7 +9,9 @@ _zkdump() {
     fi
     case $before in
     zkdump | */zkdump) words="show check build migrate" ;;
+    # The lines from here on are written by docs/names.py.
     --profile) words="3.4 3.5" ;;
+    # Up to here.
     --limit | --waiting | *['<>']) return ;;
     *)
         words="--limit --waiting --profile"

@@ -25,12 +25,13 @@ READ_ONLY = Field("read_only", "read_only", "bool")
 
 
 class Row(NamedTuple):
-    """A row of a table of operations or parts: the line, the number, the name, the variant, the record of the request,
-    and the fields of the request and the reply."""
+    """A row of a table of operations or parts: the line, the number, the name, the variant, the first release whose
+    profile has it, the record of the request, and the fields of the request and the reply."""
     line: int
     number: int
     name: str
     variant: str
+    release: str
     record: Optional[str]
     request: List[Field]
     reply: List[Field]
@@ -86,13 +87,13 @@ def table(variant):
     """The operations (of the variants of Op) or the parts of a multi (PartOp)."""
     known = records()
     for line, (number, named, asked, answered) in rows("Number", f"Name and `{variant}`"):
-        name, variant_of = matched(r"(\w+), `(\w+)`$", named, line).groups()
+        name, variant_of, release = matched(r"(\w+), `(\w+)`(?:, of ([\d.]+))?$", named, line).groups()
         record = re.match(rf"`({'|'.join(known)})`", asked)
         if asked == "section 6":
             forms = [Field("parts", "parts", "parts")], [Field("results", "results", "results")]
         else:
             forms = known[record[1]][1] if record else list(fields(asked, line)), list(fields(answered, line))
-        yield Row(line, int(number), name, variant_of, record and record[1], *forms)
+        yield Row(line, int(number), name, variant_of, release or "3.4", record and record[1], *forms)
 
 
 def errors():
@@ -123,17 +124,15 @@ def messages():
         yield message, (line, re.findall(r"(\w+)=(\w+)", text.replace("`", "")))
 
 
-def columns(of):
-    """Fields in C: `name:kind` of each, in a list's brackets its elements', and those of a Stat."""
+def items(of):
+    """The items of fields: the name of each in C, and its kind, or of a list the items of its elements. A Stat's are
+    those of its fields; the parts of a multi are one."""
     known, found = records(), []
     for field in of:
-        if field.kind == "stat":
-            found.append(columns(known["Stat"][1]))
-        elif field.kind == "acl":
-            rights = [*known["Acl"][1][:1], *known["Id"][1]]
-            found.append(f"{field.in_c}:[{columns(rights)}]")
-        elif field.kind in ("parts", "results"):
-            found.append(field.kind)
+        if field.kind in ("stat", "id"):
+            found += items(known[field.kind.title()][1])
+        elif field.kind in ("texts", "acl"):
+            found.append((field.in_c, [(field.in_c, "text")] if field.kind == "texts" else items(known["Acl"][1])))
         else:
-            found.append(f"{field.in_c}:{'[text]' if field.kind == 'texts' else field.kind}")
-    return " ".join(found)
+            found.append((field.in_c, field.kind))
+    return found

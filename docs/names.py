@@ -1,5 +1,6 @@
 #!/usr/bin/env python3
-"""Writes the names of operations, errors, events, fields and statuses where they are listed, from the crates' sources.
+"""Writes the names of operations, errors, events, fields, statuses and profiles where they are listed, from the crates'
+sources, and the forms of operations for the tools and the measured peer.
 
     docs/names.py --write|--check
 
@@ -30,7 +31,7 @@ LINES = {"int": "num", "long": "num", "bool": "bit", "texts": "list of text", "a
 ITEMS = {"kcode": "num", "ecode": "num", "ro": "bit"}
 # The enumerations of the package for Python: how each name begins in the header.
 ENUMERATIONS = {"Side": "ZK_", "Profile": "ZK_PROFILE_", "Kind": "ZK_", "FieldKind": "ZK_KIND_", "Went": "ZK_"}
-CONSTANTS = ("bench/peer/peer.rs", "bench/make_recording.py", "wireshark/message.h", "examples/server.c")
+CONSTANTS = ("bench/make_recording.py", "wireshark/message.h", "examples/server.c")
 
 
 def differences(name, found, wanted):
@@ -70,7 +71,7 @@ def compare_rows(variant, wanted):
         if row is None:
             yield f"docs/FORMATS.md: no row of {each.number} {each.name} among those of {variant}"
             continue
-        page, ours = ([of.name, of.variant, str(of.record)] for of in (row, each))
+        page, ours = ([of.name, of.variant, of.release or "3.4", str(of.record)] for of in (row, each))
         page.append(spelled((field.name, field.kind) for field in row.request))
         ours.append(spelled(each.request))
         if variant == "Op":
@@ -145,22 +146,22 @@ def reasons():
         yield int(found[1]), (text.count("\n", 0, found.start()) + 1, found[2])
 
 
-def compare_others():
-    """What tools/operations.py has and the sources lack: the parts of a multi that are no operations, and with the
-    plugin's names those of later releases."""
-    known = runpy.run_path(str(TOP / "tools" / "operations.py"))["BY_NUMBER"]
+def compare_parts():
+    """The parts of a multi in tools/operations.py, which are no operations."""
+    known = lists.of_tools()["BY_NUMBER"]
     for each in source.parts():
         row = known.get(each.number)
         if row is None or (row.name, row.request) != (each.name, lists.form(each.request)):
             yield f"tools/operations.py: no row of the part {each.number} {each.name} with {spelled(each.request)}"
-    text = (TOP / "wireshark" / "names.c").read_text()
-    rows = dict(re.findall(r'\{(\d+), "(\w+)"\}', text.partition("};")[0]))
-    yield from (f"wireshark/names.c: no row of {number} {each.name}, which tools/operations.py has"
-                for number, each in known.items() if number > 0 and rows.get(str(number)) != each.name)
-    newer = re.findall(r"op >= (\d+) && op <= (\d+)", text)
-    yield from (f"wireshark/names.c: op_is_newer is wrong on {number} {each.name}" for number, each in known.items()
-                if any(int(least) <= number <= int(most) for least, most in newer) != (each.release != "3.4" and
-                                                                                       each.name != "check"))
+
+
+def compare_bodies():
+    """The layouts of which crates/talk_tests/make_bodies.py has written bodies; the results of multis have none."""
+    name = "crates/talk_tests/src/earliest/bodies.rt"
+    text = (TOP / name).read_text()
+    yield from (f"{name}: no bodies of {what}(Op::{each.variant})" for each in source.operations()
+                for what in ("Asked", "Answered") if f"Layout::{what}(Op::{each.variant})," not in text
+                and (what, each.name) != ("Answered", "multi"))
 
 
 def wanted_forms():
@@ -245,7 +246,8 @@ def compared():
     yield compare_codes("docs/FORMATS.md", formats.events(), names["event"])
     yield compare_lines()
     yield compare_codes("docs/REASONS.md", reasons(), source.reasons())
-    yield compare_others()
+    yield compare_parts()
+    yield compare_bodies()
     yield compare_forms()
     yield compare_field_rows()
     yield compare_enumerations()

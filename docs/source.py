@@ -1,5 +1,6 @@
 """What the crates' sources say of the protocol's numbers and records, for docs/names.py and the tests: operations and
-the parts of a multi, with the fields of their requests and replies; errors, events, names of fields, and statuses.
+the parts of a multi, with the fields of their requests and replies; errors, events, names of fields, statuses, and
+profiles.
 
 A field is a pair: its name in zk_records, and its kind, which is int, long, bool, text, blob, texts, acl, stat, id,
 parts or results. What isn't found in the sources is a Missing.
@@ -85,6 +86,12 @@ def releases():
     rows = re.findall(r"-?\d+(?: if [^=]*==[^=]*V(\d)(\d))? => Some\(Op::(\w+)\)",
                       body(text_of("zk_records", "op"), "fn op_of"))
     return some([(variant, f"{major or 3}.{minor or 4}") for major, minor, variant in rows], "profiles of operations")
+
+
+def profiles():
+    """The number of each profile, by its release."""
+    rows = re.findall(r"Profile::V(\d)(\d) => (\d+)", text_of("zk_records", "profile"))
+    return some(sorted((f"{major}.{minor}", int(number)) for major, minor, number in rows), "profiles")
 
 
 def xids():

@@ -33,8 +33,10 @@ extern "C" {
 /* Sides. */
 enum { ZK_CLIENT = 0, ZK_SERVER = 1 };
 
-/* Profiles: the operations of ZooKeeper 3.4, and of 3.5, which has create2 too. */
+/* Profiles, each the operations of a release: docs/FORMATS.md, section 4.
+ * The lines from here on are written by docs/names.py. */
 enum { ZK_PROFILE_34 = 34, ZK_PROFILE_35 = 35 };
+/* Up to here. */
 
 /* A status: 0, a reason (docs/REASONS.md), or why a call did nothing. */
 enum {
@@ -342,9 +344,9 @@ struct zk_line zk_talk_ending_line(struct zk_talk *talk, uint8_t *out, size_t ro
 void zk_talk_free(struct zk_talk *talk);
 
 /* Makes a passage: a talk that goes on where the profile ends. The numbers are those of zk_talk_new. What is judged is the
- * conversation without the requests whose operations the profile lacks, such as getEphemerals and setWatches2, and
- * without the replies to them. Requests under the xids of pings, auths and events are never left out. It holds twice the
- * memory of a talk, and the requests that wait. */
+ * conversation without the requests whose operations the profile lacks, and without the replies to them. Requests under
+ * the xids of pings, auths and events are never left out. It holds twice the memory of a talk, and the requests that
+ * wait. */
 uint32_t zk_through_new(struct zk_through *through, uint32_t client, uint32_t server, uint32_t waiting, uint32_t profile);
 
 /* Makes a passage of a connection that is seen late, for who attaches to one in the middle: as zk_through_new, but a connect

@@ -43,7 +43,7 @@ static struct given give(struct played *it, uint64_t foreign) {
     if (length > 0 && one_in(3)) length = 1 + (size_t)chance(length);
     memcpy(bytes.copy, from, length);
     bool asks = given.next && given.side == ZK_CLIENT && it->used == 0 && it->piece > 0 && length >= 12;
-    if (foreign > 0 && asks && one_in(foreign)) bytes.copy[11] = 103; /* getEphemerals, if a frame begins here */
+    if (foreign > 0 && asks && one_in(foreign)) memcpy(bytes.copy + 10, "\x27\x0f", 2); /* 9999, if a frame begins */
     put(&bytes, one_in(given.next ? 400 : 2) ? damaged(bytes.copy, length) : length);
     given.at = bytes.at;
     given.length = bytes.length;

@@ -57,9 +57,17 @@ static uint32_t any_side(void) {
     return one_in(50) ? (uint32_t)PICK(2, 3, UINT32_MAX) : (uint32_t)chance(2);
 }
 
+/* Profiles. The lines from here on are written by docs/names.py. */
+enum { NEWEST = 35 };
+
 static uint32_t any_profile(void) {
     return one_in(20) ? (uint32_t)PICK(0, 33, 36, UINT32_MAX) : (uint32_t)PICK(34, 35);
 }
+
+static bool is_profile(uint32_t number) {
+    return number == 34 || number == 35;
+}
+/* Up to here. */
 
 static int32_t any_operation(void) {
     /* The lines from here on are written by docs/names.py. */

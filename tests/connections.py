@@ -8,6 +8,7 @@ import subprocess
 import dissected
 from dissected import TOP, joined, lossy, pieces_of, wire
 from captured import disturbed
+from listed import listings_of
 
 CAPTURES = sorted((TOP / "captures").glob("*.zkr"))
 REFUSED = [path for path in CAPTURES if path.stem.startswith("refused")]
@@ -18,15 +19,14 @@ IN_ORDER = ("-o", "tcp.reassemble_out_of_order:TRUE")
 def listings():
     """Each recording's path, a profile, and its listing under that."""
     for path in CAPTURES:
-        for profile, suffix in (("3.4", ".show"), ("3.5", ".show35")):
-            if path.with_suffix(suffix).exists():
-                yield path, profile, path.with_suffix(suffix).read_text().splitlines()
+        for profile, listing in listings_of(path):
+            yield path, profile, listing.read_text().splitlines()
 
 
 def objects_of(path, profile):
     """The messages of a recording, as zkjson has them."""
-    listing = path.with_suffix(".show35" if profile == "3.5" else ".show")
-    done = subprocess.run([TOP / "tools" / "zkjson.py", listing], capture_output=True, text=True, check=True)
+    done = subprocess.run([TOP / "tools" / "zkjson.py", dict(listings_of(path))[profile]], capture_output=True,
+                          text=True, check=True)
     return [json.loads(line) for line in done.stdout.splitlines()][:-1]
 
 

@@ -5,6 +5,7 @@ import collections
 import os
 import pathlib
 import random
+import re
 import shutil
 import subprocess
 import sys
@@ -19,7 +20,7 @@ import zkr  # noqa: E402
 from build_library import LIBRARY  # noqa: E402
 
 NOBODY = 65534
-PROFILES = {"3.4": "ZooKeeper 3.4", "3.5": "ZooKeeper 3.5 (create2)"}
+PROFILES = dict(re.findall(r'\{"([\d.]+)", "([^"]*)", ZK_PROFILE', (SOURCES / "register.c").read_text()))
 FLAGS = ("-std=gnu11", "-fPIC", "-shared", "-fvisibility=hidden", "-Wall", "-Wextra", "-Werror",
          f"-I{TOP / 'include'}", f"-I{SOURCES}")
 SANITIZED = ("-O1", "-g", "-fsanitize=address,undefined", "-fno-sanitize=alignment")
@@ -78,7 +79,7 @@ class Plugin:
         self.capture = pathlib.Path(folder, "capture.pcap")
         self.said, self.shown = "", {}
 
-    def tshark(self, *words, profile="3.5", hide=False, home=None):
+    def tshark(self, *words, profile=[*PROFILES][-1], hide=False, home=None):
         """What tshark writes with these words; its status and what it says on standard error are kept."""
         options = [] if words[0] == "-G" else ["-o", f"zookeeper.profile:{PROFILES[profile]}", "-o",
                                                f"zookeeper.hide_secrets:{str(hide).upper()}"]

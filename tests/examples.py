@@ -19,6 +19,7 @@ import threading
 import answering
 import passing
 import served
+from listed import listings_of
 from passing import came, pieces, undelayed
 
 TOP = pathlib.Path(__file__).resolve().parent.parent
@@ -135,7 +136,7 @@ def unseen(line):
 def come_late(program):
     """Whether a reader that comes late lists what is left of a recording, and a reply as one whose request isn't there."""
     for path in sorted(CAPTURES.glob("[!r]*.zkr")):
-        listing = next(path.with_suffix(suffix) for suffix in (".show35", ".show") if path.with_suffix(suffix).exists())
+        listing = listings_of(path)[-1][1]
         lines = listing.read_text().splitlines()
         if len(list(pieces(path.read_bytes()))) != len(lines) - 1:
             continue

@@ -1,27 +1,31 @@
 """Compares the fields that the library for C writes with tables of payloads and with a second reading of the formats.
 
-tests/library.py calls it. The rows of the table were derived from docs/FORMATS.md and docs/EXAMPLES.md. Then each row's
-payload is truncated at each byte and each byte is changed, and the answer is compared with that of a reader in this
-file, by the tables of docs/FORMATS.md: the fields before a fault, and no byte outside of the room is written.
+tests/library.py calls it. The rows of the table were derived from docs/FORMATS.md and docs/EXAMPLES.md, by hand or by
+samples.py. Then each row's payload is truncated at each byte and each byte is changed, and the answer is compared with
+that of a reader in this file, by the tables of docs/FORMATS.md: the fields before a fault, and no byte outside of the
+room is written.
 """
 
 import ctypes
 import pathlib
 import sys
 
+from invented import DIGITS, NUMBER
+from samples import OPERATIONS
+
 sys.path.append(str(pathlib.Path(__file__).resolve().parent.parent / "docs"))
 import formats  # noqa: E402
 
 KINDS = dict(zip(("int", "long", "bool", "text", "blob", "list", "part"), range(1, 8)))
 RECORDS = {name: of for name, (_, of) in formats.records().items()}
-CONNECTS = {"first": formats.columns([*RECORDS["ConnectRequest"], formats.READ_ONLY]),
-            "connected": formats.columns([*RECORDS["ConnectResponse"], formats.READ_ONLY])}
-EVENT = formats.columns(RECORDS["WatcherEvent"])
-STAT = formats.columns(RECORDS["Stat"])
-ASKS = {row.number: formats.columns(row.request) for row in formats.table("Op")}
-BODIES = {row.number: formats.columns(row.reply) for row in formats.table("Op")}
-PARTS = {row.number: formats.columns(row.request) for row in formats.table("PartOp")}
-RESULTS = {**{row.number: formats.columns(row.reply) for row in formats.table("PartOp")}, -1: "err:int"}
+CONNECTS = {"first": formats.items([*RECORDS["ConnectRequest"], formats.READ_ONLY]),
+            "connected": formats.items([*RECORDS["ConnectResponse"], formats.READ_ONLY])}
+EVENT = formats.items(RECORDS["WatcherEvent"])
+STAT = formats.items(RECORDS["Stat"])
+ASKS = {row.number: formats.items(row.request) for row in formats.table("Op")}
+BODIES = {row.number: formats.items(row.reply) for row in formats.table("Op")}
+PARTS = {row.number: formats.items(row.request) for row in formats.table("PartOp")}
+RESULTS = {**{row.number: formats.items(row.reply) for row in formats.table("PartOp")}, -1: [("err", "int")]}
 
 # A row: the call and its numbers, the payload, what message it is or what is wrong, and its fields, a line a field:
 # the place and the length of its content, its name, its kind, and its number if it has one.
@@ -33,6 +37,7 @@ MULTI = ("00000001 0000000e 00000002 00 ffffffff 00000002 2f61 ffffffff 0000000d
 RESULTS_OF_FOUR = ("00000001 0000000000000006 00000000 00000001 00 00000000 00000002 2f61 00000002 00 00000000 "
                    "0000000d 00 00000000 ffffffff 00 ffffff99 ffffff99 ffffffff 01 ffffffff")
 TABLE = (
+    *OPERATIONS,
     ("request 34", "00000001 00000003 00000002 2f61 01", "REQUEST xid 1 operation 3", """
         12+2 path text
         14+1 watch bool 1"""),
@@ -136,7 +141,7 @@ TABLE = (
         12+2 path text
         14+1 watch bool 1"""),
     ("request 34", "00000009 00000003 00000002 2fc3 00", "BAD_TEXT 13 xid 9 operation 3", ""),
-    ("request 34", "0000000a 00000066 0000", "UNKNOWN_OP 4 xid 10 operation 102", ""),
+    ("request 34", f"0000000a {DIGITS} 0000", f"UNKNOWN_OP 4 xid 10 operation {NUMBER}", ""),
     ("request 34", "00000001 0000000f 00000002 2f61", "UNKNOWN_OP 4 xid 1 operation 15", ""),
     ("request 34", "ffffffff 00000003 00000002 2f61 01", "XID_OP 4 xid -1 operation 3", ""),
     ("request 34", "00000009 0000", "SHORT 4 xid 9", ""),
@@ -170,8 +175,9 @@ TABLE = (
     ("reply 3", "00000001 0000000000000005 ffffff9b 00", "TRAILING 16 xid 1 zxid 5 err -101", ""),
     ("reply 3", "ffffffff ffffffffffffffff 00000000", "MISFIT 0", ""),
     ("reply 10", "00000001 0000000000000005 00000000", "UNKNOWN_OP 16 xid 1 zxid 5", ""),
-    ("reply 105", "fffffff8 0000000000000005 ffffff9b", "UNKNOWN_OP 16 xid -8 zxid 5 err -101", ""),
-    ("reply 103 1", "00000003 0000000000000005 00000000 00000001 00000002 2f61", "UNKNOWN_OP 16 xid 3 zxid 5", ""),
+    (f"reply {NUMBER}", "fffffff8 0000000000000005 ffffff9b", "UNKNOWN_OP 16 xid -8 zxid 5 err -101", ""),
+    (f"reply {NUMBER} 1", "00000003 0000000000000005 00000000 00000001 00000002 2f61",
+     "UNKNOWN_OP 16 xid 3 zxid 5", ""),
     ("reply 13", "00000003 0000000000000005 0000", "SHORT 12 xid 3 zxid 5", ""),
     ("reply 0", "ffffffff ffffffffffffffff 00000000", "MISFIT 0", ""),
     ("reply 3 1", "00000001 0000000000000005 ffffff9b", "RANGE 0", ""),
@@ -227,19 +233,17 @@ class Reader:
         except UnicodeDecodeError:
             raise Stop from None
 
-    def columns(self, words, name=None):
-        """Fields as the tables have them: `name:kind`, or `name:[..]` for a list."""
-        for column in split(words):
-            field, _, kind = column.partition(":") if name is None or ":" in column else (name, "", column)
-            if not kind.startswith("["):
-                self.item(field, kind)
+    def items(self, of):
+        for name, kind in of:
+            if isinstance(kind, str):
+                self.item(name, kind)
                 continue
             place, count = self.place, self.number(4)
             if count < -1:
                 raise Stop
-            self.put(place, 4, field, "list", max(count, 0), int(count == -1))
+            self.put(place, 4, name, "list", max(count, 0), int(count == -1))
             for _ in range(count):
-                self.columns(kind[1:-1], field)
+                self.items(kind)
 
     def heads(self, table):
         while True:
@@ -248,49 +252,36 @@ class Reader:
             if done or kind not in table:
                 raise Stop
             self.put(place, 9, "none", "part", kind)
-            self.columns(table[kind])
+            self.items(table[kind])
 
-    def read(self, start, words):
+    def read(self, start, of):
         self.place = start
         try:
-            if words in ("parts", "results"):
-                self.heads(PARTS if words == "parts" else RESULTS)
+            if of and of[0][1] in ("parts", "results"):
+                self.heads(PARTS if of[0][1] == "parts" else RESULTS)
             else:
-                self.columns(words)
+                self.items(of)
         except Stop:
             pass
         return self.fields
 
 
-def split(words):
-    """The columns of a row; a list's own stay together."""
-    depth, column = 0, ""
-    for letter in words + " ":
-        depth += (letter == "[") - (letter == "]")
-        if letter == " " and depth == 0:
-            if column:
-                yield column
-            column = ""
-        else:
-            column += letter
-
-
-def words_of(kind, operation, err=0):
-    """Where a message's fields begin, and the columns that it has."""
+def items_of(kind, operation, err=0):
+    """Where a message's fields begin, and the items that it has."""
     if kind in CONNECTS:
         return 0, CONNECTS[kind]
     if kind == "event":
-        return 16, EVENT if err == 0 else ""
+        return 16, EVENT if err == 0 else []
     if kind == "request":
-        return 8, ASKS.get(operation, "")
-    return 16, BODIES.get(operation, "") if err == 0 else ""
+        return 8, ASKS.get(operation, [])
+    return 16, BODIES.get(operation, []) if err == 0 else []
 
 
 def wanted(payload, place, kind, operation, names):
     """The fields before a place, by the reader here."""
     err = int.from_bytes(payload[12:16], "big", signed=True) if kind in ("reply", "event") else 0
-    start, words = words_of(kind, operation, err)
-    return Reader(payload[:place], names).read(start, words) if start <= place else []
+    start, of = items_of(kind, operation, err)
+    return Reader(payload[:place], names).read(start, of) if start <= place else []
 
 
 class Caller:

@@ -33,7 +33,7 @@ static void choose(struct played *it, enum kind kind) {
 static void begin(struct played *it, enum kind kind) {
     uint32_t client = any_limit(), server = any_limit(), waiting = any_waiting(), profile = any_profile();
     bool good = client >= 64 && client <= 1 << 24 && server >= 64 && server <= 1 << 24 && waiting >= 1
-                && waiting <= 1 << 20 && (profile == 34 || profile == 35);
+                && waiting <= 1 << 20 && is_profile(profile);
     bool late = kind == PASSAGE && one_in(3);
     uint32_t status = answered(kind == TALK      ? zk_talk_new(&it->talk, client, server, waiting, profile)
                                : late            ? zk_talk_join(&it->through, client, server, waiting, profile)

@@ -14,6 +14,7 @@ import collections
 import ctypes
 
 import fields
+from samples import PROFILE
 
 NO_MESSAGE, MULTI = 69, 14
 MESSAGE, ASKED, ANSWERED, FULL, UNSEEN = 1, 2, 3, 4, 5  # what becomes of a passage's bytes
@@ -114,7 +115,7 @@ class Lanes:
 def compare_recording(caller, content, cut):
     """What is returned of each message of a recording whose pieces are cut to at most `cut` bytes."""
     came, lanes, waiting, library = [bytearray(), bytearray()], Lanes(), Waiting(), caller.library
-    with caller.talk.Talk(library, profile=35) as talk, caller.talk.Talk(library, profile=35) as passing:
+    with caller.talk.Talk(library, profile=PROFILE) as talk, caller.talk.Talk(library, profile=PROFILE) as passing:
         for side, piece in caller.talk.pieces(content):
             at = 0
             while at < len(piece):
@@ -163,7 +164,7 @@ def compare_passage(caller, content):
 def good_messages(caller, content):
     """The frames of a recording up to its fault, each with its side and what a talk from the first byte on returns."""
     library, came = caller.library, [b"", b""]
-    with caller.talk.Talk(library, profile=35) as talk:
+    with caller.talk.Talk(library, profile=PROFILE) as talk:
         for side, piece in caller.talk.pieces(content):
             while piece:
                 step = library.zk_talk_step(talk.handle, side, piece, len(piece))
@@ -187,7 +188,7 @@ def compare_late(caller, messages):
     """What a passage returns of these messages that has joined before them, and what should be."""
     handle, library, frames, matched = caller.talk.Handle(), caller.library, [1, 1], False
     lanes = collections.defaultdict(collections.deque)
-    yield library.zk_talk_join(handle, 1 << 22, 1 << 22, 1 << 16, 35), 0
+    yield library.zk_talk_join(handle, 1 << 22, 1 << 22, 1 << 16, PROFILE), 0
     for side, frame, message in messages:
         kind, xid, answers = KINDS[message.kind - 1], message.xid, 0
         ordinary = xid not in (PINGS, AUTHS, WATCHES)

@@ -12,6 +12,8 @@ import threading
 import time
 
 import answering
+from invented import DIGITS, NUMBER
+from listed import listings_of
 
 CAPTURES = pathlib.Path(__file__).resolve().parent.parent / "captures"
 HELLO = answering.framed(bytes.fromhex("00000000 0000000000000000 00007530 0000000000000000 00000010") + bytes(16))
@@ -22,27 +24,27 @@ WAITING = 1024  # of proxy.c
 NEWER = {"refused_java_ttl_node": ["C 1 operation 21, left out", "S 1 operation 21, left out",
                                    "C 2 operation 21, left out", "S 2 operation 21, left out", "C 3 closeSession",
                                    "S 3 closeSession zxid=1949", ". whole unanswered=0"]}
-# Frames of each side after the connect messages, and the lines of them. getEphemerals (103) of /a, exists of /a.
-EPHEMERALS, NODE = "0000000e 00000001 00000067 00000002 2f61", "0000000f 00000002 00000003 00000002 2f61 00"
+# Frames of each side after the connect messages, and the lines of them: what no profile has of /a, exists of /a.
+OTHER, NODE = f"0000000e 00000001 {DIGITS} 00000002 2f61", "0000000f 00000002 00000003 00000002 2f61 00"
 ENDINGS = (
     # A reply without paths; then an exists whose last byte, the client's 85th, is no boolean.
-    (("C", EPHEMERALS), ("S", "00000014 00000001 0000000000000005 00000000 00000000"), ("C", NODE[:-2] + "02"),
-     ["C 1 operation 103, left out", "S 1 operation 103, left out",
+    (("C", OTHER), ("S", "00000014 00000001 0000000000000005 00000000 00000000"), ("C", NODE[:-2] + "02"),
+     [f"C 1 operation {NUMBER}, left out", f"S 1 operation {NUMBER}, left out",
       ". refused side=C frame=2 offset=85 place=14 reason=BadBool"]),
-    # The reply to the exists comes before that to getEphemerals.
-    (("C", EPHEMERALS + NODE), ("S", "00000010 00000002 0000000000000005 ffffff9b"),
-     ["C 1 operation 103, left out", 'C 2 exists path="/a" watch=0',
+    # The reply to the exists comes before that to the other.
+    (("C", OTHER + NODE), ("S", "00000010 00000002 0000000000000005 ffffff9b"),
+     [f"C 1 operation {NUMBER}, left out", 'C 2 exists path="/a" watch=0',
       ". refused side=S frame=1 offset=61 place=0 reason=XidOrder expected=1 got=2"]),
-    # setWatches2 (105) under its xid, with five lists of no paths, and its reply after one that was asked later.
-    (("C", f"00000024 fffffff8 00000069 0000000000000005 {'00000000' * 5}" + NODE),
+    # The xid of setWatches, with five lists of no paths, and its reply after one that was asked later.
+    (("C", f"00000024 fffffff8 {DIGITS} 0000000000000005 {'00000000' * 5}" + NODE),
      ("S", "00000010 00000002 0000000000000005 ffffff9b 00000010 fffffff8 0000000000000005 00000000"),
-     ["C -8 operation 105, left out", 'C 2 exists path="/a" watch=0', "S 2 exists zxid=5 err=-101/NONODE",
-      "S -8 operation 105, left out", ". whole unanswered=0"]),
-    # An operation that no release has (999), and the first ten bytes of the reply to it.
-    (("C", "00000008 00000001 000003e7"), ("S", "00000010 00000001 0000"),
-     ["C 1 operation 999, left out", ". cut side=S frame=1 got=10"]),
-    (("C", EPHEMERALS + NODE),
-     ["C 1 operation 103, left out", 'C 2 exists path="/a" watch=0', ". whole unanswered=2"]),
+     [f"C -8 operation {NUMBER}, left out", 'C 2 exists path="/a" watch=0', "S 2 exists zxid=5 err=-101/NONODE",
+      f"S -8 operation {NUMBER}, left out", ". whole unanswered=0"]),
+    # A request without a body, and the first ten bytes of the reply to it.
+    (("C", f"00000008 00000001 {DIGITS}"), ("S", "00000010 00000001 0000"),
+     [f"C 1 operation {NUMBER}, left out", ". cut side=S frame=1 got=10"]),
+    (("C", OTHER + NODE),
+     [f"C 1 operation {NUMBER}, left out", 'C 2 exists path="/a" watch=0', ". whole unanswered=2"]),
 )
 
 
@@ -125,7 +127,7 @@ def pass_recordings(program):
                 whole[path] = good
         status = proxy.end()
     for number, path in enumerate(paths, 1):
-        listing = next(path.with_suffix(suffix) for suffix in (".show35", ".show") if path.with_suffix(suffix).exists())
+        listing = listings_of(path)[-1][1]
         lines = listing.read_text().splitlines()
         lines[2:] = NEWER.get(path.stem, lines[2:])
         good = whole[path] and proxy.of(number) == lines

@@ -76,7 +76,7 @@ static void read_payload(void) {
 static struct zk_read fields_of(const struct payload *it, struct zk_field *all) {
     int32_t parts[16];
     if (it->kind == ZK_CONNECT) return zk_read_first(it->bytes, it->length, all, FIELDS);
-    if (it->kind == ZK_REQUEST) return zk_read_request(35, it->bytes, it->length, all, FIELDS);
+    if (it->kind == ZK_REQUEST) return zk_read_request(NEWEST, it->bytes, it->length, all, FIELDS);
     if (it->kind == ZK_CONNECTED) return zk_read_connected(it->bytes, it->length, all, FIELDS);
     if (it->kind == ZK_EVENT) return zk_read_event(it->bytes, it->length, all, FIELDS);
     for (size_t count = 0;; count++) {

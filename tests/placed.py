@@ -9,11 +9,12 @@ import xml.etree.ElementTree
 import fields  # which adds docs/ to the path
 import source
 from dissected import joined, wire, zkr
+from samples import PROFILE
 
 NAMES = {name.lower(): number for name, number in source.field_names().items()}
 WORDS = {number: name for name, number in NAMES.items()}
 NUMBERS = {number: name for name, number in fields.KINDS.items()}
-STAT = {column.partition(":")[0] for column in fields.STAT.split()}
+STAT = {name for name, _ in fields.STAT}
 # By name of the library's, that of the plugin's field, where it is another.
 OTHERWISE = {"perms": "acl.perms", "id": "acl.id", "type": "auth.type", "state": "event.state", "zxid": "relative_zxid",
              "last_zxid_seen": "last_zxid", "time_out": "timeout", "session_id": "session", "err": "part.err"}
@@ -130,8 +131,8 @@ def shown(text):
 
 def compare(plugin):
     """Whether each payload's fields mark the bytes that they should."""
-    for release in ("3.4", "3.5"):
-        of = [row for row in rows() if ("35" in row[0]) == (release == "3.5")]
+    for release, number in zkr.PROFILES.items():
+        of = [row for row in rows() if row[0] == f"request {number}" or "request" not in row[0] and number == PROFILE]
         capture = joined(list(wire.conversation(connection(*row[:2]))) for row in of)
         found = shown(plugin.read(capture, "-o", "zookeeper.strict:FALSE", "-Y", "zookeeper.side", "-T", "pdml", "-J",
                                   "tcp zookeeper", profile=release))

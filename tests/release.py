@@ -23,12 +23,13 @@ import tarfile
 import tempfile
 
 TOP = pathlib.Path(__file__).resolve().parent.parent
-sys.path.append(str(TOP / "packaging"))
+sys.path += [str(TOP / "packaging"), str(TOP / "docs")]
 import debian  # noqa: E402
 import distribution  # noqa: E402
 import gate  # noqa: E402
 import install  # noqa: E402
 import make_library  # noqa: E402
+import source  # noqa: E402
 
 RECORDING = TOP / "captures" / "kazoo_basic.zkr"
 LISTING = RECORDING.with_suffix(".show").read_bytes()
@@ -63,7 +64,7 @@ COMPLETED = (
     (("zkdump", "sh"), "show"),
     (("zkdump", "show", ""), "--limit --waiting --profile"),
     (("zkdump", "check", "--e"), "--earliest"),
-    (("zkdump", "show", "--profile", ""), "3.4 3.5"),
+    (("zkdump", "show", "--profile", ""), " ".join(source.profiles())),
     (("zkdump", "show", "--profile", "=", "3.5"), "3.5"),
     (("zkdump", "show", "--limit", ""), ""),
     (("zkdump", "show", "<", "c"), ""),

@@ -10,6 +10,7 @@ import runpy
 import subprocess
 
 from dissected import SOURCES, TOP, packed, pieces_of, wire, zkr
+import invented
 
 
 def hexadecimal(value):
@@ -44,19 +45,20 @@ STAT = {"czxid": hexadecimal, "mzxid": hexadecimal, "version": str, "cversion": 
 PARTS = {"create": "1", "delete": "2", "setData": "5", "check": "13", "fail": "-1"}
 CONNECTS = (("C", "00000000 0000000000000000 00007530 0000000000000000 00000010" + "00" * 17),
             ("S", "00000000 00007530 0100000000000001 00000010" + "00" * 17))
-# Payloads after those of the connect messages: getEphemerals (103), exists, an operation that no release has (999),
-# setWatches2 (105), and an exists with a wrong byte. Of each the fields that are shown; and what is said of the
-# refusal, which counts the client's frames of 49, 18, 19, 12, 40 and 19 bytes.
+# Payloads after those of the connect messages: an operation of a later release, exists, one that no release has, the
+# same under the xid of setWatches, and an exists with a wrong byte. Of each the fields that are shown; and what is said
+# of the refusal, which counts the client's frames of 49, 18, 19, 12, 40 and 19 bytes.
 LEFT_OUT = {"verdict": "3", "newer": ""}
+LATER, NONE = invented.NAMED.number, str(invented.NUMBER)
 NEWER = (
-    ("C", "00000001 00000067 00000002 2f61", {**LEFT_OUT, "xid": "1", "op": "103"}),
+    ("C", f"00000001 {LATER:08x} 00000002 2f61", {**LEFT_OUT, "xid": "1", "op": str(LATER)}),
     ("C", "00000002 00000003 00000002 2f61 01", {"verdict": "0", "line": 'C 2 exists path="/a" watch=1'}),
-    ("C", "00000003 000003e7", {**LEFT_OUT, "xid": "3", "op": "999"}),
-    ("C", f"fffffff8 00000069 0000000000000005 {'00000000' * 5}", {**LEFT_OUT, "xid": "-8", "op": "105"}),
-    ("S", "fffffff8 0000000000000005 00000000", {**LEFT_OUT, "xid": "-8", "op": "105", "err": "0"}),
-    ("S", "00000001 0000000000000005 00000000 00000000", {**LEFT_OUT, "xid": "1", "op": "103", "err": "0"}),
+    ("C", f"00000003 {invented.DIGITS}", {**LEFT_OUT, "xid": "3", "op": NONE}),
+    ("C", f"fffffff8 {invented.DIGITS} 0000000000000005 {'00000000' * 5}", {**LEFT_OUT, "xid": "-8", "op": NONE}),
+    ("S", "fffffff8 0000000000000005 00000000", {**LEFT_OUT, "xid": "-8", "op": NONE, "err": "0"}),
+    ("S", "00000001 0000000000000005 00000000 00000000", {**LEFT_OUT, "xid": "1", "op": str(LATER), "err": "0"}),
     ("S", "00000002 0000000000000005 ffffff9b", {"verdict": "0", "line": "S 2 exists zxid=5 err=-101/NONODE"}),
-    ("S", "00000003 0000000000000005 fffffffa", {**LEFT_OUT, "xid": "3", "op": "999", "err": "-6"}),
+    ("S", "00000003 0000000000000005 fffffffa", {**LEFT_OUT, "xid": "3", "op": NONE, "err": "-6"}),
     ("C", "00000004 00000003 00000002 2f61 02", {"verdict": "1", "refused": ""}),
 )
 REFUSED = "side=C frame=5 offset=157 place=14 reason=BadBool"

@@ -26,6 +26,8 @@ import textwrap
 from connections import WHOLE, Connections, listings, objects_of
 import dissected
 from dissected import SOURCES, TOP, capture_of, joined, mutated, pieces_of, wire, zkr
+import invented
+from listed import listings_of
 import placed
 import resync
 import wanted
@@ -132,7 +134,8 @@ class Tests(Connections):
         yield len(found) == len(pieces), f"{len(found)} messages of {len(pieces)}"
         told = self.plugin.read(capture_of(pieces), "-2", "-O", "zookeeper", "-V")
         yield set(re.findall(r"Refused: (side=.*?)\]", told)) == {wanted.REFUSED}, f"{re.findall('Refused.*', told)}"
-        yield "getEphemerals is not of the profile: its reply is not read" in told, "no note on getEphemerals"
+        note = f"{invented.NAMED.name} is not of the profile: its reply is not read"
+        yield note in told, f"not said: {note}"
         java = self.plugin.frames_of(TOP / "captures" / "refused_java_ttl_node.zkr", "3.5")
         yield [each["verdict"] for each in java] == [[verdict] for verdict in "00333300"], "verdicts of Java's client"
         told = [each["line"] for each in java[2:]]
@@ -215,8 +218,7 @@ class Tests(Connections):
         for preference in ("relative_sequence_numbers", "analyze_sequence_numbers"):
             found = self.plugin.frames(capture, "-o", f"tcp.{preference}:FALSE")
             well = sum(each["verdict"] == ["0"] for each in found)
-            lines = sum(path.with_suffix(suffix).read_text().count("\n") - 1 for path in WHOLE
-                        for suffix in [".show35" if path.with_suffix(".show35").exists() else ".show"])
+            lines = sum(listings_of(path)[-1][1].read_text().count("\n") - 1 for path in WHOLE)
             yield well == lines, f"without {preference}: {well} of {lines}"
 
     def test_holes(self):

@@ -10,6 +10,7 @@ import collections
 import ctypes
 
 import fields
+from samples import PROFILE
 
 INT, LONG, BOOL, TEXT, BLOB, LIST, PART = fields.KINDS.values()
 GUARD, MULTI = b"\x07", 14
@@ -152,7 +153,7 @@ def recorded(talk, recording):
 
 def is_message(library, kind, operation, payload, parts):
     """Whether the payload is such a message's: only then it has all of its fields."""
-    numbers = {"request": (35,), "reply": (operation, (ctypes.c_int32 * (len(parts) + 1))(*parts), len(parts))}
+    numbers = {"request": (PROFILE,), "reply": (operation, (ctypes.c_int32 * (len(parts) + 1))(*parts), len(parts))}
     return getattr(library, f"zk_judge_{kind}")(*numbers.get(kind, ()), payload, len(payload)).status == 0
 
 

@@ -14,6 +14,7 @@ from typing import NamedTuple, Optional
 
 import running
 from newfile import NewFile
+from operations import PROFILES
 
 VERSION, MARKED, LONGEST = 1, 1 << 16, 1 << 16
 SIDES = ("C", "S")
@@ -122,7 +123,7 @@ CHECKS = {
     **dict.fromkeys(("closed", "reset"), lambda value: value in SIDES and isinstance(value, str)),
     **dict.fromkeys(("lost", "skipped"), are_counts),
     "session": lambda value: isinstance(value, str) and bool(SESSION.fullmatch(value)),
-    "profile": lambda value: value in ("3.4", "3.5"),
+    "profile": lambda value: value in list(PROFILES),
     "hole": lambda value: isinstance(value, list) and value in ([], ["C"], ["S"], ["C", "S"]),
 }
 

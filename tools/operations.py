@@ -63,6 +63,8 @@ ALL = (
 )
 BY_NAME = {operation.name: operation for operation in ALL}
 BY_NUMBER = {operation.number: operation for operation in ALL}
+# The number of each profile, by its release.
+PROFILES = {release: int(release.replace(".", "")) for release in sorted({each.release for each in ALL} - {None})}
 
 
 def kinds(fields):

@@ -48,7 +48,7 @@ REPLY_SIZES = {each.number: 16 + operations.least(each.reply)[0] for each in ope
 STATES, PARTS = {-112, -1, 0, 1, 3, 4, 5, 6, 7}, {-1, 1, 2, 4, 5, 8, 13, 15, 19, 20, 21}
 HEADS = {zkr.CLIENT: 12, zkr.SERVER: 20}
 MAY_BEGIN = {
-    zkr.CLIENT: re.compile(rb"(?s)(?=[\0\1].{7}(?:\0\0\0[\1-\x6b]|\xff\xff\xff\xf5))"),
+    zkr.CLIENT: re.compile(rb"(?s)(?=[\0\1].{7}(?:\0\0\0[\1-%c]|\xff\xff\xff\xf5))" % max(operations.BY_NUMBER)),
     zkr.SERVER: re.compile(rb"(?s)(?=[\0\1].{3}(?:[\0-\x7f]...|\xff{3}[\xff\xfe\xfc\xf8])(?:[\0-\x7f].{7}|\xff{8})"
                            rb"(?:\0{4}|\xff{3}.))")}
 

@@ -1,7 +1,7 @@
 #!/usr/bin/env -S sh -c '[ -d /dev/stdin ] && exec <&-; exec python3 "$0" "$@"'
 """Checks many recordings at once, by zkdump check.
 
-    zkfleet.py check [--jobs N | --scheduler ADDRESS] [--all] [--json] [--profile 3.4|3.5] DIR|LIST ..
+    zkfleet.py check [--jobs N | --scheduler ADDRESS] [--all] [--json] [--profile RELEASE] DIR|LIST ..
 
 A DIR has recordings, NAME.zkr in it and below it; a LIST has a path on each line; a recording may be named, too. Each
 recording that isn't whole has a line with its ending, or why it couldn't be read; with --all each has one. Then come

@@ -22,6 +22,7 @@ from typing import NamedTuple, Optional
 import facts
 import frames
 from newfile import NewFile, flush
+from operations import PROFILES
 from running import (Progress, allow_many_files, complain, hold_standard_streams, drop_standard_output,  # noqa: F401
                      report, shown, standard_input, tool)
 
@@ -36,7 +37,6 @@ TIME = re.compile(r"\d{1,19}(?:\.\d{1,9})?\n?", re.ASCII)
 LONGEST_TIME = 32
 LIMITS, USUAL_LIMIT = range(64, 16_777_217), 4_194_304
 WAITINGS, USUAL_WAITING = range(1, 1_048_577), 65_536
-PROFILES = {"3.4": 34, "3.5": 35}
 RELEASES = {number: release for release, number in PROFILES.items()}
 # The head of a piece, before its bytes: the side, the time in a ZKR2 recording, and the number of bytes.
 PIECE_HEADS = {"zkr1": struct.Struct(">ci"), "zkr2": struct.Struct(">cqi")}
@@ -106,7 +106,7 @@ class Reader:
             raise Damaged(0, "BadHead")
         self.offset, self.head = 4, Head()
         if mark == b"ZKR2":
-            self.head = Head("zkr2", *(self.head_number(allowed) for allowed in (LIMITS, LIMITS, WAITINGS, (34, 35))))
+            self.head = Head("zkr2", *(self.head_number(allowed) for allowed in (LIMITS, LIMITS, WAITINGS, RELEASES)))
 
     def number(self, form):
         size = struct.calcsize(form)

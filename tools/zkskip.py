@@ -1,8 +1,8 @@
 #!/usr/bin/env -S sh -c '[ -d /dev/stdin ] && exec <&-; exec python3 "$0" "$@"'
 """Leaves out of a recording the requests that a release lacks, with their replies, so that zkdump reads all the rest.
 
-    zkskip.py [--profile 3.4|3.5] REC.zkr PLAIN.zkr
-    zkskip.py [--profile 3.4|3.5] < REC.zkr > PLAIN.zkr
+    zkskip.py [--profile RELEASE] REC.zkr PLAIN.zkr
+    zkskip.py [--profile RELEASE] < REC.zkr > PLAIN.zkr
 
 Left out are operations of later releases and of SASL, a check outside a multi, multis with parts of later releases, and
 auth under another xid than -4, which some Go clients send. Each has a line on standard error. Operations that no
@@ -22,7 +22,7 @@ import operations
 import zkr
 
 OF_PROFILE = {profile: {each.number for each in operations.ALL if each.release and each.release <= profile}
-              for profile in ("3.4", "3.5")}
+              for profile in zkr.PROFILES}
 OTHERS = {each.number: each.name for each in operations.ALL if each.release != "3.4"}
 MULTI, AUTH = 14, 100
 EVENT_XID, AUTH_XID = -1, -4

@@ -1,7 +1,7 @@
 #!/usr/bin/env -S sh -c '[ -d /dev/stdin ] && exec <&-; exec python3 "$0" "$@"'
 """A proxy that shows the messages of the ZooKeeper connections through it, as they pass.
 
-    zkwatch.py [--zkdump PATH] [--profile 3.4|3.5] [--limit N] [--once] [HOST:]PORT SERVER:PORT
+    zkwatch.py [--zkdump PATH] [--profile RELEASE] [--limit N] [--once] [HOST:]PORT SERVER:PORT
 
 It listens on PORT (0 is any free one; the first line of standard output has it) and passes every connection on to the
 server. Each has a `zkdump show` of its own, which gets every frame before it is passed on; so a request is read before

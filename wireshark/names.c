@@ -81,7 +81,9 @@ int op_row(gint32 op) {
 }
 
 gboolean op_is_newer(gint32 op) {
+    /* The lines from here on are written by docs/names.py. */
     return (op >= 15 && op <= 22) || (op >= 102 && op <= 107);
+    /* Up to here. */
 }
 
 const char *name_of(gint32 number, const value_string *names) {

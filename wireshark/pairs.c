@@ -41,7 +41,7 @@ static void wait_for_reply(struct connection *connection, struct call *call) {
 /* The operations of a multi's parts, of a request that has this number of fields. */
 static void note_parts(struct call *call, const guint8 *payload, guint32 length, guint32 count) {
     struct zk_field *fields = wmem_alloc_array(NULL, struct zk_field, count);
-    message_read(ZK_REQUEST, ZK_PROFILE_35, NULL, payload, length, fields, count);
+    message_read(ZK_REQUEST, NEWEST_PROFILE, NULL, payload, length, fields, count);
     for (guint32 k = 0; k < count; k++) {
         call->count += fields[k].kind == ZK_KIND_PART;
     }
@@ -58,7 +58,7 @@ static void note_parts(struct call *call, const guint8 *payload, guint32 length,
 static void note_asked(struct call *call, const guint8 *payload, guint32 length) {
     enum { FIRST = 8 }; /* a path is among the first fields */
     struct zk_field first[FIRST];
-    struct message message = message_read(ZK_REQUEST, ZK_PROFILE_35, NULL, payload, length, first, FIRST);
+    struct message message = message_read(ZK_REQUEST, NEWEST_PROFILE, NULL, payload, length, first, FIRST);
     const struct zk_field *path = field_of(first, MIN(message.read.count, FIRST), ZK_NAME_PATH);
     call->is_known = message.read.status == ZK_WELL;
     if (path && !path->null) {

@@ -22,10 +22,13 @@ expert_field ei_refused = EI_INIT, ei_unread = EI_INIT, ei_newer = EI_INIT, ei_o
 
 flag pref_desegment = TRUE, pref_strict = TRUE, pref_hide = TRUE;
 guint pref_limit = 4194304;
-gint pref_profile = ZK_PROFILE_35;
+gint pref_profile = NEWEST_PROFILE;
 
+/* The lines from here on are written by docs/names.py. */
 static const enum_val_t profiles[] = {
-    {"3.4", "ZooKeeper 3.4", ZK_PROFILE_34}, {"3.5", "ZooKeeper 3.5 (create2)", ZK_PROFILE_35}, {NULL, NULL, 0}};
+    {"3.4", "ZooKeeper 3.4", ZK_PROFILE_34}, {"3.5", "ZooKeeper 3.5 (create2)", ZK_PROFILE_35}, {NULL, NULL, 0},
+};
+/* Up to here. */
 
 #define HF(to, text, abbreviation, type, base, strings, blurb) \
     {&(to), {text, "zookeeper." abbreviation, type, base, strings, 0, blurb, HFILL}}

@@ -1,7 +1,7 @@
 //! Counts the messages of a recording: a decoder written by hand, which zkdump is measured beside.
 //!
 //!     rustc -O -C codegen-units=1 --edition 2021 bench/peer/peer.rs -o peer
-//!     ./peer [--profile 3.5] < RECORDING
+//!     ./peer [--profile RELEASE] < RECORDING
 //!
 //! It reads what `zkdump check` reads and judges it alike: every item of every message, the range of each length, each
 //! boolean, whether texts are UTF-8, and for each reply the oldest waiting request of its xid's kind. It borrows: an
@@ -153,17 +153,13 @@ fields_in_order!(A B C D E);
 fields_in_order!(A B C D E F);
 fields_in_order!(A B C D E F G H I J K);
 
-// ---- records, by ZooKeeper's jute; those without a name of their own are in `body_of_request` and `body_of_reply`
+// ---- records, by ZooKeeper's jute; those of operations are in `body_of_request` and `body_of_reply`
 
 type Acl<'a> = List<'a, (i32, Text<'a>, Text<'a>)>;
 type Names<'a> = List<'a, Text<'a>>;
 type Stat = (i64, i64, i64, i64, i32, i32, i32, i64, i32, i32, i64);
 type ConnectRequest<'a> = (i32, i64, i32, i64, Blob<'a>, ReadOnly);
 type ConnectResponse<'a> = (i32, i32, i64, Blob<'a>, ReadOnly);
-type Create<'a> = (Text<'a>, Blob<'a>, Acl<'a>, i32);
-type Watch<'a> = (Text<'a>, bool);
-type Versioned<'a> = (Text<'a>, i32);
-type SetData<'a> = (Text<'a>, Blob<'a>, i32);
 type PartHeader = (i32, bool, i32);
 
 const END_OF_PARTS: PartHeader = (-1, true, -1);
@@ -173,6 +169,18 @@ const PING_XID: i32 = -2;
 const AUTH_XID: i32 = -4;
 const SET_WATCHES_XID: i32 = -8;
 
+fn read<'a, T: Item<'a>>(bytes: &mut &'a [u8]) -> Answer<()> {
+    T::read(bytes).map(|value| drop(black_box(value)))
+}
+
+fn may_have(xid: i32, operation: i32) -> bool {
+    xid != EVENT
+        && (xid == PING_XID) == (operation == PING)
+        && (xid == AUTH_XID) == (operation == AUTH)
+        && (xid != SET_WATCHES_XID || operation == SET_WATCHES)
+}
+
+// The lines from here on are written by docs/names.py.
 const CREATE: i32 = 1;
 const DELETE: i32 = 2;
 const EXISTS: i32 = 3;
@@ -191,51 +199,41 @@ const AUTH: i32 = 100;
 const SET_WATCHES: i32 = 101;
 const CLOSE_SESSION: i32 = -11;
 
-fn read<'a, T: Item<'a>>(bytes: &mut &'a [u8]) -> Answer<()> {
-    T::read(bytes).map(|value| drop(black_box(value)))
-}
-
-fn is_operation(number: i32, create2: bool) -> bool {
+fn is_operation(number: i32, profile: u32) -> bool {
     match number {
         CREATE..=SYNC | PING | GET_CHILDREN2 | MULTI | AUTH | SET_WATCHES | CLOSE_SESSION => true,
-        CREATE2 => create2,
+        CREATE2 => profile >= 35,
         _ => false,
     }
 }
 
-fn may_have(xid: i32, operation: i32) -> bool {
-    xid != EVENT
-        && (xid == PING_XID) == (operation == PING)
-        && (xid == AUTH_XID) == (operation == AUTH)
-        && (xid != SET_WATCHES_XID || operation == SET_WATCHES)
-}
-
 fn body_of_request<'a>(operation: i32, bytes: &mut &'a [u8]) -> Answer<()> {
     match operation {
-        CREATE | CREATE2 => read::<Create<'a>>(bytes),
-        DELETE => read::<Versioned<'a>>(bytes),
-        EXISTS | GET_DATA | GET_CHILDREN | GET_CHILDREN2 => read::<Watch<'a>>(bytes),
-        SET_DATA => read::<SetData<'a>>(bytes),
+        CREATE | CREATE2 => read::<(Text<'a>, Blob<'a>, Acl<'a>, i32)>(bytes),
+        DELETE => read::<(Text<'a>, i32)>(bytes),
+        EXISTS | GET_DATA | GET_CHILDREN | GET_CHILDREN2 => read::<(Text<'a>, bool)>(bytes),
+        SET_DATA => read::<(Text<'a>, Blob<'a>, i32)>(bytes),
         GET_ACL | SYNC => read::<Text<'a>>(bytes),
         SET_ACL => read::<(Text<'a>, Acl<'a>, i32)>(bytes),
         AUTH => read::<(i32, Text<'a>, Blob<'a>)>(bytes),
         SET_WATCHES => read::<(i64, Names<'a>, Names<'a>, Names<'a>)>(bytes),
-        _ => Ok(()), // a ping and a closeSession
+        _ => Ok(()), // without a body
     }
 }
 
 fn body_of_reply<'a>(operation: i32, bytes: &mut &'a [u8]) -> Answer<()> {
     match operation {
         CREATE | SYNC => read::<Text<'a>>(bytes),
-        CREATE2 => read::<(Text<'a>, Stat)>(bytes),
         EXISTS | SET_DATA | SET_ACL => read::<Stat>(bytes),
         GET_DATA => read::<(Blob<'a>, Stat)>(bytes),
         GET_ACL => read::<(Acl<'a>, Stat)>(bytes),
         GET_CHILDREN => read::<Names<'a>>(bytes),
         GET_CHILDREN2 => read::<(Names<'a>, Stat)>(bytes),
-        _ => Ok(()), // delete, ping, auth, setWatches and closeSession
+        CREATE2 => read::<(Text<'a>, Stat)>(bytes),
+        _ => Ok(()), // without a body
     }
 }
+// Up to here.
 
 // ---- the conversation
 
@@ -294,7 +292,7 @@ impl Waiting {
             };
             match operation {
                 CREATE | DELETE | SET_DATA => body_of_request(operation, bytes)?,
-                CHECK => read::<Versioned<'a>>(bytes)?,
+                CHECK => read::<(Text<'a>, i32)>(bytes)?,
                 _ => return Err("BadPart"),
             }
             self.parts.push_back(operation);
@@ -326,7 +324,7 @@ enum Side {
 
 #[derive(Default)]
 struct Conversation {
-    create2: bool,
+    profile: u32,
     held: [Vec<u8>; 2],
     whole: [u64; 2],
     waiting: Waiting,
@@ -388,7 +386,7 @@ impl Conversation {
 
     fn request(&mut self, payload: &mut &[u8]) -> Answer<()> {
         let (xid, operation) = <(i32, i32)>::read(payload)?;
-        if !is_operation(operation, self.create2) {
+        if !is_operation(operation, self.profile) {
             return Err("UnknownOp");
         }
         if !may_have(xid, operation) {
@@ -505,13 +503,17 @@ fn recording(conversation: &mut Conversation) -> Answer<()> {
 
 fn main() -> ExitCode {
     let words: Vec<String> = std::env::args().skip(1).collect();
-    let create2 = words == ["--profile", "3.5"];
-    if !create2 && !words.is_empty() {
-        eprintln!("usage: peer [--profile 3.5] < RECORDING");
+    let profile = match &words[..] {
+        [] => Some(34),
+        [option, release] if option == "--profile" => release.replace('.', "").parse().ok(),
+        _ => None,
+    };
+    let Some(profile) = profile else {
+        eprintln!("usage: peer [--profile RELEASE] < RECORDING");
         return ExitCode::from(2);
-    }
+    };
     let mut conversation = Conversation {
-        create2,
+        profile,
         ..Conversation::default()
     };
     let ending = recording(&mut conversation);

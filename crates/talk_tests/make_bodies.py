@@ -9,55 +9,28 @@ byte may be any, and `ends` gives the places where an item that fits the pattern
 """
 
 import functools
+import pathlib
 import random
+import sys
 
-ACL = ("int", "text", "text")
-CREATE = ("text", "blob", ("list", ACL), "int")
-DELETE = CHECK = ("text", "int")
-SET_DATA = ("text", "blob", "int")
-WATCH = ("text", "bool")
-STAT = ("long",) * 4 + ("int",) * 3 + ("long", "int", "int", "long")
-TEXTS = ("list", ("text",))
-PARTS = ((1, CREATE), (2, DELETE), (5, SET_DATA), (13, CHECK))
+sys.path.append(str(pathlib.Path(__file__).resolve().parents[2] / "docs"))
+import formats  # noqa: E402
 
-LAYOUTS = {
-    "Connect": ("int", "long", "int", "long", "blob"),
-    "ConnectRo": ("int", "long", "int", "long", "blob", "bool"),
-    "Connected": ("int", "int", "long", "blob"),
-    "ConnectedRo": ("int", "int", "long", "blob", "bool"),
-    "Event": ("int", "int", "text"),
-    "Asked(Op::Auth)": ("int", "text", "blob"),
-    "Asked(Op::SetWatches)": ("long", TEXTS, TEXTS, TEXTS),
-    "Asked(Op::Create)": CREATE,
-    "Asked(Op::Create2)": CREATE,
-    "Asked(Op::Delete)": DELETE,
-    "Asked(Op::SetData)": SET_DATA,
-    "Asked(Op::SetAcl)": ("text", ("list", ACL), "int"),
-    "Asked(Op::Multi)": ("multi",),
-    "Asked(Op::Exists)": WATCH,
-    "Asked(Op::GetData)": WATCH,
-    "Asked(Op::GetChildren)": WATCH,
-    "Asked(Op::GetChildren2)": WATCH,
-    "Asked(Op::GetAcl)": ("text",),
-    "Asked(Op::Sync)": ("text",),
-    "Asked(Op::Ping)": (),
-    "Asked(Op::CloseSession)": (),
-    "Answered(Op::Delete)": (),
-    "Answered(Op::Ping)": (),
-    "Answered(Op::Auth)": (),
-    "Answered(Op::SetWatches)": (),
-    "Answered(Op::CloseSession)": (),
-    "Answered(Op::Create)": ("text",),
-    "Answered(Op::Sync)": ("text",),
-    "Answered(Op::GetChildren)": (TEXTS,),
-    "Answered(Op::Exists)": STAT,
-    "Answered(Op::SetData)": STAT,
-    "Answered(Op::SetAcl)": STAT,
-    "Answered(Op::Create2)": ("text",) + STAT,
-    "Answered(Op::GetData)": ("blob",) + STAT,
-    "Answered(Op::GetAcl)": (("list", ACL),) + STAT,
-    "Answered(Op::GetChildren2)": (TEXTS,) + STAT,
-}
+
+def items(of):
+    """The items of a layout by docs/FORMATS.md: the kind of each, of a list with those of an element."""
+    return tuple(kind if isinstance(kind, str) else ("list", items(kind)) for _, kind in of)
+
+
+RECORDS = {name: of for name, (_, of) in formats.records().items()}
+OPERATIONS = list(formats.table("Op"))
+PARTS = [(row.number, items(formats.items(row.request))) for row in formats.table("PartOp")]
+# The answer to a multi has a layout for each list of its parts.
+LAYOUTS = {layout: items(formats.items(of)) for layout, of in (
+    ("Connect", RECORDS["ConnectRequest"]), ("ConnectRo", [*RECORDS["ConnectRequest"], formats.READ_ONLY]),
+    ("Connected", RECORDS["ConnectResponse"]), ("ConnectedRo", [*RECORDS["ConnectResponse"], formats.READ_ONLY]),
+    ("Event", RECORDS["WatcherEvent"]), *((f"Asked(Op::{row.variant})", row.request) for row in OPERATIONS),
+    *((f"Answered(Op::{row.variant})", row.reply) for row in OPERATIONS if row.name != "multi"))}
 
 
 # ---- the definition
@@ -105,7 +78,7 @@ def stands(pattern, place, wanted):
 def ends(item, pattern, place):
     """Every place at which an item that begins at `place` and fits the pattern may end."""
     left = len(pattern) - place
-    if item == "multi":
+    if item == "parts":
         return parts_end(pattern, place)
     if item == "int":
         return {place + 4} if left >= 4 else set()
@@ -179,7 +152,7 @@ def spelling(item, chance):
         return bytes(7) + bytes([chance.randrange(10)])
     if item == "bool":
         return bytes([chance.randrange(2)])
-    if item == "multi":
+    if item == "parts":
         parts = (chance.choice(PARTS) for _ in range(chance.randrange(3)))
         return b"".join(mark(n, 0) + spellings(record, chance) for n, record in parts) + END
     if chance.random() < 0.2:
@@ -233,7 +206,7 @@ def main():
     print("/// Bodies of each layout: what is answered to one, and its bytes.")
     print("pub(crate) const BODIES: &[(Layout, &str)] = &[")
     for layout, items in LAYOUTS.items():
-        wanted = 20 if items == ("multi",) else 2 if items == () else 6
+        wanted = 20 if items == ("parts",) else 2 if items == () else 6
         # A seed of its own, so that a further layout changes no other's bodies.
         found = rows(items, wanted, random.Random(layout))
         told = ("None" if answer is None else f"Some({answer})" for _, answer in found)

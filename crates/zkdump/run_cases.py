@@ -184,10 +184,9 @@ def run_capture(runner, path, word, options):
 
 
 def run_captures(runner, folder, word):
-    for path in sorted(folder.glob("*.show")):
-        run_capture(runner, path, word, [])
-    for path in sorted(folder.glob("*.show35")):
-        run_capture(runner, path, word, ["--profile", "3.5"])
+    for path in sorted(folder.glob("*.show*")):
+        release = ".".join(path.suffix[len(".show"):])
+        run_capture(runner, path, word, ["--profile", release] if release else [])
 
 
 def main():

@@ -77,7 +77,7 @@ func TestFields(t *testing.T) {
 
 func TestFaults(t *testing.T) {
 	for digits, wanted := range map[string]string{
-		"": "SHORT at 0", exists + "00": "TRAILING at 15", "00000001 00000066": "UNKNOWN_OP at 4",
+		"": "SHORT at 0", exists + "00": "TRAILING at 15", "00000001 0000270f": "UNKNOWN_OP at 4",
 	} {
 		if _, err := ReadRequest(Profile34, payload(digits)); err == nil || err.Error() != wanted {
 			t.Errorf("%s: %v, not %s", digits, err, wanted)

@@ -1,7 +1,7 @@
 package libzk
 
-// getEphemerals of ZooKeeper 3.6 (103), which no profile has, under xid 1, and an exists request under xid 2 before its
-// reply. The other payloads are those of docs/EXAMPLES.md and docs/FORMATS.md.
+// An operation that no release has (9999), under xid 1, and an exists request under xid 2 before its reply. The other
+// payloads are those of docs/EXAMPLES.md and docs/FORMATS.md.
 
 import (
 	"fmt"
@@ -10,10 +10,10 @@ import (
 )
 
 const (
-	ephemerals = "00000001 00000067 00000002 2f61"
-	none       = "00000001 0000000000000005 00000000 00000000"
-	existsTwo  = "00000002 00000003 00000002 2f61 01"
-	noNodeTwo  = "00000002 0000000000000005 ffffff9b"
+	unknown   = "00000001 0000270f 00000002 2f61"
+	none      = "00000001 0000000000000005 00000000 00000000"
+	existsTwo = "00000002 00000003 00000002 2f61 01"
+	noNodeTwo = "00000002 0000000000000005 ffffff9b"
 )
 
 var came = []struct {
@@ -23,9 +23,9 @@ var came = []struct {
 }{
 	{Client, hello, "message 0 0 of frame 0 answers 0"},
 	{Server, welcome, "message 0 0 of frame 0 answers 0"},
-	{Client, ephemerals, "asked 1 103 of frame 1"},
+	{Client, unknown, "asked 1 9999 of frame 1"},
 	{Client, existsTwo, "message 2 3 of frame 2 answers 0"},
-	{Server, none, "answered 1 103 of frame 1"},
+	{Server, none, "answered 1 9999 of frame 1"},
 	{Server, noNodeTwo, "message 2 3 of frame 2 answers 2"},
 }
 
@@ -139,10 +139,10 @@ func TestFull(t *testing.T) {
 		told  []string
 		used  []int
 	}{
-		{Client, framed(ephemerals, existsTwo), []string{"asked 1 103 of frame 1", "full"}, []int{18, 0}},
+		{Client, framed(unknown, existsTwo), []string{"asked 1 9999 of frame 1", "full"}, []int{18, 0}},
 		{Client, framed(existsTwo)[:9], []string{"within"}, []int{9}},
 		{Client, framed(existsTwo)[9:], []string{"full"}, []int{0}},
-		{Server, framed(none), []string{"answered 1 103 of frame 1"}, []int{24}},
+		{Server, framed(none), []string{"answered 1 9999 of frame 1"}, []int{24}},
 		{Client, framed(existsTwo)[9:], []string{"message 2 3 of frame 2 answers 0"}, []int{10}},
 	} {
 		found, used := told(t, p, row.side, row.piece)
@@ -154,7 +154,7 @@ func TestFull(t *testing.T) {
 
 func TestReplyBeforeItsTurn(t *testing.T) {
 	p := newThrough(t, 65536)
-	told(t, p, Client, framed(hello, ephemerals, existsTwo))
+	told(t, p, Client, framed(hello, unknown, existsTwo))
 	told(t, p, Server, framed(welcome))
 	wanted := Fault{Status: 14, Refused: true, At: At{Server, 1, 61, 1, 2}}
 	for _, side := range []Side{Server, Client} {

@@ -1,6 +1,6 @@
 /* The messages of a recording as columns, for the tools in Python beside it.
  *
- *     zkcolumns [--json HEAD] [--lines] [--no-part-paths] [--times FILE] [--limit N] [--profile 3.4|3.5]
+ *     zkcolumns [--json HEAD] [--lines] [--no-part-paths] [--times FILE] [--limit N] [--profile RELEASE]
  *         [--path PATH ..] RECORDING
  *
  * Standard output gets blocks, each a `struct head`, then its records, patches, paths and text. The first block has
@@ -126,10 +126,14 @@ static void let_go(struct state *state) {
 
 /* ---- The words */
 
+/* The number of a profile: its release without the point. */
+static uint32_t profile_of(const char *release) {
+    return strlen(release) == 3 ? (uint32_t)(10 * (release[0] - '0') + release[2] - '0') : 0;
+}
+
 static const char *words_of(struct state *state, int count, char **words, const char **times) {
     struct recording *recording = &state->recording;
-    uint32_t limit = 4194304;
-    bool is_35 = false;
+    uint32_t limit = 4194304, profile = ZK_PROFILE_34;
     int at = 1;
     for (; at < count - 1 && strncmp(words[at], "--", 2) == 0; at++) {
         const char *word = words[at];
@@ -138,14 +142,14 @@ static const char *words_of(struct state *state, int count, char **words, const 
         else if (strcmp(word, "--json") == 0) state->json = words[++at];
         else if (strcmp(word, "--times") == 0) *times = words[++at];
         else if (strcmp(word, "--limit") == 0) limit = (uint32_t)strtoul(words[++at], NULL, 10);
-        else if (strcmp(word, "--profile") == 0) is_35 = strcmp(words[++at], "3.5") == 0;
+        else if (strcmp(word, "--profile") == 0) profile = profile_of(words[++at]);
         else if (strcmp(word, "--path") == 0) state->chosen[state->chosen_count++] = words[++at];
         else stop(STATUS_WORDS, "usage: zkcolumns [OPTION ..] RECORDING");
     }
     if (at != count - 1) stop(STATUS_WORDS, "usage: zkcolumns [OPTION ..] RECORDING");
     recording->client = recording->server = limit;
     recording->waiting = 65536;
-    recording->profile = is_35 ? ZK_PROFILE_35 : ZK_PROFILE_34;
+    recording->profile = profile;
     return words[at];
 }
 

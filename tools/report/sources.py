@@ -67,7 +67,7 @@ class Opener:
 
     def __init__(self, parser, zkdump):
         self.parser, self.progress = parser, zkr.Progress("zkreport")
-        self.words = argparse.Namespace(recording=None, times=None, zkdump=zkdump, profile="3.5", limit=zkr.LIMITS[-1])
+        self.words = argparse.Namespace(recording=None, times=None, zkdump=zkdump, profile=[*zkr.PROFILES][-1], limit=zkr.LIMITS[-1])
 
     @contextlib.contextmanager
     def conversation(self, source):

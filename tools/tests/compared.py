@@ -118,7 +118,7 @@ def random_head(chance):
     if chance.random() < 0.5:
         return zkr.Head()
     return zkr.Head("zkr2", chance.choice((4_194_304, 16_777_216, 1000)), 4_194_304, chance.choice((65_536, 3)),
-                    chance.choice((34, 35)))
+                    chance.choice([*zkr.PROFILES.values()]))
 
 
 def recordings(zkdump, folder, paths):

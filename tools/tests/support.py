@@ -15,8 +15,9 @@ TOP = TOOLS.parent
 CAPTURES = sorted((TOP / "captures").glob("*.zkr"))
 PROGRAM = TOP / "crates" / "zkdump" / "out" / "zkdump"
 sys.path.insert(0, str(TOOLS))
+sys.path.append(str(TOP / "tests"))
 
-import zkr  # noqa: E402  (found by the line above)
+import zkr  # noqa: E402  (found by the lines above)
 
 
 def run_main(tool, words, stdin=b""):

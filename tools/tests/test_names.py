@@ -6,14 +6,17 @@ import subprocess
 import sys
 
 from support import TOP, ToolCase
+from invented import NUMBER
+
+sys.path.append(str(TOP / "docs"))
+import lists  # noqa: E402
 
 FOLDERS = [f"crates/{name}/src" for name in ("zk_records", "zk_asks", "zk_answers", "zk_fields", "zk_lines", "zk_c")]
-FILES = ("docs/names.py", "docs/lists.py", "docs/source.py", "docs/formats.py", "docs/FORMATS.md", "docs/REASONS.md",
-         "include/zk.h", "examples/python/libzk/_names.py", "examples/python/libzk/_messages.py",
-         "examples/python/libzk/_held.py", "examples/rust/zk/src/names.rs", "examples/server.c", "wireshark/names.c",
-         "wireshark/tree.c", "wireshark/hole.c", "wireshark/message.h", "tools/operations.py", "tools/forms.py",
-         "tools/columns/json.c", "tests/chosen.h", "bench/peer/peer.rs", "bench/make_recording.py")
-ALL_PASSED = (0, ["20 passed, 0 failed"])
+FILES = (*lists.PARTS, *lists.WHOLE, "docs/names.py", "docs/lists.py", "docs/source.py", "docs/formats.py",
+         "docs/FORMATS.md", "docs/REASONS.md", "examples/python/libzk/_messages.py", "examples/python/libzk/_held.py",
+         "crates/talk_tests/src/earliest/bodies.rt", "examples/server.c", "wireshark/tree.c", "wireshark/message.h",
+         "tools/forms.py", "bench/make_recording.py")
+ALL_PASSED = (0, ["25 passed, 0 failed"])
 # A file, what is replaced in it and by what, and what is then said: `{line}` is the line of the change.
 WRITTEN = (
     ("include/zk.h", '    case 8: return "getChildren";\n', "", 'lacks case 8: return "getChildren"'),
@@ -28,6 +31,10 @@ WRITTEN = (
     ("wireshark/names.c", '{12, "getChildren2"}, ', "", 'lacks {12, "getChildren2"}'),
     ("wireshark/names.c", '{NUMBER(-103), "BADVERSION"}', '{NUMBER(-104), "BADVERSION"}',
      'has {NUMBER(-104), "BADVERSION"}; lacks {NUMBER(-103), "BADVERSION"}'),
+    ("wireshark/names.c", '{104, "getAllChildrenNumber"}, ', "", 'lacks {104, "getAllChildrenNumber"}'),
+    ("wireshark/names.c", "return (op >= 15 &&", "return (op >= 16 &&",
+     "has return (op >= 16 && op <= 22) || (op >= 102 && op <= 107); "
+     "lacks return (op >= 15 && op <= 22) || (op >= 102 && op <= 107)"),
     ("wireshark/names.c", '{ZK_BAD_LENGTH, "BadLength"}, ', "", 'lacks {ZK_BAD_LENGTH, "BadLength"}'),
     ("tools/operations.py", 'WATCH, "names:texts"),', 'WATCH, "names:acls"),',
      'has Operation(8, "getChildren", "3.4", WATCH, "names:acls"); '
@@ -38,6 +45,8 @@ WRITTEN = (
      r'lacks case ZK_NAME_WATCH: return ", \"watch\": "'),
     ("wireshark/hole.c", "{8, true, true, 1}, ", "{8, true, true, 2}, ",
      "has {8, true, true, 2}; lacks {8, true, true, 1}"),
+    ("bench/peer/peer.rs", "const GET_ACL: i32 = 6;", "const GET_ACL: i32 = 7;",
+     "has const GET_ACL: i32 = 7; lacks const GET_ACL: i32 = 6"),
     ("tests/chosen.h", "PICK(1, 2, 3, 4,", "PICK(1, 2, 4,", "lacks 3"),
 )
 COMPARED = (
@@ -69,10 +78,6 @@ COMPARED = (
      ("docs/REASONS.md:{line}: 9 is NoPart, and in the sources BadPart",)),
     ("tools/operations.py", 'Operation(13, "check", None, VERSION),', 'Operation(13, "check", None, PATH),',
      ("tools/operations.py: no row of the part 13 check with text path, int version",)),
-    ("wireshark/names.c", '{104, "getAllChildrenNumber"}, ', "",
-     ("wireshark/names.c: no row of 104 getAllChildrenNumber, which tools/operations.py has",)),
-    ("wireshark/names.c", "(op >= 15 && op <= 22)", "(op >= 16 && op <= 22)",
-     ("wireshark/names.c: op_is_newer is wrong on 15 create2",)),
     ("tools/forms.py", '"cversion", "aversion"', '"aversion", "cversion"',
      ("tools/forms.py:{line}: STAT has czxid, mzxid, ctime, mtime, version, aversion, cversion, ephemeralOwner, "
       "dataLength, numChildren, pzxid, and in docs/FORMATS.md czxid, mzxid, ctime, mtime, version, cversion, aversion, "
@@ -107,8 +112,8 @@ COMPARED = (
     ("wireshark/tree.c", "[ZK_NAME_AUTH] = FIELD_AUTH, ", "", ("wireshark/tree.c: no row of ZK_NAME_AUTH",)),
     ("examples/python/libzk/_messages.py", "    BLOB = 5", "    BLOB = 6",
      ("examples/python/libzk/_messages.py:*: FieldKind.BLOB is 6, and ZK_KIND_BLOB 5",)),
-    ("bench/peer/peer.rs", "const GET_ACL: i32 = 6;", "const GET_ACL: i32 = 7;",
-     ("bench/peer/peer.rs:{line}: GET_ACL is 7, and in the sources 6",)),
+    ("crates/talk_tests/src/earliest/bodies.rt", "Layout::Answered(Op::Sync),", "Layout::Answered(Op::Ping),",
+     ("crates/talk_tests/src/earliest/bodies.rt: no bodies of Answered(Op::Sync)",)),
     ("bench/make_recording.py", "NODE_EXISTS = -101, -103, -110", "NODE_EXISTS = -101, -103, -111",
      ("bench/make_recording.py: NODE_EXISTS is -111, and in the sources -110",)),
     ("crates/zk_records/src/names.rt", '-102 => Some("NOAUTH"),', '-102 => Some("NORIGHT"),',
@@ -121,28 +126,30 @@ COMPARED = (
      ("the crates' sources have no Sync in op_of, AskOf or BodyOf",)),
     ("crates/zk_records/src/op.rt", "pub fn op_number", "pub fn number_of",
      ("the crates' sources have no fn op_number",)),
-    ("include/zk.h", "/* Up to here. */\n", "", ("include/zk.h has 3 marks, not 4",)),
+    ("include/zk.h", "/* Up to here. */\n", "", ("include/zk.h has 5 marks, not 6",)),
 )
-# getEphemerals of ZooKeeper 3.6, whose reply has a list of texts: what is added, after what, to each file.
+# A profile and an operation of it that no release has, whose reply has a list of texts: what is added, after what, to
+# each file.
 NEW = (
-    ("crates/zk_records/src/op.rt", "    SetWatches,\n", "    GetEphemerals,\n"),
-    ("crates/zk_records/src/op.rt", "        101 => Some(Op::SetWatches),\n",
-     "        103 if profile == Profile::V36 => Some(Op::GetEphemerals),\n"),
-    ("crates/zk_records/src/op.rt", "        Op::SetWatches => 101,\n", "        Op::GetEphemerals => 103,\n"),
-    ("crates/zk_records/src/names.rt", '        Op::SetWatches => "setWatches",\n',
-     '        Op::GetEphemerals => "getEphemerals",\n'),
-    ("crates/zk_asks/src/frame.rt", "    SetWatches(SetWatchesAskOf<L>),\n", "    GetEphemerals(PathAskOf<T>),\n"),
-    ("crates/zk_answers/src/frame.rt", "    SetWatches,\n", "    GetEphemerals { paths: L },\n"),
-    ("crates/zk_fields/src/name.rt", "pub const ERR: u16 = 34;\n", "pub const EPHEMERALS: u16 = 35;\n"),
-    ("crates/zk_answers/src/frame.rt", "            Exists | SetData | SetAcl: stat NONE stat,\n",
-     "            GetEphemerals: paths EPHEMERALS texts,\n"),
+    ("crates/zk_records/src/profile.rt", "        match self {\n", "            Profile::V99 => 99,\n"),
+    ("crates/zk_records/src/op.rt", "    Auth,\n", "    Invent,\n"),
+    ("crates/zk_records/src/op.rt", "        100 => Some(Op::Auth),\n",
+     f"        {NUMBER} if profile == Profile::V99 => Some(Op::Invent),\n"),
+    ("crates/zk_records/src/op.rt", "        Op::Auth => 100,\n", f"        Op::Invent => {NUMBER},\n"),
+    ("crates/zk_records/src/names.rt", '        Op::Auth => "auth",\n', '        Op::Invent => "invent",\n'),
+    ("crates/zk_asks/src/frame.rt", "    SetWatches(SetWatchesAskOf<L>),\n", "    Invent(PathAskOf<T>),\n"),
+    ("crates/zk_answers/src/frame.rt", "    SetWatches,\n", "    Invent { invented: L },\n"),
+    ("crates/zk_fields/src/name.rt", "pub const ERR: u16 = 34;\n", f"pub const INVENTIONS: u16 = {NUMBER};\n"),
+    ("crates/zk_answers/src/frame.rt", "            $($with)+:\n", "            Invent: invented INVENTIONS texts,\n"),
 )
 PAGE = (
-    ("docs/FORMATS.md", "| 100 | auth,", "| 103 | getEphemerals, `GetEphemerals` | `PathAsk` (GetEphemeralsRequest) | "
-     "vector of ustring paths (ephemerals; GetEphemeralsResponse) |\n"),
-    ("docs/FORMATS.md", "| getACL, sync |", "| getEphemerals | `getEphemerals path=`text |\n"),
-    ("docs/FORMATS.md", "| create2 | ` path=", "| getEphemerals | ` paths=`list of text |\n"),
-    ("wireshark/tree.c", "    [ZK_NAME_READ_ONLY]", "    [ZK_NAME_EPHEMERALS] = FIELD_EPHEMERALS,\n"),
+    ("docs/FORMATS.md", "| 100 | auth,", f"| {NUMBER} | invent, `Invent`, of 9.9 | `PathAsk` (InventRequest) | "
+     "vector of ustring invented (inventions; InventResponse) |\n"),
+    ("docs/FORMATS.md", "| auth | `auth", "| invent | `invent path=`text |\n"),
+    ("docs/FORMATS.md", "| multi | ` {`,", "| invent | ` invented=`list of text |\n"),
+    ("crates/talk_tests/src/earliest/bodies.rt", "    (\n        Layout::Connect,",
+     "    (Layout::Asked(Op::Invent), \"\"),\n    (Layout::Answered(Op::Invent), \"\"),\n"),
+    ("wireshark/tree.c", "    [ZK_NAME_READ_ONLY]", "    [ZK_NAME_INVENTIONS] = FIELD_INVENTIONS,\n"),
 )
 
 
@@ -202,14 +209,16 @@ class Names(ToolCase):
         for name, after, added in NEW:
             self.change(name, after, after + added)
         _, lines = self.run_names("--check")
-        said = [line for line in lines if "phemerals" in line or "EPHEMERALS" in line or "103" in line]
+        said = [line for line in lines if re.search("(?i)invent|9.?9", line)]
         places = {re.match(r"[\w./]+", line)[0] for line in said}
         self.assertEqual(places, {"include/zk.h", "tools/operations.py", "tests/chosen.h", "docs/FORMATS.md",
                                   "examples/python/libzk/_names.py", "examples/rust/zk/src/names.rs",
-                                  "tools/columns/json.c", "wireshark/tree.c"})
+                                  "tools/columns/json.c", "wireshark/names.c", "wireshark/tree.c",
+                                  "bench/peer/peer.rs", "wireshark/register.c", "examples/go/libzk.go",
+                                  "completion/zkdump.bash", "crates/talk_tests/src/earliest/bodies.rt"})
         for name, before, added in PAGE:
             self.change(name, before, added + before)
         self.assertEqual(self.run_names("--write"), ALL_PASSED)
-        self.assertIn('    Operation(103, "getEphemerals", "3.6", PATH, "paths:texts"),\n',
+        self.assertIn(f'    Operation({NUMBER}, "invent", "9.9", PATH, "invented:texts"),\n',
                       (self.folder / "tools" / "operations.py").read_text())
         self.assertEqual(self.run_names("--check"), ALL_PASSED)

@@ -5,6 +5,7 @@ import struct
 import unittest
 
 from support import CAPTURES, sides, zkr
+from invented import NUMBER
 import resync
 
 LIMIT = zkr.USUAL_LIMIT
@@ -57,7 +58,7 @@ class Plausible(unittest.TestCase):
             request(7, 3, path(b"/a")), request(7, 3, path(b"/a") + b"\0\0"),  # a byte is missing, or is too much
             request(7, 3, path(b"a") + b"\0"), request(7, 3, path(b"") + b"\0"),  # no path
             request(7, 3, struct.pack(">i", -1) + b"/"), request(7, 3, struct.pack(">i", 1 << 30) + b"/"),
-            request(7, 10, path(b"/a")), request(7, 13, path(b"/a") + bytes(4)), request(7, 108), request(7, 0),
+            request(7, 10, path(b"/a")), request(7, 13, path(b"/a") + bytes(4)), request(7, NUMBER), request(7, 0),
             request(7, 11), request(-2, 3, path(b"/a") + b"\0"), request(-4, 3, path(b"/a") + b"\0"),
             request(7, 100, bytes(16)), request(-2, 11, b"\0"), request(9, -11, b"\0"), request(5, 14),
             struct.pack(">i", LIMIT + 1) + EXISTS[4:], struct.pack(">i", -1) + EXISTS[4:], bytes(64),

@@ -4,6 +4,7 @@ import stat
 import struct
 
 from support import CAPTURES, PROGRAM, ToolCase, pieces, sides, zkr
+from invented import LACKED, NAMED, NUMBER
 
 CONNECT = bytes.fromhex("00000000 0000000000000000 00007530 0000000000000000 00000010" + "00" * 17)
 CONNECTED = bytes.fromhex("00000000 00007530 0100000000000001 00000010 000102030405060708090a0b0c0d0e0f 00")
@@ -45,14 +46,16 @@ CASES = {
         [request(1, 3, PATH + b"\0"), request(2, 100), reply(2), reply(1, -101)], [1, 2],
         "left out: C frame=2 xid=2 auth under an ordinary xid, 8 bytes"),
     "two requests of one xid": (
-        [request(7, 19), request(7, 3, PATH + b"\0"), reply(7), reply(7, -101)], [0, 2],
-        "left out: C frame=1 xid=7 createContainer, 8 bytes"),
-    "setWatches2 under its xid, and no reply": (
-        [request(-8, 105), request(-8, 101), ("S", reply(-1)[1])], [0],
-        "left out: C frame=1 xid=-8 setWatches2, 8 bytes"),
-    "a check outside a multi, SASL and an operation that no release has": (
-        [request(1, 13), request(2, 102), request(3, 999), reply(1), reply(2), reply(3)], [0, 1, 3, 4],
-        "left out: C frame=1 xid=1 check, 8 bytes"),
+        [request(7, NAMED.number), request(7, 3, PATH + b"\0"), reply(7), reply(7, -101)], [0, 2],
+        f"left out: C frame=1 xid=7 {NAMED.name}, 8 bytes"),
+    "an operation of a later release under the xid of setWatches, and no reply": (
+        [request(-8, NAMED.number), request(-8, 101), ("S", reply(-1)[1])], [0],
+        f"left out: C frame=1 xid=-8 {NAMED.name}, 8 bytes"),
+    "a check outside a multi, all of later releases, SASL, and an operation that no release has": (
+        [request(xid, each.number) for xid, each in enumerate(LACKED)] + [request(99, NUMBER)]
+        + [reply(xid) for xid, _ in enumerate(LACKED)] + [reply(99)],
+        [*range(len(LACKED)), *range(len(LACKED) + 1, 2 * len(LACKED) + 1)],
+        "left out: C frame=1 xid=0 check, 8 bytes"),
     "a multi of 3.4": (
         [request(1, 14, part(1, CREATE) + part(2, PATH + bytes(4)) + part(5, PATH + bytes(8))
                  + part(13, PATH + bytes(4)) + DONE),
@@ -88,13 +91,13 @@ class Zkskip(ToolCase):
                     self.assertEqual(lines[0], told)
 
     def test_create2_stays_under_3_5(self):
-        frames = [request(1, 15, CREATE), request(2, 19, CREATE), reply(1, 0, PATH), reply(2, 0, PATH)]
+        frames = [request(1, 15, CREATE), request(2, NAMED.number, CREATE), reply(1, 0, PATH), reply(2, 0, PATH)]
         self.assertEqual(self.skip(recording(frames), "--profile", "3.5")[0], recording(frames[::2]))
         self.assertEqual(self.skip(recording(frames), "--profile=3.4")[0], recording([]))
 
     def test_the_second_format_keeps_its_head_and_times(self):
         head = zkr.Head("zkr2", 100, 200, 3, 35)
-        found, _ = self.skip(recording([request(1, 19), reply(1), request(2, 3)], head))
+        found, _ = self.skip(recording([request(1, NAMED.number), reply(1), request(2, 3)], head))
         self.assertEqual(found[:20], head.to_bytes())
         self.assertEqual([piece.milliseconds for piece in pieces(found)], [0, 1, 4])
 

@@ -11,6 +11,7 @@ import time
 
 from proxied import STAND_IN
 from support import PROGRAM, TOOLS, TOP, ToolCase, pieces, receive, sides, zkr
+from invented import NAMED
 
 RUN = TOP / "crates" / "zkdump" / "stdin"
 LISTING = """C connect version=0 zxid=0 timeout=30000 session=0 passwd=#00000000000000000000000000000000 ro=0
@@ -40,26 +41,27 @@ S 3 getData zxid=2213 blob=#78 stat=(2213,2213,1795332738916,1795332738916,0,0,0
 }
 HELLO = "0000002d 00000000 0000000000000000 00007530 0000000000000000 00000010" + "00" * 17
 WELCOME = "00000025 00000000 00007530 0100000000000001 00000010" + "00" * 17
+DIGITS, NAME = f"{NAMED.number:08x}", NAMED.name
 # Hexadecimal bytes of each side, and the lines from the third on: the numbers of the last count what is left out.
 ENDINGS = (
-    # getEphemerals of "/a" and its reply of no paths; then an exists whose last byte, the client's 86th, is no boolean
-    ("C 0000000e 00000001 00000067 00000002 2f61  S 00000014 00000001 0000000000000005 00000000 00000000"
+    # What no profile has and its reply of no paths; then an exists whose last byte, the client's 86th, is no boolean
+    (f"C 0000000e 00000001 {DIGITS} 00000002 2f61  S 00000014 00000001 0000000000000005 00000000 00000000"
      "C 0000000f 00000002 00000003 00000002 2f61 02",
-     ["left out: C frame=1 xid=1 getEphemerals, 14 bytes", "left out: S frame=1 xid=1 getEphemerals, 20 bytes",
+     [f"left out: C frame=1 xid=1 {NAME}, 14 bytes", f"left out: S frame=1 xid=1 {NAME}, 20 bytes",
       ". refused side=C frame=2 offset=86 place=14 reason=BadBool"]),
-    # an exists whose last byte is no boolean, and whoAmI after it
-    ("C 0000000f 00000001 00000003 00000002 2f61 02 00000008 00000002 0000006b",
+    # an exists whose last byte is no boolean, and what no profile has after it
+    (f"C 0000000f 00000001 00000003 00000002 2f61 02 00000008 00000002 {DIGITS}",
      [". refused side=C frame=1 offset=68 place=14 reason=BadBool"]),
-    # getEphemerals, and a length that no frame has, before the reply
-    ("C 0000000e 00000001 00000067 00000002 2f61 ffffffff  S 00000014 00000001 0000000000000005 00000000 00000000",
-     ["left out: C frame=1 xid=1 getEphemerals, 14 bytes",
+    # the same, and a length that no frame has, before the reply
+    (f"C 0000000e 00000001 {DIGITS} 00000002 2f61 ffffffff  S 00000014 00000001 0000000000000005 00000000 00000000",
+     [f"left out: C frame=1 xid=1 {NAME}, 14 bytes",
       ". refused side=C frame=2 offset=71 place=0 reason=LengthRange"]),
-    # whoAmI, and a reply to it that is cut; addWatch without a reply, between two exists in one piece
-    ("C 00000008 00000001 0000006b  S 00000014 00000001 0000",
-     ["left out: C frame=1 xid=1 whoAmI, 8 bytes", ". cut side=S frame=1 got=10"]),
-    ("C 0000000f 00000001 00000003 00000002 2f61 00 00000012 00000002 0000006a 00000002 2f61 00000000"
+    # without a body, and a reply to it that is cut; without a reply, between two exists in one piece
+    (f"C 00000008 00000001 {DIGITS}  S 00000014 00000001 0000",
+     [f"left out: C frame=1 xid=1 {NAME}, 8 bytes", ". cut side=S frame=1 got=10"]),
+    (f"C 0000000f 00000001 00000003 00000002 2f61 00 00000012 00000002 {DIGITS} 00000002 2f61 00000000"
      "  0000000f 00000003 00000003 00000002 2f61 00",
-     ['C 1 exists path="/a" watch=0', "left out: C frame=2 xid=2 addWatch, 18 bytes",
+     ['C 1 exists path="/a" watch=0', f"left out: C frame=2 xid=2 {NAME}, 18 bytes",
       'C 3 exists path="/a" watch=0', ". whole unanswered=3"]),
 )
 WHOLE = ". whole show --profile 3.4 --limit 4194304"       # the last line of STAND_IN

@@ -6,7 +6,8 @@ from typing import Callable, Iterator, List, NamedTuple, NoReturn, Optional, Tup
 
 from . import _calls
 from ._calls import library
-from ._messages import RANGE, Fault, Message, Profile, Refused, Side, fault_of, message_of, written
+from ._messages import RANGE, Fault, Message, Refused, Side, fault_of, message_of, written
+from ._names import Profile
 
 _WHOLE, _CUT = 1, 2
 _Self = TypeVar("_Self", bound="_Held")

@@ -16,12 +16,6 @@ class Side(enum.IntEnum):
     SERVER = 1
 
 
-class Profile(enum.IntEnum):
-    """The operations of a release."""
-    V34 = 34
-    V35 = 35
-
-
 class Kind(enum.IntEnum):
     """Kinds of messages."""
     CONNECT = 1

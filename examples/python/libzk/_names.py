@@ -1,5 +1,6 @@
-"""Names of numbers (include/zk.h), written by docs/names.py."""
+"""Names of numbers (include/zk.h), and profiles, written by docs/names.py."""
 
+import enum
 from typing import Dict
 
 OPERATIONS: Dict[int, str] = {
@@ -35,3 +36,9 @@ STATUSES: Dict[int, str] = {
     69: "NO_MESSAGE", 70: "NULL", 81: "NOT_FIRST", 82: "MISFIT", 83: "TOO_LONG", 91: "LINE_WORD",
     92: "LINE_NUMBER", 93: "LINE_TEXT", 94: "LINE_BLOB", 95: "LINE_NAME", 96: "LINE_REST", 97: "LINE_ENDING",
 }
+
+
+class Profile(enum.IntEnum):
+    """The operations of a release."""
+    V34 = 34
+    V35 = 35

@@ -6,9 +6,9 @@ from typing import Callable, List, Sequence, Tuple, Union
 
 from . import _calls
 from ._calls import library
-from ._messages import (RANGE, ROOM, Field, FieldKind, Kind, Message, Profile, Refused, Side, Value, fields_of,
+from ._messages import (RANGE, ROOM, Field, FieldKind, Kind, Message, Refused, Side, Value, fields_of,
                         number_of, written)
-from ._names import OPERATIONS
+from ._names import OPERATIONS, Profile
 
 Item = Union[Field, Tuple[FieldKind, Value]]
 

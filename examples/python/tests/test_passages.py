@@ -8,15 +8,15 @@ import unittest
 from libzk import Cut, Fault, Kind, Passed, Refused, Side, Through, Went
 from test_libzk import EXISTS, HELLO, NO_NODE, WELCOME, frame
 
-# getEphemerals of ZooKeeper 3.6 of /a, and its reply.
-EPHEMERALS = bytes.fromhex("00000001 00000067 00000002 2f61")
+# An operation that no release has (9999) of /a, and its reply.
+UNKNOWN = bytes.fromhex("00000001 0000270f 00000002 2f61")
 NONE = bytes.fromhex("00000001 0000000000000005 00000000 00000000")
 
 
 class Passages(unittest.TestCase):
-    """getEphemerals under xid 1, and an exists request under xid 2 before its reply."""
+    """That operation under xid 1, and an exists request under xid 2 before its reply."""
     SECOND, SECOND_NO_NODE = b"\0\0\0\2" + EXISTS[4:], b"\0\0\0\2" + NO_NODE[4:]
-    CAME = ((Side.CLIENT, HELLO), (Side.SERVER, WELCOME), (Side.CLIENT, EPHEMERALS), (Side.CLIENT, SECOND),
+    CAME = ((Side.CLIENT, HELLO), (Side.SERVER, WELCOME), (Side.CLIENT, UNKNOWN), (Side.CLIENT, SECOND),
             (Side.SERVER, NONE), (Side.SERVER, SECOND_NO_NODE))
 
     def told(self, passed):
@@ -29,8 +29,8 @@ class Passages(unittest.TestCase):
 
     def test_pairs_are_left_out(self):
         wanted = [(Kind.CONNECT, 0, "", HELLO, 0, None), (Kind.CONNECTED, 0, "", WELCOME, 0, None),
-                  (Went.ASKED, 1, 103, EPHEMERALS, 1), (Kind.REQUEST, 2, "exists", self.SECOND, 2, None),
-                  (Went.ANSWERED, 1, 103, NONE, 1), (Kind.REPLY, 2, "exists", self.SECOND_NO_NODE, 2, 2)]
+                  (Went.ASKED, 1, 9999, UNKNOWN, 1), (Kind.REQUEST, 2, "exists", self.SECOND, 2, None),
+                  (Went.ANSWERED, 1, 9999, NONE, 1), (Kind.REPLY, 2, "exists", self.SECOND_NO_NODE, 2, 2)]
         with Through() as through:
             for cut in (1, 7, 1000):
                 found = []
@@ -61,7 +61,7 @@ class Passages(unittest.TestCase):
         with Through(waiting=1) as through:
             through.feed(Side.CLIENT, frame(HELLO))
             through.feed(Side.SERVER, frame(WELCOME))
-            asked, full = through.feed(Side.CLIENT, frame(EPHEMERALS) + frame(self.SECOND))
+            asked, full = through.feed(Side.CLIENT, frame(UNKNOWN) + frame(self.SECOND))
             self.assertEqual((asked.went, asked.used, full), (Went.ASKED, 18, Passed(Went.FULL, 0)))
             self.assertEqual(through.feed(Side.CLIENT, frame(self.SECOND)[:9]), [Passed(Went.WITHIN, 9)])
             for _ in range(2):
@@ -81,7 +81,7 @@ class Passages(unittest.TestCase):
                 self.assertEqual((caught.exception.fault, caught.exception.messages), (wanted, ()))
             through.renew()
             with self.assertRaises(Refused) as caught:
-                through.feed(Side.CLIENT, frame(HELLO) + frame(EPHEMERALS) + frame(self.SECOND[:-1]))
+                through.feed(Side.CLIENT, frame(HELLO) + frame(UNKNOWN) + frame(self.SECOND[:-1]))
             self.assertEqual(caught.exception.fault, Fault(Side.CLIENT, 2, 85, 14, "SHORT", None, None))
             self.assertEqual([message.kind for message in caught.exception.messages], [Kind.CONNECT])
 

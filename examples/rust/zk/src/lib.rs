@@ -54,20 +54,13 @@ pub use message::{Field, Kind, Message, Reader, Value};
 pub use through::{LeftOut, Through, Unseen, Went};
 pub use write::Writer;
 
-pub use names::{error_name, event_name, field_name, operation_name, status_name};
+pub use names::{error_name, event_name, field_name, operation_name, status_name, Profile};
 
 /// Who speaks.
 #[derive(Clone, Copy, Debug, PartialEq, Eq)]
 pub enum Side {
     Client = 0,
     Server = 1,
-}
-
-/// The operations of a release.
-#[derive(Clone, Copy, Debug, PartialEq, Eq)]
-pub enum Profile {
-    V34 = 34,
-    V35 = 35,
 }
 
 /// Why bytes are no message, or a call can't be made; `status_name` has the name of a status.

@@ -1,4 +1,11 @@
-//! Names of numbers, "" where a number has none; written by docs/names.py.
+//! Names of numbers, "" where a number has none, and profiles; written by docs/names.py.
+
+/// The operations of a release.
+#[derive(Clone, Copy, Debug, PartialEq, Eq)]
+pub enum Profile {
+    V34 = 34,
+    V35 = 35,
+}
 
 /// Of an operation, or of a part of a multi.
 pub fn operation_name(number: i32) -> &'static str {

@@ -1,5 +1,5 @@
-//! getEphemerals of ZooKeeper 3.6 (103), which no profile has, and an exists request before its reply. The payloads are
-//! those of docs/EXAMPLES.md and docs/FORMATS.md.
+//! An operation that no release has (9999), and an exists request before its reply. The other payloads are those of
+//! docs/EXAMPLES.md and docs/FORMATS.md.
 
 use zk::{At, Ending, Fault, LeftOut, Limits, Message, Order, Side, Through, Unseen, Value, Went};
 
@@ -11,14 +11,14 @@ const WELCOME: [u8; 37] = [
     0, 0, 0, 0, 0, 0, 117, 48, 1, 0, 0, 0, 0, 0, 0, 1, 0, 0, 0, 16, 0, 1, 2, 3, 4, 5, 6, 7, 8, 9,
     10, 11, 12, 13, 14, 15, 0,
 ];
-const EPHEMERALS: [u8; 14] = [0, 0, 0, 1, 0, 0, 0, 103, 0, 0, 0, 2, b'/', b'a'];
+const UNKNOWN: [u8; 14] = [0, 0, 0, 1, 0, 0, 39, 15, 0, 0, 0, 2, b'/', b'a'];
 const EXISTS: [u8; 15] = [0, 0, 0, 2, 0, 0, 0, 3, 0, 0, 0, 2, b'/', b'a', 1];
 const NONE: [u8; 20] = [0, 0, 0, 1, 0, 0, 0, 0, 0, 0, 0, 5, 0, 0, 0, 0, 0, 0, 0, 0];
 const NO_NODE: [u8; 16] = [0, 0, 0, 2, 0, 0, 0, 0, 0, 0, 0, 5, 255, 255, 255, 155];
 const CAME: [(Side, &[u8]); 6] = [
     (Side::Client, &HELLO),
     (Side::Server, &WELCOME),
-    (Side::Client, &EPHEMERALS),
+    (Side::Client, &UNKNOWN),
     (Side::Client, &EXISTS),
     (Side::Server, &NONE),
     (Side::Server, &NO_NODE),
@@ -92,9 +92,9 @@ fn pairs_are_left_out() {
     let wanted = [
         "message 0 0 45 frame 0 answers 0",
         "message 0 0 37 frame 0 answers 0",
-        "asked 1 103 14 frame 1",
+        "asked 1 9999 14 frame 1",
         "message 2 3 15 frame 2 answers 0",
-        "answered 1 103 20 frame 1",
+        "answered 1 9999 20 frame 1",
         "message 2 3 16 frame 2 answers 2",
     ];
     let mut through = passage(65_536);
@@ -155,17 +155,17 @@ fn full() {
     for (side, payload) in &CAME[..2] {
         step(&mut through, *side, &frame(payload), payload.len() + 4);
     }
-    let asked = [frame(&EPHEMERALS), exists.clone()].concat();
+    let asked = [frame(&UNKNOWN), exists.clone()].concat();
     assert_eq!(
         step(&mut through, Side::Client, &asked, 18),
-        "asked 1 103 14 frame 1"
+        "asked 1 9999 14 frame 1"
     );
     assert_eq!(step(&mut through, Side::Client, &exists, 0), "full");
     assert_eq!(step(&mut through, Side::Client, &exists[..9], 9), "within");
     assert_eq!(step(&mut through, Side::Client, &exists[9..], 0), "full");
     assert_eq!(
         step(&mut through, Side::Server, &none, 24),
-        "answered 1 103 20 frame 1"
+        "answered 1 9999 20 frame 1"
     );
     assert_eq!(
         step(&mut through, Side::Client, &exists[9..], 10),
