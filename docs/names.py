@@ -200,8 +200,10 @@ def compare_field_rows():
 
 
 def compare_enumerations():
-    """The enumerations of the package for Python with the header's."""
+    """The enumerations of the package for Python with the header's, and the header's kinds of fields with the sources'."""
     header = dict(re.findall(r"\b(ZK_\w+) = (-?\d+)", (TOP / "include" / "zk.h").read_text()))
+    yield from (f"include/zk.h: ZK_KIND_{name} is {header.get('ZK_KIND_' + name)}, and in the sources {number}"
+                for name, number in source.kinds().items() if header.get("ZK_KIND_" + name) != number)
     found = {}
     for path in sorted((TOP / "examples" / "python" / "libzk").glob("*.py")):
         text = path.read_text()

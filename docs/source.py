@@ -73,19 +73,24 @@ def records():
         r"^pub struct (\w+?)(?:Of)?(?:<[^>]*>)? \{(.*?)^\}", text_of("zk_records"), re.M | re.S)], "records")
 
 
+def table(macro):
+    """A table of zk_records' op.rt, without comments."""
+    found = re.search(rf"^macro_rules! {macro} \{{(.*?)^\}}", text_of("zk_records", "op"), re.M | re.S)
+    if found is None:
+        raise Missing(f"the crates' sources have no {macro}!")
+    return found[1]
+
+
 def numbers(kind):
-    """The number and the name of each variant of Op (`op`) or PartOp (`part`)."""
-    text = text_of("zk_records", "op", "names")
-    names = dict(re.findall(r'Op::(\w+) => "(\w+)"', body(text, f"fn {kind}_name")))
-    return some([(variant, (int(number), names[variant])) for variant, number in re.findall(
-        r"Op::(\w+) => (-?\d+)", body(text, f"fn {kind}_number"))], f"numbers of {kind}")
+    """The number and the name of each variant of Op (`op_rows`) or PartOp (`part_codes`)."""
+    return some([(variant, (int(number), name)) for variant, number, name in re.findall(
+        r'(\w+) (-?\d+) "(\w+)"', table(kind))], f"rows in {kind}")
 
 
 def releases():
     """The first release whose profile has the operation of each variant."""
-    rows = re.findall(r"-?\d+(?: if [^=]*==[^=]*V(\d)(\d))? => Some\(Op::(\w+)\)",
-                      body(text_of("zk_records", "op"), "fn op_of"))
-    return some([(variant, f"{major or 3}.{minor or 4}") for major, minor, variant in rows], "profiles of operations")
+    return some([(variant, f"{major}.{minor}") for major, minor, rows in re.findall(
+        r"\bV(\d)(\d):([^:;]*)", table("op_rows")) for variant in re.findall(r"(\w+) -?\d", rows)], "profiles of operations")
 
 
 def profiles():
@@ -117,9 +122,9 @@ def operations():
     of_record, release, rules = records(), releases(), xids()
     asks, bodies = variants("zk_asks", "AskOf"), variants("zk_answers", "BodyOf")
     found = []
-    for variant, (number, name) in numbers("op").items():
-        if not (variant in release and variant in asks and variant in bodies):
-            raise Missing(f"the crates' sources have no {variant} in op_of, AskOf or BodyOf")
+    for variant, (number, name) in numbers("op_rows").items():
+        if not (variant in asks and variant in bodies):
+            raise Missing(f"the crates' sources have no {variant} in AskOf or BodyOf")
         held, rule = asks[variant][0], rules.get(variant, rules[""])
         own = [xid for xid in OWN_XIDS if allows(rule, xid)]
         found.append(Operation(
@@ -134,7 +139,7 @@ def parts():
     """The parts of a multi, in the order of their numbers. Their replies are not read."""
     of_record, held = records(), variants("zk_asks", "PartOf")
     return [Operation(number, name, variant, held[variant][0], of_record[held[variant][0]])
-            for variant, (number, name) in numbers("part").items()]
+            for variant, (number, name) in numbers("part_codes").items()]
 
 
 def codes(kind):
@@ -147,6 +152,12 @@ def field_names():
     """The number of each name of a field; NONE is 0."""
     rows = re.findall(r"const (\w+): u16 = (\d+);", text_of("zk_fields", "name"))
     return some([(name, int(number)) for name, number in rows], "names of fields")
+
+
+def kinds():
+    """The number of each kind of a field, by its name in C without ZK_KIND_."""
+    rows = re.findall(r"const (\w+): u8 = (\d+);", text_of("zk_fields", "kind"))
+    return some([(name.replace("BOOLEAN", "BOOL"), number) for name, number in rows], "kinds of fields")
 
 
 def names_in_c():

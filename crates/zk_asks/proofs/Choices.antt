@@ -9,8 +9,8 @@ use Rattle.zk_records.specs.declared.op.Op.TheVariants as ops
 use Rattle.zk_records.specs.declared.header.MultiHeader.{MultiHeader}
 use Rattle.zk_records.specs.declared.profile.Profile.{Profile}
 use Rattle.zk_records.specs.declared.profile.Profile.TheVariants as profiles
-use Rattle.zk_records.specs.Codes.{op_number, HasOp, IsNoOp}
-use Rattle.zk_records.proofs.Numbers.{every_op, every_part, each_op, each_part, op_number_apart}
+use Rattle.zk_records.specs.Codes.{op_number, all_ops, HasOp, IsNoOp, all_parts}
+use Rattle.zk_records.proofs.Numbers.{each_op, each_part, op_number_apart}
 use Rattle.zk_asks.specs.Codes.{event_xid, ping_xid, auth_xid, watches_xid, IsAllowed}
 use Rattle.zk_asks.specs.Parts.{part_header, end_header, MayStand}
 
@@ -68,7 +68,7 @@ has_decided profiles.V35 op = inl tt
 -- the operation of a number
 pub number_decided : (profile : Profile) (number : ℤ) → ((op : Op) × HasOp profile op × (number ≡ op_number op)) ⊎ IsNoOp profile number
 number_decided profile number =
-    let found = among (λ op. HasOp profile op × (number ≡ op_number op)) (λ op. both_decided (has_decided profile op) (int_decided number (op_number op))) every_op in
+    let found = among (λ op. HasOp profile op × (number ≡ op_number op)) (λ op. both_decided (has_decided profile op) (int_decided number (op_number op))) all_ops in
     elim found [
       | inl f ↦ inl (f.0, f.1.0, f.1.1)
       | inr none ↦ inr (λ op has is. each_op (λ op. HasOp profile op × (number ≡ op_number op) → ⊥) none op (has, is))
@@ -86,7 +86,7 @@ header_decided h g =
 -- which header may stand in a multi
 pub header_may : (h : MultiHeader) → Decided (MayStand h)
 header_may h =
-    elim (among (λ op. h ≡ part_header op) (λ op. header_decided h (part_header op)) every_part) [
+    elim (among (λ op. h ≡ part_header op) (λ op. header_decided h (part_header op)) all_parts) [
       | inl f ↦ inl (inl f)
       | inr none ↦ elim (header_decided h end_header) [
         | inl e ↦ inl (inr e)

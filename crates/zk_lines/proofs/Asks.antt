@@ -7,7 +7,7 @@ use Rattle.zk_records.specs.declared.op.Op.{Op}
 use Rattle.zk_records.specs.declared.op.Op.TheVariants as ops
 use Rattle.zk_records.specs.declared.op.PartOp.{PartOp}
 use Rattle.zk_records.specs.declared.op.PartOp.TheVariants as parts
-use Rattle.zk_records.specs.Names.{op_name, part_name}
+use Rattle.zk_records.specs.Codes.{op_name, all_ops, part_name, all_parts}
 use Rattle.zk_asks.specs.Held.{Part, Ask}
 use Rattle.zk_asks.specs.declared.frame.PartOf.TheVariants as part
 use Rattle.zk_asks.specs.Parts.{op_of_part, record_of, part_items, part_header, end_header, marked, multi_items}
@@ -65,13 +65,13 @@ check_is = row_of_record _ _ (path_field with version_field) _ _ (λ _. refl) (�
 
 -- ---- parts of a multi
 
-part_found : (k : PartOp) → IsFound part_name asks.all_parts k
+part_found : (k : PartOp) → IsFound part_name all_parts k
 part_found parts.Create = (refl, refl)
 part_found _ = (refl, refl)
 
 part_names : IsNames part_name asks.part_named
 unfolding asks.part_named
-part_names = names_of part_name asks.all_parts part_found
+part_names = names_of part_name all_parts part_found
 
 ruleset part_records = (create_is, delete_is, set_data_is, check_is)
 
@@ -107,17 +107,13 @@ multi_is = row_of_series part_items (marked end_header) part_is part_begins part
 
 -- ---- requests
 
-op_found : (k : Op) → IsFound op_name asks.all_ops k
+op_found : (k : Op) → IsFound op_name all_ops k
 op_found ops.Create = (refl, refl)
 op_found _ = (refl, refl)
 
 pub op_names : IsNames op_name asks.op_named
 unfolding asks.op_named
-op_names = names_of op_name asks.all_ops op_found
-
--- the operation that has a name is found by it
-pub op_is : (bytes : List ℕ) (op : Op) → bytes ≡ op_name op → asks.op_named bytes ≡ Some op
-op_is bytes op e = ap asks.op_named e ∙ op_names.found op
+op_names = names_of op_name all_ops op_found
 
 ruleset ask_records = (create_is, delete_is, watch_is, set_data_is, path_is, set_acl_is, auth_is, set_watches_is, multi_is, nothing_is)
 

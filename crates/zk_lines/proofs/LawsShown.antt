@@ -1,7 +1,7 @@
 -- The line of a message is of printed bytes, and begins with the letter of its side.
 use Rattle.std.proofs.Common.{◌≡◌, ℕ, ◌≤◌, List, [], ◌∷◌, ◌++◌, refl, ap, arith}
 use Rattle.std.specs.Prelude.{codes}
-use Rattle.zk_records.specs.Names.{op_name}
+use Rattle.zk_records.specs.Codes.{op_name}
 use Rattle.zk_asks.specs.declared.frame.ClientFrameOf.TheVariants as client
 use Rattle.zk_answers.specs.Held.{Outcome}
 use Rattle.zk_answers.specs.declared.frame.OutcomeOf.TheVariants as outcome

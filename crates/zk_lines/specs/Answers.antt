@@ -7,7 +7,7 @@ use Rattle.zk_records.specs.declared.event.WatcherEventOf.{WatcherEventOf}
 use Rattle.zk_records.specs.declared.stat.Stat.{Stat}
 use Rattle.zk_records.specs.declared.op.Op.{Op}
 use Rattle.zk_records.specs.declared.op.Op.TheVariants as ops
-use Rattle.zk_records.specs.Names.{op_name}
+use Rattle.zk_records.specs.Codes.{op_name}
 use Rattle.zk_answers.specs.Held.{PartDone, Body, Outcome, Reply}
 use Rattle.zk_answers.specs.declared.frame.PartDoneOf.TheVariants as done
 use Rattle.zk_answers.specs.declared.frame.OutcomeOf.TheVariants as outcome
@@ -17,7 +17,7 @@ use Rattle.zk_answers.specs.Rows.{row_of, by_op}
 use Rattle.zk_items.specs.Form.{Form, Read, ◌>>=◌, read_map, fields, ◌and◌, word_at}
 use Rattle.zk_items.specs.Leaf.{int, long, ro, text, blob}
 use Rattle.zk_items.specs.Codes.{error_code, failure_code, event_code}
-use Rattle.zk_lines.specs.Words.{word_of, field, field_at}
+use Rattle.zk_lines.specs.Words.{word_of, field}
 use Rattle.zk_lines.specs.declared.word.Word.{Word}
 use Rattle.zk_lines.specs.declared.word.Word.TheVariants as words
 use Rattle.zk_lines.specs.declared.done.DoneName.{DoneName}
@@ -55,20 +55,20 @@ abbrev pub event : Form (ℤ × WatcherEvent)
 event = event_of text
 
 -- a field, and the Stat after it
-abbrev pub with_stat_at : {X : Type 0} → Word → (List ℕ → Read X) → List ℕ → Read (X × Stat)
-with_stat_at word at bytes = field_at word at bytes >>= λ p. (field words.Stat stat).at p.1 >>= λ q. Some ((p.0, q.0), q.1)
+abbrev pub with_stat : {X : Type 0} → Word → Form X → Form (X × Stat)
+with_stat word f = field word f and field words.Stat stat
 
 abbrev pub content : Form DataBody
-content = fields (field words.Blob blob and field words.Stat stat) (λ b. (b.blob, b.stat)) (λ (blob, stat). record { blob = blob; stat = stat })
+content = fields (with_stat words.Blob blob) (λ b. (b.blob, b.stat)) (λ (blob, stat). record { blob = blob; stat = stat })
 
 abbrev pub acls : Form AclBody
-acls = fields (field words.Acl (list_of acl) and field words.Stat stat) (λ b. (b.acl, b.stat)) (λ (acl, stat). record { acl = acl; stat = stat })
+acls = fields (with_stat words.Acl (list_of acl)) (λ b. (b.acl, b.stat)) (λ (acl, stat). record { acl = acl; stat = stat })
 
 abbrev pub created : Form CreateBody
-created = fields (field words.Path text and field words.Stat stat) (λ b. (b.path, b.stat)) (λ (path, stat). record { path = path; stat = stat })
+created = fields (with_stat words.Path text) (λ b. (b.path, b.stat)) (λ (path, stat). record { path = path; stat = stat })
 
 abbrev pub children : Form ChildrenBody
-children = fields (field words.Names (list_of text) and field words.Stat stat) (λ b. (b.names, b.stat)) (λ (names, stat). record { names = names; stat = stat })
+children = fields (with_stat words.Names (list_of text)) (λ b. (b.names, b.stat)) (λ (names, stat). record { names = names; stat = stat })
 
 -- ---- results of a multi
 

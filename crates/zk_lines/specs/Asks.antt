@@ -15,7 +15,7 @@ use Rattle.zk_records.specs.declared.op.Op.{Op}
 use Rattle.zk_records.specs.declared.op.Op.TheVariants as ops
 use Rattle.zk_records.specs.declared.op.PartOp.{PartOp}
 use Rattle.zk_records.specs.declared.op.PartOp.TheVariants as parts
-use Rattle.zk_records.specs.Names.{op_name, part_name}
+use Rattle.zk_records.specs.Codes.{op_name, all_ops, part_name, all_parts}
 use Rattle.zk_asks.specs.Held.{Part, Ask}
 use Rattle.zk_asks.specs.declared.frame.PartOf.TheVariants as part
 use Rattle.zk_asks.specs.Parts.{op_of_part}
@@ -114,9 +114,6 @@ check = check_of text
 
 -- ---- parts of a multi
 
-abbrev pub all_parts : List PartOp
-all_parts = parts.Create ∷ parts.Delete ∷ parts.SetData ∷ parts.Check ∷ []
-
 unfoldable pub part_named : List ℕ → Option PartOp
 part_named bytes = first_named part_name all_parts bytes
 
@@ -146,11 +143,6 @@ abbrev pub multi : Form (List Part)
 multi = multi_of part_form
 
 -- ---- requests
-
-abbrev pub all_ops : List Op
-all_ops =
-    ops.Create ∷ ops.Delete ∷ ops.Exists ∷ ops.GetData ∷ ops.SetData ∷ ops.GetAcl ∷ ops.SetAcl ∷ ops.GetChildren ∷ ops.Sync
-    ∷ ops.Ping ∷ ops.GetChildren2 ∷ ops.Multi ∷ ops.Create2 ∷ ops.Auth ∷ ops.SetWatches ∷ ops.CloseSession ∷ []
 
 unfoldable pub op_named : List ℕ → Option Op
 op_named bytes = first_named op_name all_ops bytes

@@ -22,7 +22,7 @@ use zk_records::{Op, Stat, owned};
 
 /// Reads the field after `word`, and the `Stat` after it.
 fn read_with_stat<T: Item>(line: &mut Reader<'_>, word: Word) -> Result<(T, Stat), LineFault>
-    ensures { Gives result line.new (answers.with_stat_at word T.form.at line.old) }
+    ensures { Gives result line.new ((answers.with_stat word T.form).at line.old) }
 {
     let value = read_field(line, word)?;
     let stat = read_field(line, Word::Stat)?;
@@ -67,7 +67,7 @@ pub fn read_body(line: &mut Reader<'_>, op: Op) -> Result<Body, LineFault>
 
 /// Reads the field after `word`, and the `Stat` after it, and appends their bytes.
 fn copy_with_stat<T: Copies>(line: &mut Reader<'_>, word: Word, out: &mut Vec<u8>) -> Option<()>
-    ensures copied { OnSome result (Copied (answers.with_stat_at word T.form.at) (with_stat T.items) line.old line.new out.old.items out.new.items) }
+    ensures copied { OnSome result (Copied (answers.with_stat word T.form).at (with_stat T.items) line.old line.new out.old.items out.new.items) }
     ensures keeps { Keeps out.old.items out.new.items }
 {
     copy_field::<T>(line, word, out)?;
@@ -101,8 +101,8 @@ fn put_with_stat<T: Put>(
     value: &T,
     stat: &Stat,
 ) -> Result<(), AllocError>
-    ensures spelled { OnOk result (out.new.items ≡ out.old.items ++ ((word_of word ++ T.form.spell value.now) ++ (word_of words.Stat ++ records.stat.spell stat.now))) }
-    ensures fits { OnOk result (T.form.fits value.now × records.stat.fits stat.now) }
+    ensures spelled { OnOk result (out.new.items ≡ out.old.items ++ (answers.with_stat word T.form).spell (value.now, stat.now)) }
+    ensures fits { OnOk result ((answers.with_stat word T.form).fits (value.now, stat.now)) }
     ensures keeps { Keeps out.old.items out.new.items }
 {
     put_field(out, word, value)?;

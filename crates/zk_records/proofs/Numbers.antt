@@ -1,5 +1,5 @@
 -- Each operation and each part has a number of its own.
-use Rattle.std.specs.Prelude.{◌≡◌, ◌≢◌, ◌↔◌, ℤ, pos, List, [], ◌∷◌, map, Option, Some, IfSome, refl}
+use Rattle.std.specs.Prelude.{◌≡◌, ◌≢◌, ◌↔◌, ℤ, pos, List, map, Option, Some, IfSome, refl}
 use Rattle.std.specs.List.{All}
 use Rattle.std.proofs.Common.{sym, ap, subst, ◌∙◌}
 use Rattle.std.proofs.lemmas.Map.Views.{IfSome-lookup_from_All}
@@ -10,37 +10,17 @@ use Rattle.zk_records.specs.declared.op.Op.TheVariants as ops
 use Rattle.zk_records.specs.declared.op.PartOp.{PartOp}
 use Rattle.zk_records.specs.declared.op.PartOp.TheVariants as parts
 use Rattle.zk_records.specs.declared.profile.Profile.TheVariants as profiles
-use Rattle.zk_records.specs.Codes.{op_number, HasOp, part_number}
-
-abbrev pub every_op : List Op
-every_op =
-    ops.Create ∷
-    ops.Delete ∷
-    ops.Exists ∷
-    ops.GetData ∷
-    ops.SetData ∷
-    ops.GetAcl ∷
-    ops.SetAcl ∷
-    ops.GetChildren ∷
-    ops.Sync ∷
-    ops.Ping ∷
-    ops.GetChildren2 ∷
-    ops.Multi ∷
-    ops.Create2 ∷
-    ops.Auth ∷
-    ops.SetWatches ∷
-    ops.CloseSession ∷
-    []
+use Rattle.zk_records.specs.Codes.{op_number, all_ops, HasOp, part_number, all_parts}
 
 abbrev op_rows : List (ℤ × Op)
-op_rows = map (λ op. (op_number op, op)) every_op
+op_rows = map (λ op. (op_number op, op)) all_ops
 
 op_again : (op : Op) → lookup (int_eq (op_number op)) op_rows ≡ Some op
 op_again ops.Create = refl
 op_again _ = refl
 
 -- what holds of each one in the list holds of each operation
-pub each_op : (P : Op → Type 0) → All P every_op → (op : Op) → P op
+pub each_op : (P : Op → Type 0) → All P all_ops → (op : Op) → P op
 each_op P all op = subst (λ (o : Option Op). IfSome o P) (op_again op) (IfSome-lookup_from_All P (int_eq (op_number op)) op_rows all)
 
 pub op_number_apart : (a b : Op) → op_number a ≡ op_number b → a ≡ b
@@ -52,17 +32,14 @@ op_number_apart a b e =
 pub older_number : (op : Op) → HasOp profiles.V34 op ↔ (op_number op ≢ pos 15)
 older_number op = ((λ other e. other (op_number_apart op ops.Create2 e)), (λ other e. other (ap op_number e)))
 
-abbrev pub every_part : List PartOp
-every_part = parts.Create ∷ parts.Delete ∷ parts.SetData ∷ parts.Check ∷ []
-
 abbrev part_rows : List (ℤ × PartOp)
-part_rows = map (λ op. (part_number op, op)) every_part
+part_rows = map (λ op. (part_number op, op)) all_parts
 
 part_again : (op : PartOp) → lookup (int_eq (part_number op)) part_rows ≡ Some op
 part_again parts.Create = refl
 part_again _ = refl
 
-pub each_part : (P : PartOp → Type 0) → All P every_part → (op : PartOp) → P op
+pub each_part : (P : PartOp → Type 0) → All P all_parts → (op : PartOp) → P op
 each_part P all op = subst (λ (o : Option PartOp). IfSome o P) (part_again op) (IfSome-lookup_from_All P (int_eq (part_number op)) part_rows all)
 
 pub part_number_apart : (a b : PartOp) → part_number a ≡ part_number b → a ≡ b

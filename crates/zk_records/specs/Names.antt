@@ -1,36 +1,8 @@
--- The names of operations, errors and events (ZooKeeper 3.4, and create2 of 3.5: ZooDefs.OpCode, KeeperException.Code, Watcher.Event.EventType), as tables.
+-- The names of errors and events (ZooKeeper 3.4: KeeperException.Code, Watcher.Event.EventType), as tables.
 use Rattle.std.specs.Prelude.{ℕ, List, [], ◌∷◌, Option, ℤ, pos, codes}
 use Rattle.std.specs.Map.{lookup}
 use Rattle.std.specs.Ordering.{int_eq}
-use Rattle.zk_records.specs.declared.op.Op.{Op}
-use Rattle.zk_records.specs.declared.op.Op.TheVariants as ops
-use Rattle.zk_records.specs.declared.op.PartOp.{PartOp}
-use Rattle.zk_records.specs.declared.op.PartOp.TheVariants as parts
 use Rattle.zk_records.specs.Codes.{minus}
-
-abbrev pub op_name : Op → List ℕ
-op_name ops.Create = codes "create"
-op_name ops.Delete = codes "delete"
-op_name ops.Exists = codes "exists"
-op_name ops.GetData = codes "getData"
-op_name ops.SetData = codes "setData"
-op_name ops.GetAcl = codes "getACL"
-op_name ops.SetAcl = codes "setACL"
-op_name ops.GetChildren = codes "getChildren"
-op_name ops.Sync = codes "sync"
-op_name ops.Ping = codes "ping"
-op_name ops.GetChildren2 = codes "getChildren2"
-op_name ops.Multi = codes "multi"
-op_name ops.Create2 = codes "create2"
-op_name ops.Auth = codes "auth"
-op_name ops.SetWatches = codes "setWatches"
-op_name ops.CloseSession = codes "closeSession"
-
-abbrev pub part_name : PartOp → List ℕ
-part_name parts.Create = codes "create"
-part_name parts.Delete = codes "delete"
-part_name parts.SetData = codes "setData"
-part_name parts.Check = codes "check"
 
 abbrev pub errors : List (ℤ × List ℕ)
 errors =

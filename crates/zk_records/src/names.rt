@@ -3,44 +3,38 @@
 //! They are those of `ZooDefs.OpCode`, `KeeperException.Code` and `Watcher.Event.EventType` of ZooKeeper 3.4, and
 //! `create2` of 3.5.
 ghost use Rattle.std.specs.Prelude.{◌≡◌, option_copied};
+ghost use Rattle.zk_records.specs.Codes as codes;
 ghost use Rattle.zk_records.specs.Names as names;
 
 use crate::op::{Op, PartOp};
+use crate::{op_rows, part_codes};
 
 /// The name of the operation `op`: that of its number in `ZooDefs.OpCode`.
 pub fn op_name(op: Op) -> &'static str
-    ensures { result.now ≡ names.op_name op }
+    ensures { result.now ≡ codes.op_name op }
 {
-    match op {
-        Op::Create => "create",
-        Op::Delete => "delete",
-        Op::Exists => "exists",
-        Op::GetData => "getData",
-        Op::SetData => "setData",
-        Op::GetAcl => "getACL",
-        Op::SetAcl => "setACL",
-        Op::GetChildren => "getChildren",
-        Op::Sync => "sync",
-        Op::Ping => "ping",
-        Op::GetChildren2 => "getChildren2",
-        Op::Multi => "multi",
-        Op::Create2 => "create2",
-        Op::Auth => "auth",
-        Op::SetWatches => "setWatches",
-        Op::CloseSession => "closeSession",
+    macro_rules! row {
+        ($of:ident: $($release:ident: $($op:ident $code:literal $name:literal),+);+) => {
+            match $of {
+                $($(Op::$op => $name,)+)+
+            }
+        };
     }
+    op_rows!(row, op)
 }
 
 /// The name of a part's operation `op`: that of its number in `ZooDefs.OpCode`.
 pub fn part_name(op: PartOp) -> &'static str
-    ensures { result.now ≡ names.part_name op }
+    ensures { result.now ≡ codes.part_name op }
 {
-    match op {
-        PartOp::Create => "create",
-        PartOp::Delete => "delete",
-        PartOp::SetData => "setData",
-        PartOp::Check => "check",
+    macro_rules! row {
+        ($of:ident: $($op:ident $code:literal $name:literal),+) => {
+            match $of {
+                $(PartOp::$op => $name,)+
+            }
+        };
     }
+    part_codes!(row, op)
 }
 
 /// The name of the error `code`; `None` if `KeeperException.Code` has no such number.

@@ -37,79 +37,102 @@ pub enum PartOp {
     Check,
 }
 
+/// `op_rows!(row, with)` is `row!(with: V34: ..; V35: ..)` with the number and the name of each operation in
+/// `ZooDefs.OpCode`, by the first profile that has it.
+#[macro_export]
+macro_rules! op_rows {
+    ($row:ident, $($with:tt)+) => {
+        $row!(
+            $($with)+:
+            V34:
+            Create 1 "create",
+            Delete 2 "delete",
+            Exists 3 "exists",
+            GetData 4 "getData",
+            SetData 5 "setData",
+            GetAcl 6 "getACL",
+            SetAcl 7 "setACL",
+            GetChildren 8 "getChildren",
+            Sync 9 "sync",
+            Ping 11 "ping",
+            GetChildren2 12 "getChildren2",
+            Multi 14 "multi",
+            Auth 100 "auth",
+            SetWatches 101 "setWatches",
+            CloseSession -11 "closeSession";
+            V35:
+            Create2 15 "create2"
+        )
+    };
+}
+
+/// `part_codes!(row, with)` is `row!(with: ..)` with the number and the name of each part's operation in `ZooDefs.OpCode`.
+#[macro_export]
+macro_rules! part_codes {
+    ($row:ident, $($with:tt)+) => {
+        $row!($($with)+: Create 1 "create", Delete 2 "delete", SetData 5 "setData", Check 13 "check")
+    };
+}
+
 /// The operation that `number`, a request header's type, is under `profile`; `None` if the profile has none of it.
 #[inline(always)]
 pub fn op_of(profile: Profile, number: i32) -> Option<Op>
     ensures { MatchOption result (codes.IsNoOp profile number) (λ op. codes.HasOp profile op × (number ≡ codes.op_number op)) }
 {
-    match number {
-        1 => Some(Op::Create),
-        2 => Some(Op::Delete),
-        3 => Some(Op::Exists),
-        4 => Some(Op::GetData),
-        5 => Some(Op::SetData),
-        6 => Some(Op::GetAcl),
-        7 => Some(Op::SetAcl),
-        8 => Some(Op::GetChildren),
-        9 => Some(Op::Sync),
-        11 => Some(Op::Ping),
-        12 => Some(Op::GetChildren2),
-        14 => Some(Op::Multi),
-        15 if profile == Profile::V35 => Some(Op::Create2),
-        100 => Some(Op::Auth),
-        101 => Some(Op::SetWatches),
-        -11 => Some(Op::CloseSession),
-        _ => None,
+    macro_rules! row {
+        ($number:ident $profile:ident: V34: $($op:ident $code:literal $name:literal),+;
+         $($release:ident: $($newer:ident $later:literal $named:literal),+);+) => {
+            match $number {
+                $($code => Some(Op::$op),)+
+                $($($later if $profile == Profile::$release => Some(Op::$newer),)+)+
+                _ => None,
+            }
+        };
     }
+    op_rows!(row, number profile)
 }
 
 /// The number of `op` in a request header.
 pub fn op_number(op: Op) -> i32
     ensures { result ≡ codes.op_number op }
 {
-    match op {
-        Op::Create => 1,
-        Op::Delete => 2,
-        Op::Exists => 3,
-        Op::GetData => 4,
-        Op::SetData => 5,
-        Op::GetAcl => 6,
-        Op::SetAcl => 7,
-        Op::GetChildren => 8,
-        Op::Sync => 9,
-        Op::Ping => 11,
-        Op::GetChildren2 => 12,
-        Op::Multi => 14,
-        Op::Create2 => 15,
-        Op::Auth => 100,
-        Op::SetWatches => 101,
-        Op::CloseSession => -11,
+    macro_rules! row {
+        ($of:ident: $($release:ident: $($op:ident $code:literal $name:literal),+);+) => {
+            match $of {
+                $($(Op::$op => $code,)+)+
+            }
+        };
     }
+    op_rows!(row, op)
 }
 
 /// The part's operation that `kind`, a multi header's type, is; `None` if it is no part's.
 pub fn part_of(kind: i32) -> Option<PartOp>
     ensures { MatchOption result ((op : PartOp) → kind ≢ codes.part_number op) (λ op. kind ≡ codes.part_number op) }
 {
-    match kind {
-        1 => Some(PartOp::Create),
-        2 => Some(PartOp::Delete),
-        5 => Some(PartOp::SetData),
-        13 => Some(PartOp::Check),
-        _ => None,
+    macro_rules! row {
+        ($number:ident: $($op:ident $code:literal $name:literal),+) => {
+            match $number {
+                $($code => Some(PartOp::$op),)+
+                _ => None,
+            }
+        };
     }
+    part_codes!(row, kind)
 }
 
 /// The number of the part's operation `op` in a multi header.
 pub fn part_number(op: PartOp) -> i32
     ensures { result ≡ codes.part_number op }
 {
-    match op {
-        PartOp::Create => 1,
-        PartOp::Delete => 2,
-        PartOp::SetData => 5,
-        PartOp::Check => 13,
+    macro_rules! row {
+        ($of:ident: $($op:ident $code:literal $name:literal),+) => {
+            match $of {
+                $(PartOp::$op => $code,)+
+            }
+        };
     }
+    part_codes!(row, op)
 }
 
 /// Each operation and each part has a number of its own, which is read back as it: under 3.5 each operation's, under 3.4

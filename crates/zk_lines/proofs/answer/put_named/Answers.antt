@@ -1,6 +1,6 @@
 use Rattle.std.proofs.Common.{rules, ◌≡◌, ◌++◌}
 use Rattle.std.specs.Fmt.{signed_decimal}
-use Rattle.zk_records.specs.Names.{op_name}
+use Rattle.zk_records.specs.Codes.{op_name}
 use Rattle.zk_items.proofs.Kept.{keeps_more, then_spelled}
 use Rattle.zk_lines.specs.Words.{word_of}
 use Rattle.zk_lines.specs.declared.word.Word.TheVariants.{Blank, Zxid}
