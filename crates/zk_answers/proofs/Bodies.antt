@@ -9,7 +9,7 @@ use Rattle.zk_records.specs.declared.op.Op.TheVariants as ops
 use Rattle.zk_records.specs.declared.op.PartOp.{PartOp}
 use Rattle.zk_answers.specs.Held.{Body, PartDone}
 use Rattle.zk_answers.specs.declared.frame.BodyOf.TheVariants as body
-use Rattle.zk_answers.specs.Rows.{Row, holds, bare, multi, row_of, Content, remake, items_in}
+use Rattle.zk_answers.specs.Rows.{Row, holds, bare, multi, row_of, by_op, Content, remake, items_in}
 use Rattle.zk_answers.specs.Results.{AnswerAll}
 use Rattle.zk_answers.specs.Frames.{BodyFits}
 use Rattle.zk_answers.specs.Rows.{op_of_body, body_items}
@@ -20,19 +20,17 @@ use Rattle.zk_answers.proofs.Results.{multi_only}
 unfoldable pub IsMade : Op → Body → Type 0
 IsMade op b = (x : Content (row_of op)) × (remake (row_of op) x ≡ b) × (items_in (row_of op) x ≡ body_items b)
 
-pub is_made : (b : Body) → IsMade (op_of_body b) b
-unfolding IsMade
-is_made (body.Create path) = (path, refl, refl)
-is_made (body.GetData blob s) = (record { blob = blob; stat = s }, refl, refl)
-is_made (body.GetAcl acl s) = (record { acl = acl; stat = s }, refl, refl)
-is_made (body.GetChildren2 names s) = (record { names = names; stat = s }, refl, refl)
-is_made (body.Create2 path s) = (record { path = path; stat = s }, refl, refl)
-is_made _ = (_, refl, refl)
-
 -- what is made of an operation's content is a body of it, with the content's items
 pub made_is : (op : Op) (x : Content (row_of op)) → (op_of_body (remake (row_of op) x) ≡ op) × (body_items (remake (row_of op) x) ≡ items_in (row_of op) x)
 made_is ops.Create x = (refl, refl)
 made_is _ x = (refl, refl)
+
+row_made : (op : Op) (x : Content (row_of op)) → IsMade (op_of_body (remake (row_of op) x)) (remake (row_of op) x)
+unfolding IsMade
+row_made op x = subst (λ (o : Op). IsMade o (remake (row_of op) x)) (sym (made_is op x).0) (x, refl, sym (made_is op x).1)
+
+pub is_made : (b : Body) → IsMade (op_of_body b) b
+is_made b = by_op (λ c. IsMade (op_of_body c) c) row_made b
 
 -- as many results as parts, each its part's own or an error
 abbrev pub RowFits : (r : Row) → List PartOp → Content r → Type 0

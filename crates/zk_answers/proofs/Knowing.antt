@@ -5,18 +5,14 @@ use Rattle.std.proofs.lemmas.List.{append-nil, length-append}
 use Rattle.zk_jute.specs.Item.{Item, bytes_of, HaveBytes}
 use Rattle.zk_jute.specs.Layout.{IsValueOf}
 use Rattle.zk_jute.specs.Told.{StandsAt}
-use Rattle.zk_jute.specs.Wired.{Wired}
 use Rattle.zk_jute.specs.Standing.{OneStands}
 use Rattle.zk_jute.proofs.Layouts.{bytes_only, bytes_both, have_parts}
 use Rattle.zk_jute.proofs.Known.{stands_first, stands_last}
-use Rattle.zk_jute.proofs.Stretches.{stands_split}
-use Rattle.zk_asks.proofs.Knowing.{IsThe}
 use Rattle.zk_records.specs.declared.header.ReplyHeader.{ReplyHeader}
 use Rattle.zk_records.specs.Held.{WatcherEvent}
 use Rattle.zk_records.specs.declared.op.Op.{Op}
 use Rattle.zk_records.specs.declared.op.PartOp.{PartOp}
-use Rattle.zk_records.specs.declared.stat.Stat.{Stat}
-use Rattle.zk_records.specs.Records.{stat, reply_header, watcher_event}
+use Rattle.zk_records.specs.Records.{reply_header, watcher_event}
 use Rattle.zk_answers.specs.Held.{Body, Outcome, Reply, ServerFrame}
 use Rattle.zk_answers.specs.declared.frame.OutcomeOf.TheVariants as outcome
 use Rattle.zk_answers.specs.declared.frame.ServerFrameOf.TheVariants as frame
@@ -129,39 +125,6 @@ module _ (op : Op) (src : List ℕ) (place : ℕ) (x : Content (row_of op)) wher
   content_is only b end of have stands =
       let m : IsMade op b = subst (λ (o : Op). IsMade o b) of (is_made b) in
       ap (remake (row_of op)) (only m.0 end (subst HaveBytes (sym m.2) have) (subst (λ (i : List Item). StandsAt i src place end) (sym m.2) stands)) ∙ m.1
-
--- ---- a body's field, and the Stat behind it
-
-module _ {R X : Type 0} (w : Wired X) (field : R → X) (its_stat : R → Stat) (src : List ℕ) (place : ℕ) (within : place ≤ length src) where
-  abbrev record_items : R → List Item
-  record_items r = w.items (field r) ++ stat.items (its_stat r)
-
-  module _ (there : OneStands record_items src place) where
-    pub field_there : OneStands w.items src place
-    field_there =
-        let r = there.0 in
-        let at = stands_split (w.items (field r)) (stat.items (its_stat r)) src place there.1 within there.3 in
-        (field r, place + length (bytes_of (w.items (field r))), (have_parts (w.items (field r)) (stat.items (its_stat r)) there.2).0, at.0)
-
-  module _ (x : X × ℕ) (is : IsThe w.items src place x) where
-    behind : (r : R) (end : ℕ) → HaveBytes (record_items r) → StandsAt (record_items r) src place end
-        → (x.0 ≡ field r) × (x.1 ≤ length src) × HaveBytes (stat.items (its_stat r)) × StandsAt (stat.items (its_stat r)) src x.1 end
-    behind r end have stands =
-        let at = stands_split (w.items (field r)) (stat.items (its_stat r)) src place end within stands in
-        let have_both = have_parts (w.items (field r)) (stat.items (its_stat r)) have in
-        let middle = place + length (bytes_of (w.items (field r))) in
-        let same : x ≡ (field r, middle) = is (field r) middle have_both.0 at.0 in
-        let place_is : middle ≡ x.1 = sym (ap (λ (z : X × ℕ). z.1) same) in
-        (ap (λ (z : X × ℕ). z.0) same, subst (λ (q : ℕ). q ≤ length src) place_is at.2, have_both.1, subst (λ (q : ℕ). StandsAt (stat.items (its_stat r)) src q end) place_is at.1)
-
-    pub stat_there : OneStands record_items src place → (x.1 ≤ length src) × OneStands stat.items src x.1
-    stat_there there = let s = behind there.0 there.1 there.2 there.3 in (s.1, (its_stat there.0, there.1, s.2, s.3))
-
-    pub both_are : (s : Stat × ℕ) → IsThe stat.items src x.1 s → (r : R) (end : ℕ) → HaveBytes (record_items r) → StandsAt (record_items r) src place end
-        → (x.0 ≡ field r) × (s.0 ≡ its_stat r)
-    both_are s then r end have stands =
-        let k = behind r end have stands in
-        (k.0, ap (λ (z : Stat × ℕ). z.0) (then (its_stat r) end k.2 k.3))
 
 -- ---- an event
 

@@ -13,7 +13,9 @@ use crate::body_rows;
 use crate::frame::{BodyOf, BodyRef, Failure, OutcomeOf, ReplyOf, ServerFrameOf, ServerRef};
 use zk_asks::known_multi;
 use zk_jute::{known_at, known_flagged, known_list};
-use zk_records::{Op, ReplyHeader, Stat, borrowed};
+use zk_records::{
+    AclBodyRef, ChildrenBodyRef, CreateBodyRef, DataBodyRef, Op, ReplyHeader, borrowed,
+};
 
 /// The reply to the connect request that `payload` is known to be, borrowed. Nothing is allocated, and nothing is judged
 /// again.
@@ -50,9 +52,8 @@ fn known_body<'a, const JUDGED: bool>(payload: &'a [u8], place: usize, op: Op) -
             match $op {
                 $($(Op::$one => BodyOf::$one { $only: known_at::<borrowed!($kind)>(payload, place).0 },)+)+
                 $(Op::$both => {
-                    let ($first, next) = known_at::<borrowed!($first_kind)>(payload, place);
-                    let (stat, _) = known_at::<Stat>(payload, next);
-                    BodyOf::$both { $first, stat }
+                    let (body, _) = known_at::<$borrowed>(payload, place);
+                    BodyOf::$both { $first: body.$first, stat: body.stat }
                 })+
                 $(Op::$bare => BodyOf::$bare,)+
                 Op::Multi => BodyOf::Multi(known_multi(payload, place)),

@@ -16,6 +16,7 @@ ghost use Rattle.zk_answers.specs.Forms.{IsConnectedForm, IsReplyForm, IsEventFo
 ghost use Rattle.zk_answers.specs.Faults.{IsConnectedFault, IsHead, IsHeadFault, IsReplyFault, IsEventFault};
 
 /// A payload is read exactly if it has a form: each frame's items are of a form, and bytes of a form have no fault.
+#[tactic(auto, using(crate::proofs::Formed::connected_form, crate::proofs::Formed::reply_form, crate::proofs::Formed::event_form, crate::proofs::Formed::connected_not, crate::proofs::Formed::reply_not, crate::proofs::Formed::event_not))]
 pub fn form_laws()
     ensures connected { (s : ServerFrame) → IsConnected s → IsSent s → IsConnectedForm (frame_items s) }
     // The form of a reply is given by its request.
@@ -27,6 +28,7 @@ pub fn form_laws()
 {}
 
 /// The laws of the first payload.
+#[tactic(auto, using(crate::proofs::Connected::connected_injective, crate::proofs::Connected::connected_excludes, crate::proofs::Connected::connected_unique))]
 pub fn connected_laws()
     // No two frames have one payload.
     ensures injective { HaveApartPayloads IsConnected }
@@ -37,6 +39,7 @@ pub fn connected_laws()
 {}
 
 /// The laws of events.
+#[tactic(auto, using(crate::proofs::Events::event_injective, crate::proofs::Events::event_excludes, crate::proofs::Events::event_unique))]
 pub fn event_laws()
     // A payload begins with the header of an event.
     ensures head { (zxid : ℤ) (e : WatcherEvent) → IsSent (frame.Event zxid e) → (rest : List ℕ) × IsHead (payload (frame.Event zxid e)) (event_header zxid) rest }
@@ -46,6 +49,7 @@ pub fn event_laws()
 {}
 
 /// The laws of replies to a request of one operation and its parts.
+#[tactic(auto, using(crate::proofs::Replies::reply_injective, crate::proofs::Replies::reply_excludes, crate::proofs::Replies::reply_unique))]
 pub fn reply_laws()
     // A payload begins with the reply's header, whatever the request.
     ensures head { (r : Reply) → IsSent (frame.Answered r) → (rest : List ℕ) × IsHead (payload (frame.Answered r)) (header_of r) rest }

@@ -5,6 +5,7 @@ ghost use Rattle.zk_items.specs.Leaf.{int, long, bit, ro, text, blob};
 
 /// The two laws of each item: the spelling of a value that fits is read again as that value, whatever may follow an
 /// item; and what is read is the spelling of a value that fits, and the rest. The function does nothing.
+#[tactic(auto, using(crate::proofs::Blobs::blob_is, crate::proofs::Codes::code_is, crate::proofs::Codes::other_code_is, crate::proofs::Flags::bit_is, crate::proofs::Flags::ro_is, crate::proofs::Numbers::int_is, crate::proofs::Numbers::long_is, crate::proofs::Texts::text_is))]
 pub fn item_laws()
     ensures int { Lawful int }
     ensures long { Lawful long }
