@@ -13,19 +13,15 @@ use Rattle.zk_jute.specs.Item.{Item, AnInt, ALong, ABoolean, AUstring, ABuffer, 
 use Rattle.zk_jute.proofs.Layouts.{have_parts}
 use Rattle.zk_records.specs.Records.{multi_header}
 use Rattle.zk_records.specs.Codes.{op_number}
-use Rattle.zk_asks.specs.declared.frame.AskOf.TheVariants as ask
 use Rattle.zk_asks.specs.declared.frame.ClientFrameOf.TheVariants as client
 use Rattle.zk_asks.specs.Held.{Part, Ask, ClientFrame}
 use Rattle.zk_asks.specs.Parts.{record_of}
-use Rattle.zk_asks.specs.Rows.{op_of_ask}
 use Rattle.zk_asks.specs.Frames as asks
 use Rattle.zk_answers.specs.declared.frame.PartDoneOf.TheVariants as done
-use Rattle.zk_answers.specs.declared.frame.BodyOf.TheVariants as body
 use Rattle.zk_answers.specs.declared.frame.OutcomeOf.TheVariants as outcome
 use Rattle.zk_answers.specs.declared.frame.ServerFrameOf.TheVariants as server
 use Rattle.zk_answers.specs.Held.{PartDone, Body, Outcome, ServerFrame}
 use Rattle.zk_answers.specs.Results.{result_of}
-use Rattle.zk_answers.specs.Rows.{op_of_body}
 use Rattle.zk_answers.specs.Frames as answers
 use Rattle.zk_answers.specs.Frames.{err_of, op_of_outcome, IsOutcome}
 use Rattle.zk_fields.specs.declared.field.Field.{Field}
@@ -33,16 +29,15 @@ use Rattle.zk_fields.specs.declared.value.Heads.{Heads}
 use Rattle.zk_fields.specs.declared.value.Heads.TheVariants as head
 use Rattle.zk_fields.specs.declared.write.Unwritten.{Unwritten}
 use Rattle.zk_fields.specs.declared.write.Unwritten.TheVariants as unwritten
-use Rattle.zk_fields.specs.Names.{the_read_only}
 use Rattle.zk_fields.specs.Fields.{Entry, Under, Head, entry_items, items_of, size_of, size_all, field_of, fields_from}
-use Rattle.zk_fields.specs.Named.{Shape, Nothing, An, Both, Many, Times, Elements, IsOf, Named, a_boolean}
+use Rattle.zk_fields.specs.Named.{Shape, Nothing, An, Both, Many, Times, Elements, IsOf, Named}
 use Rattle.zk_fields.specs.Contents.{content_of, IsAt, AreAt}
-use Rattle.zk_fields.specs.Asks.{record_entries, part_entries, ask_entries}
-use Rattle.zk_fields.specs.Answers.{result_entries, done_entries, body_entries}
-use Rattle.zk_fields.specs.Walks.{headed_shape}
-use Rattle.zk_fields.specs.Frames.{Framed, flag_entries, ask_behind, body_behind, rest_entries, rest_behind, framed_items, framed_fields, client_framed, server_framed}
-use Rattle.zk_fields.specs.Records.{connect_request, connect_response, watcher_event}
-use Rattle.zk_fields.specs.Written.{int_said, count_said, utf8_said, Pair, pairs, plain_head, head_said, said, said_with, all_said, behind_of, done_behind, MayBe, frame, payload_items, Holds, Writes, Again, WritesAgain, AnswersAgain}
+use Rattle.zk_fields.specs.Heads.{plain_head, headed_shape, record_entries, part_entries, result_entries, done_entries}
+use Rattle.zk_fields.specs.Rows.{ask_entries, body_entries}
+use Rattle.zk_fields.specs.Frames.{Framed, flag_entries, rest_entries, rest_behind, framed_items, framed_fields, client_framed, server_framed}
+use Rattle.zk_fields.specs.Records.{connect_request, connect_response, watcher_event, read_only}
+use Rattle.zk_fields.specs.Written.{int_said, count_said, utf8_said, Pair, pairs, head_said, said, said_with, all_said, done_behind, MayBe, frame, payload_items, Holds, Writes, Again, WritesAgain, AnswersAgain}
+use Rattle.zk_fields.proofs.Heads.{unequal}
 use Rattle.zk_fields.proofs.Rows.{Formed, part_formed, done_formed, of_ask, of_body}
 use Rattle.zk_fields.proofs.Same.{size_is, client_is, server_is}
 use Rattle.zk_fields.proofs.Contents.{framed_at}
@@ -111,7 +106,7 @@ ask_told = of_ask (λ c es behind items. AreTold head.Parts es) (formed_told hea
 
 flag_told : (heads : Heads) (flag : Option Bool) → AreTold heads (flag_entries flag)
 flag_told heads None = λ more. tt
-flag_told heads (Some b) = one heads a_boolean the_read_only b
+flag_told heads (Some b) = one heads read_only 0 b
 
 flagged : {X : Type 0} (heads : Heads) (k : Named X) (x : X) (flag : Option Bool) → AreTold heads (k.entries 0 x ++ flag_entries flag)
 flagged heads k x flag = both heads (k.entries 0 x) (flag_entries flag) (one heads k 0 x) (flag_told heads flag)
@@ -234,16 +229,6 @@ pub server_again : (s : ServerFrame) (content : List ℕ) (fs : List Field) (bef
     → AnswersAgain s content fs before result after
 server_again s content fs before after result writes sent = framed_again head.Results (server_framed s) (answers.frame_items s) content fs before after result (server_told s) (server_is s) sent.2 (writes sent)
 
-pub ends_alike : (a : Ask) → behind_of (op_number (op_of_ask a)) ≡ ask_behind a
-ends_alike (ask.Create r) = refl
-ends_alike _ = refl
-
-bodies_alike : (b : Body) → behind_of (op_number (op_of_body b)) ≡ body_behind b
-bodies_alike (body.Create p) = refl
-bodies_alike _ = refl
-
 pub rests_alike : (o : Outcome) → IsOutcome o → done_behind (err_of o) (op_number (op_of_outcome o)) ≡ rest_behind o
-rests_alike (outcome.Done b) is = bodies_alike b
-rests_alike (outcome.Failed op (pos zero)) is = absurd (is refl)
-rests_alike (outcome.Failed op (pos (suc n))) is = refl
-rests_alike (outcome.Failed op (negsuc n)) is = refl
+rests_alike (outcome.Done b) is = refl
+rests_alike (outcome.Failed op e) is = rw (unequal e (pos 0) is) refl

@@ -27,14 +27,14 @@ use Rattle.zk_answers.specs.Rows.{op_of_body}
 use Rattle.zk_answers.specs.Results.{mark_before}
 use Rattle.zk_fields.specs.declared.opened.Headed.{Headed}
 use Rattle.zk_fields.specs.declared.opened.Opened.{Opened}
-use Rattle.zk_fields.specs.Names.{the_read_only}
+use Rattle.zk_fields.specs.declared.name.TheConstants.{READ_ONLY}
 use Rattle.zk_fields.specs.Fields.{Entry, Under, Head, items_of, fields_from}
-use Rattle.zk_fields.specs.Named.{Shape, Nothing, An, Both, Many, Times, Elements, IsOf, Named, items_both, a_boolean}
-use Rattle.zk_fields.specs.Records.{connect_request, connect_response, watcher_event}
-use Rattle.zk_fields.specs.Asks.{record_entries, part_entries}
-use Rattle.zk_fields.specs.Answers.{result_entries, done_entries, body_entries}
-use Rattle.zk_fields.specs.Frames.{Framed, flag_entries, body_behind, rest_entries, rest_behind, framed_items, framed_fields, client_framed, server_framed, client_fields, server_fields}
-use Rattle.zk_fields.specs.Walks.{Met, none_met, item_met, met_then, times_met, list_met, walk, header_at, headed_part, headed_result, headed_shape, head_met, Content, Fields, Heads, content_met, ask_content, body_content, opened_content, opened_start, whole_fields, client_opened, server_opened}
+use Rattle.zk_fields.specs.Named.{Shape, Nothing, An, Both, Many, Times, Elements, IsOf, Named, items_both}
+use Rattle.zk_fields.specs.Records.{connect_request, connect_response, watcher_event, read_only}
+use Rattle.zk_fields.specs.Heads.{OfHead, headed_part, headed_result, headed_shape, record_entries, part_entries, result_entries, done_entries}
+use Rattle.zk_fields.specs.Rows.{body_entries, body_behind, Content, Fields, Heads, ask_content, body_content}
+use Rattle.zk_fields.specs.Frames.{Framed, flag_entries, rest_entries, rest_behind, framed_items, framed_fields, client_framed, server_framed, client_fields, server_fields}
+use Rattle.zk_fields.specs.Walks.{Met, none_met, item_met, met_then, times_met, list_met, walk, header_at, head_met, content_met, opened_content, opened_start, whole_fields, client_opened, server_opened}
 use Rattle.zk_fields.proofs.Rows.{Formed, part_formed, done_formed, of_ask, of_body}
 use Rattle.zk_fields.proofs.Same.{client_is, server_is, entry_has}
 use Rattle.zk_fields.proofs.Saying.{some_is, longer, split}
@@ -128,7 +128,7 @@ walk_end src (An name kind) place past = rw (items_end src place name kind past)
 walk_end src (Both a b) place past = behind_end src (walk a src place) (walk b src) (walk_end src a place past) (walk_end src b) (walk a src place).end refl
 walk_end src (Many name s) place past = let n = int_end src place past in rw n.1 (refl, λ p e. absurd (cc))
 
-heads_end : (src : List ℕ) (f : MultiHeader → Option Headed) (n place : ℕ) → length src ≤ place → (times_met (head_met f src) n place).entries ≡ []
+heads_end : (src : List ℕ) (f : OfHead) (n place : ℕ) → length src ≤ place → (times_met (head_met f src) n place).entries ≡ []
 heads_end src f zero place past = refl
 heads_end src f (suc n) place past = let m = int_end src place past in rw m.1 refl
 
@@ -153,7 +153,7 @@ header_again src more h place have le e =
     let d = int_again h.err src more (place + 4 + 1) have.1.1.0 after in
     rw (a, b, d) (ap (λ (n : ℕ). Ok (h, n)) (omega arith))
 
-under_meets : (src : List ℕ) (f : MultiHeader → Option Headed) (h : MultiHeader) (m : Headed) (es : List Entry) → f h ≡ Some m → IsOf (headed_shape m) es → Meets src (head_met f src) (Head h ∷ es)
+under_meets : (src : List ℕ) (f : OfHead) (h : MultiHeader) (m : Headed) (es : List Entry) → f h ≡ Some m → IsOf (headed_shape m) es → Meets src (head_met f src) (Head h ∷ es)
 under_meets src f h m es is of more place have le e =
     let head = multi_header.items h in
     let parts = have_parts head (items_of es) have in
@@ -181,7 +181,7 @@ no_result : headed_result end_header ≡ None
 unfolding headed_result
 no_result = refl
 
-module _ {X : Type 0} (src : List ℕ) (f : MultiHeader → Option Headed) (g : X → List Entry) (each : (x : X) → Meets src (head_met f src) (g x)) (none : f end_header ≡ None) where
+module _ {X : Type 0} (src : List ℕ) (f : OfHead) (g : X → List Entry) (each : (x : X) → Meets src (head_met f src) (g x)) (none : f end_header ≡ None) where
   heads_meet : (xs : List X) (n place : ℕ) → length xs ≤ n → HaveBytes (items_of (flat_map g xs)) → place ≤ length src → drop place src ≡ bytes_of (items_of (flat_map g xs)) ++ bytes_of (marked end_header)
       → (times_met (head_met f src) n place).entries ≡ flat_map g xs
   heads_meet [] zero place few have le e = refl
@@ -232,7 +232,7 @@ module _ (f : Framed) (have : HaveBytes (framed_items f)) where
 shaped : (f : Framed) (s : Shape) → IsOf s f.entries → Agrees f (Fields s)
 shaped f s of have = ap (λ (m : Met). m.entries) (walk_meets (bytes_in f) s f.entries of (bytes_of f.behind) (start_of f) (has f have) (within f have) (stands f have))
 
-multi : {X : Type 0} (front : List Item) (m : MultiHeader → Option Headed) (g : X → List Entry) (xs : List X) → ((src : List ℕ) (x : X) → Meets src (head_met m src) (g x)) → m end_header ≡ None → ((x : X) → 0 < size (g x))
+multi : {X : Type 0} (front : List Item) (m : OfHead) (g : X → List Entry) (xs : List X) → ((src : List ℕ) (x : X) → Meets src (head_met m src) (g x)) → m end_header ≡ None → ((x : X) → 0 < size (g x))
     → Agrees (record { front = front; entries = flat_map g xs; behind = marked end_header }) (Heads m)
 multi front m g xs each none some have =
     let f : Framed = record { front = front; entries = flat_map g xs; behind = marked end_header } in
@@ -246,16 +246,16 @@ bare front c have =
     content_end (bytes_in f) c (start_of f) (omega (arith, longer front []))
 
 -- a connect message with its flag, or without
-flagged : {X : Type 0} (k : Named X) (x : X) (flag : Option Bool) → Agrees (record { front = []; entries = k.entries 0 x ++ flag_entries flag; behind = [] }) (Fields (Both (k.shape 0) (An the_read_only Boolean)))
-flagged k x (Some b) have = shaped (record { front = []; entries = k.entries 0 x ++ a_boolean.entries the_read_only b; behind = [] }) (Both (k.shape 0) (An the_read_only Boolean)) (k.entries 0 x, a_boolean.entries the_read_only b, k.formed 0 x, a_boolean.formed the_read_only b, refl) have
+flagged : {X : Type 0} (k : Named X) (x : X) (flag : Option Bool) → Agrees (record { front = []; entries = k.entries 0 x ++ flag_entries flag; behind = [] }) (Fields (Both (k.shape 0) (read_only.shape 0)))
+flagged k x (Some b) have = shaped (record { front = []; entries = k.entries 0 x ++ read_only.entries 0 b; behind = [] }) (Both (k.shape 0) (read_only.shape 0)) (k.entries 0 x, read_only.entries 0 b, k.formed 0 x, read_only.formed 0 b, refl) have
 flagged k x None have =
     let es = k.entries 0 x in
     let same : items_of (es ++ []) ++ [] ≡ items_of es = append-nil (items_of (es ++ [])) ∙ ap items_of (append-nil es) in
     let src = bytes_of (items_of es) in
     let first : walk (k.shape 0) src 0 ≡ all_met es 0 = walk_meets src (k.shape 0) es (k.formed 0 x) [] 0 (subst HaveBytes same have) (omega arith) (sym (append-nil src)) in
-    let second : item_met the_read_only (items_at (One Boolean End) src (0 + size es)) ≡ none_met = items_end src (0 + size es) the_read_only Boolean (omega arith) in
-    let alone : (met_then (walk (k.shape 0) src 0) (walk (An the_read_only Boolean) src)).entries ≡ es ++ [] = rw (first, second) refl in
-    subst (λ (z : List Item). (content_met (Fields (Both (k.shape 0) (An the_read_only Boolean))) (bytes_of z) 0).entries ≡ es ++ []) (sym same) alone
+    let second : item_met READ_ONLY (items_at (One Boolean End) src (0 + size es)) ≡ none_met = items_end src (0 + size es) READ_ONLY Boolean (omega arith) in
+    let alone : (met_then (walk (k.shape 0) src 0) (walk (read_only.shape 0) src)).entries ≡ es ++ [] = rw (first, second) refl in
+    subst (λ (z : List Item). (content_met (Fields (Both (k.shape 0) (read_only.shape 0))) (bytes_of z) 0).entries ≡ es ++ []) (sym same) alone
 
 -- what is read behind a header is the entries
 abbrev AgreesBehind : List Item → Content → List Entry → List Item → List Item → Type 0

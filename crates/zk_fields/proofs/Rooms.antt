@@ -9,10 +9,10 @@ use Rattle.std.specs.Prelude.{Option, Some, None}
 use Rattle.zk_jute.specs.Held.{Text, Blob}
 use Rattle.zk_jute.specs.Values.{text_items, blob_items}
 use Rattle.zk_jute.specs.Shown.{text_of}
-use Rattle.zk_jute.specs.declared.value.Nullable.TheVariants as nullable
 use Rattle.zk_records.specs.declared.header.MultiHeader.{MultiHeader}
 use Rattle.zk_fields.specs.Named.{items_both}
 use Rattle.zk_fields.specs.declared.field.Field.{Field}
+use Rattle.zk_fields.specs.declared.kind.TheConstants.{TEXT, BLOB, LIST}
 use Rattle.zk_fields.specs.declared.field.At.{At}
 use Rattle.zk_fields.specs.Fields.{Entry, Under, Head, items_of, item_size, size_of, size_all, fields_from, field_of, named, run_field, run_size}
 use Rattle.zk_fields.specs.Room.{written, Fits, Puts, Takes}
@@ -79,12 +79,12 @@ takes_one at room e next new puts fits =
     let size : size_of e + 0 ≡ size_of e = omega arith in
     rw size (puts fits.0 (entry_has e) (omega (arith, fits.1)))
 
-pub takes_text : (at : At) (room : List Field) (name : ℕ) (t : Text) (bytes : Option (List ℕ)) (next : At) (new : List Field) → t ≡ text_of bytes → Puts at room (run_field at.place name 4 bytes) (run_size bytes) next new
+pub takes_text : (at : At) (room : List Field) (name : ℕ) (t : Text) (bytes : Option (List ℕ)) (next : At) (new : List Field) → t ≡ text_of bytes → Puts at room (run_field at.place name TEXT bytes) (run_size bytes) next new
     → Takes at room (named name (text_items t)) next new
 takes_text at room name t None next new e puts = rw e (takes_one at room (Under name (AUstring None)) next new puts)
 takes_text at room name t (Some bytes) next new e puts = rw e (takes_one at room (Under name (AUstring (Some bytes))) next new puts)
 
-pub takes_blob : (at : At) (room : List Field) (name : ℕ) (t : Blob) (bytes : Option (List ℕ)) (next : At) (new : List Field) → t ≡ text_of bytes → Puts at room (run_field at.place name 5 bytes) (run_size bytes) next new
+pub takes_blob : (at : At) (room : List Field) (name : ℕ) (t : Blob) (bytes : Option (List ℕ)) (next : At) (new : List Field) → t ≡ text_of bytes → Puts at room (run_field at.place name BLOB bytes) (run_size bytes) next new
     → Takes at room (named name (blob_items t)) next new
 takes_blob at room name t None next new e puts = rw e (takes_one at room (Under name (ABuffer None)) next new puts)
 takes_blob at room name t (Some bytes) next new e puts = rw e (takes_one at room (Under name (ABuffer (Some bytes))) next new puts)
@@ -94,9 +94,9 @@ pub goes_on : {X : Type 0} (f : X → List Entry) (a b c : At) (r s t : List Fie
 goes_on f a b c r s t xs ys x e p q = rw e (takes_both a b c r s t (f x) (flat_map f ys) p q)
 
 pub takes_count : (at : At) (room : List Field) (name n : ℕ) (number : ℤ) (next : At) (new : List Field) → (n < 2 ^ 31 → number ≡ pos n)
-    → Puts at room (record { place = at.place; length = 4; number = number; name = name; kind = 6; null = 0 }) 4 next new → Takes at room (Under name (ACount (Some n)) ∷ []) next new
+    → Puts at room (record { place = at.place; length = 4; number = number; name = name; kind = LIST; null = 0 }) 4 next new → Takes at room (Under name (ACount (Some n)) ∷ []) next new
 unfolding Takes
-takes_count at room name n number next new is puts fits = takes_one at room (Under name (ACount (Some n))) next new (subst (λ (m : ℤ). Puts at room (record { place = at.place; length = 4; number = m; name = name; kind = 6; null = 0 }) 4 next new) (is fits.2.0) puts) fits
+takes_count at room name n number next new is puts fits = takes_one at room (Under name (ACount (Some n))) next new (subst (λ (m : ℤ). Puts at room (record { place = at.place; length = 4; number = m; name = name; kind = LIST; null = 0 }) 4 next new) (is fits.2.0) puts) fits
 
 pub takes_headed : (a b c : At) (r s t : List Field) (h : MultiHeader) (es : List Entry) → Takes a r (Head h ∷ []) b s → Takes b s es c t → Takes a r (Head h ∷ es) c t
 takes_headed a b c r s t h es head others = takes_both a b c r s t (Head h ∷ []) es head others

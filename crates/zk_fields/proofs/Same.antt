@@ -23,10 +23,10 @@ use Rattle.zk_answers.specs.Frames as answers
 use Rattle.zk_fields.specs.Fields.{Entry, Under, Head, entry_items, items_of, size_of, size_all, item_size, run_size}
 use Rattle.zk_fields.specs.Named.{Named}
 use Rattle.zk_fields.specs.Records.{connect_request, connect_response, watcher_event}
-use Rattle.zk_fields.specs.Asks.{part_entries, ask_entries}
-use Rattle.zk_fields.specs.Answers.{done_entries, body_entries}
+use Rattle.zk_fields.specs.Heads.{part_entries, done_entries}
+use Rattle.zk_fields.specs.Rows.{ask_entries, ask_behind, body_entries, body_behind}
 use Rattle.zk_fields.proofs.Rows.{both_is, part_formed, done_formed, of_ask, of_body}
-use Rattle.zk_fields.specs.Frames.{flag_entries, ask_behind, body_behind, rest_entries, rest_behind, framed_items, client_framed, server_framed}
+use Rattle.zk_fields.specs.Frames.{flag_entries, rest_entries, rest_behind, framed_items, client_framed, server_framed}
 
 -- nothing stands behind them
 alone : (x : List Entry) (a : List Item) → items_of x ≡ a → items_of x ++ [] ≡ a

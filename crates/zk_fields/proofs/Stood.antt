@@ -14,7 +14,9 @@ use Rattle.zk_records.specs.Records.{multi_header}
 use Rattle.zk_fields.specs.declared.opened.Headed.{Headed}
 use Rattle.zk_fields.specs.Fields.{Entry, Under, Head, entry_items, items_of}
 use Rattle.zk_fields.specs.Named.{Shape, Nothing, An, Both, Many, named_same, items_both}
-use Rattle.zk_fields.specs.Walks.{Met, none_met, item_met, met_then, behind, times_met, count_met, list_met, walk, header_at, headed_shape, under, headed, head_met, Content, Fields, Heads, content_met}
+use Rattle.zk_fields.specs.Walks.{Met, none_met, item_met, met_then, behind, times_met, count_met, list_met, walk, header_at, under, headed, head_met, content_met}
+use Rattle.zk_fields.specs.Heads.{OfHead, headed_shape}
+use Rattle.zk_fields.specs.Rows.{Content, Fields, Heads}
 
 -- the entries' bytes stand there, up to this place, which is where the walk ends
 pub record Stood (src : List ℕ) (place : ℕ) (m : Met) : Type 0 where
@@ -111,7 +113,7 @@ under_stood h (Some m) src place after fits le have stands =
     let items : items_of (Head h ∷ []) ≡ multi_header.items h = append-nil (multi_header.items h) in
     stood_behind src place after (Head h ∷ []) (walk (headed_shape m) src after) (subst HaveBytes (sym items) have) (subst (λ (z : List Item). BytesAt (bytes_of z) src place after) (sym items) stands) (walk_stood (headed_shape m) src after fits stands.within)
 
-headed_stood : (f : MultiHeader → Option Headed) (src : List ℕ) (place : ℕ) (read : Read MultiHeader) → IsBytes src → place ≤ length src → header_at src place ≡ read → Stood src place (headed f src read)
+headed_stood : (f : OfHead) (src : List ℕ) (place : ℕ) (read : Read MultiHeader) → IsBytes src → place ≤ length src → header_at src place ≡ read → Stood src place (headed f src read)
 headed_stood f src place (Err e) fits le is = stood_none src place le
 headed_stood f src place (Ok x) fits le is =
     let head = head_found src place x fits le is in

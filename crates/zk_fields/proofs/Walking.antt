@@ -11,7 +11,8 @@ use Rattle.zk_fields.specs.declared.walk.Walked.{Walked}
 use Rattle.zk_fields.specs.declared.opened.Headed.{Headed}
 use Rattle.zk_fields.specs.Fields.{Entry, Under, Head, named}
 use Rattle.zk_fields.specs.Room.{Takes}
-use Rattle.zk_fields.specs.Walks.{Met, none_met, item_met, met_then, times_met, list_met, walk, headed_shape, under, headed, Walks}
+use Rattle.zk_fields.specs.Heads.{OfHead, headed_shape}
+use Rattle.zk_fields.specs.Walks.{Met, none_met, item_met, met_then, times_met, list_met, walk, under, headed, Walks}
 use Rattle.zk_fields.proofs.Rooms.{takes_nothing, takes_both}
 
 abbrev stopped : At → Walked
@@ -76,11 +77,11 @@ pub walks_under : (at mid : At) (room half new : List Field) (h : MultiHeader) (
     → Walks mid half (walk (headed_shape one) src place) next new → Walks at room (under h m src place) next new
 walks_under at mid room half new h m one src place next e takes w = rw e (walks_on at mid room half new (Head h ∷ []) (walk (headed_shape one) src place) next takes w)
 
-pub head_fails : (f : MultiHeader → Option Headed) (src : List ℕ) (at : At) (room : List Field) (e : ItemFault) (read : Read MultiHeader) → told read ≡ Err e → Walks at room (headed f src read) (stopped at) room
+pub head_fails : (f : OfHead) (src : List ℕ) (at : At) (room : List Field) (e : ItemFault) (read : Read MultiHeader) → told read ≡ Err e → Walks at room (headed f src read) (stopped at) room
 head_fails f src at room e (Ok x) fails = absurd (cc)
 head_fails f src at room e (Err g) fails = walks_none at room
 
-pub head_there : (f : MultiHeader → Option Headed) (src : List ℕ) (at : At) (room new : List Field) (read : Read MultiHeader) (h : MultiHeader) (place : ℕ) (m : Option Headed) (next : Walked) → read ≡ Ok (h, place) → m ≡ f h → Walks at room (under h m src place) next new
+pub head_there : (f : OfHead) (src : List ℕ) (at : At) (room new : List Field) (read : Read MultiHeader) (h : MultiHeader) (place : ℕ) (m : Option Headed) (next : Walked) → read ≡ Ok (h, place) → m ≡ f h → Walks at room (under h m src place) next new
     → Walks at room (headed f src read) next new
 head_there f src at room new read h place m next e is w = rw (e, ← is) w
 

@@ -12,7 +12,8 @@ use Rattle.zk_fields.specs.Frames.{Framed, framed_items, framed_fields, AreWritt
 use Rattle.std.specs.Prelude.{nat_le, true, false}
 use Rattle.std.proofs.lemmas.Bool.Decides.{nat_tests}
 use Rattle.zk_fields.specs.declared.opened.Opened.{Opened}
-use Rattle.zk_fields.specs.Walks.{Content, content_met, Walks, opened_start, opened_content, opened_fields}
+use Rattle.zk_fields.specs.Rows.{Content}
+use Rattle.zk_fields.specs.Walks.{content_met, Walks, opened_start, opened_content, opened_fields}
 use Rattle.zk_fields.proofs.Rooms.{fields_length}
 use Rattle.zk_fields.proofs.Same.{size_is}
 use Rattle.zk_fields.proofs.Stood.{content_stood}

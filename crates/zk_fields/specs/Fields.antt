@@ -5,6 +5,7 @@ use Rattle.zk_jute.specs.Item.{Item, AnInt, ALong, ABoolean, AUstring, ABuffer, 
 use Rattle.zk_records.specs.declared.header.MultiHeader.{MultiHeader}
 use Rattle.zk_records.specs.Records.{multi_header}
 use Rattle.zk_fields.specs.declared.field.Field.{Field}
+use Rattle.zk_fields.specs.declared.kind.TheConstants.{INT, LONG, BOOLEAN, TEXT, BLOB, LIST, PART}
 
 -- an item under a name, or the header that begins a part or a result
 pub data Entry : Type 0 where
@@ -51,17 +52,17 @@ bool_number true = pos 1
 bool_number false = pos 0
 
 abbrev pub item_field : ℕ → ℕ → Item → Field
-item_field place name (AnInt n) = record { place = place; length = 4; number = n; name = name; kind = 1; null = 0 }
-item_field place name (ALong n) = record { place = place; length = 8; number = n; name = name; kind = 2; null = 0 }
-item_field place name (ABoolean b) = record { place = place; length = 1; number = bool_number b; name = name; kind = 3; null = 0 }
-item_field place name (AUstring t) = run_field place name 4 t
-item_field place name (ABuffer b) = run_field place name 5 b
-item_field place name (ACount None) = record { place = place; length = 4; number = pos 0; name = name; kind = 6; null = 1 }
-item_field place name (ACount (Some n)) = record { place = place; length = 4; number = pos n; name = name; kind = 6; null = 0 }
+item_field place name (AnInt n) = record { place = place; length = 4; number = n; name = name; kind = INT; null = 0 }
+item_field place name (ALong n) = record { place = place; length = 8; number = n; name = name; kind = LONG; null = 0 }
+item_field place name (ABoolean b) = record { place = place; length = 1; number = bool_number b; name = name; kind = BOOLEAN; null = 0 }
+item_field place name (AUstring t) = run_field place name TEXT t
+item_field place name (ABuffer b) = run_field place name BLOB b
+item_field place name (ACount None) = record { place = place; length = 4; number = pos 0; name = name; kind = LIST; null = 1 }
+item_field place name (ACount (Some n)) = record { place = place; length = 4; number = pos n; name = name; kind = LIST; null = 0 }
 
 abbrev pub field_of : ℕ → Entry → Field
 field_of place (Under name i) = item_field place name i
-field_of place (Head h) = record { place = place; length = 9; number = h.kind; name = 0; kind = 7; null = 0 }
+field_of place (Head h) = record { place = place; length = 9; number = h.kind; name = 0; kind = PART; null = 0 }
 
 -- the bytes of all
 abbrev pub size_all : List Entry → ℕ

@@ -3,43 +3,28 @@ use Rattle.std.specs.Prelude.{◌≡◌, ℕ, Bool, List, [], ◌++◌, length, 
 use Rattle.zk_jute.specs.Item.{Item, bytes_of}
 use Rattle.zk_records.specs.Codes.{op_number}
 use Rattle.zk_records.specs.Records.{reply_header}
-use Rattle.zk_asks.specs.declared.frame.AskOf.TheVariants as ask
 use Rattle.zk_asks.specs.declared.frame.ClientFrameOf.TheVariants as client
-use Rattle.zk_asks.specs.Held.{Ask, ClientFrame}
+use Rattle.zk_asks.specs.Held.{ClientFrame}
 use Rattle.zk_asks.specs.Forms.{header_items}
-use Rattle.zk_asks.specs.Parts.{end_header, marked}
 use Rattle.zk_asks.specs.Rows.{op_of_ask}
-use Rattle.zk_answers.specs.declared.frame.BodyOf.TheVariants as body
 use Rattle.zk_answers.specs.declared.frame.OutcomeOf.TheVariants as outcome
 use Rattle.zk_answers.specs.declared.frame.ServerFrameOf.TheVariants as server
-use Rattle.zk_answers.specs.Held.{Body, Outcome, ServerFrame}
+use Rattle.zk_answers.specs.Held.{Outcome, ServerFrame}
 use Rattle.zk_answers.specs.Frames.{header_of, event_header}
 use Rattle.zk_fields.specs.declared.field.Field.{Field}
-use Rattle.zk_fields.specs.Names.{the_read_only}
 use Rattle.zk_fields.specs.Fields.{Entry, fields_from, items_of}
-use Rattle.zk_fields.specs.Named.{a_boolean}
-use Rattle.zk_fields.specs.Records.{connect_request, connect_response, watcher_event}
-use Rattle.zk_fields.specs.Asks.{ask_entries}
-use Rattle.zk_fields.specs.Answers.{body_entries}
+use Rattle.zk_fields.specs.Records.{connect_request, connect_response, watcher_event, read_only}
+use Rattle.zk_fields.specs.Rows.{ask_entries, ask_behind, body_entries, body_behind}
 
 abbrev pub flag_entries : Option Bool → List Entry
 flag_entries None = []
-flag_entries (Some b) = a_boolean.entries the_read_only b
+flag_entries (Some b) = read_only.entries 0 b
 
 -- the items before the fields, the fields, and the items after them
 pub record Framed : Type 0 where
   pub front : List Item
   pub entries : List Entry
   pub behind : List Item
-
--- a multi's end marker
-abbrev pub ask_behind : Ask → List Item
-ask_behind (ask.Multi ps) = marked end_header
-ask_behind a = []
-
-abbrev pub body_behind : Body → List Item
-body_behind (body.Multi ds) = marked end_header
-body_behind b = []
 
 abbrev pub rest_entries : Outcome → List Entry
 rest_entries (outcome.Done b) = body_entries b

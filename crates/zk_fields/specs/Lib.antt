@@ -1,9 +1,8 @@
-pub mod Names
 pub mod Fields
 pub mod Named
 pub mod Records
-pub mod Asks
-pub mod Answers
+pub mod Heads
+pub mod Rows
 pub mod Frames
 pub mod Contents
 pub mod Room

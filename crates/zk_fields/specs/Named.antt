@@ -81,6 +81,16 @@ a_text = one ustring Ustring ustring.unfolds
 abbrev pub a_blob : Named Blob
 a_blob = one buffer Buffer buffer.unfolds
 
+-- nothing
+abbrev pub nothing : Named (Unit {0})
+nothing = record {
+  items = λ _. [];
+  entries = λ _ _. [];
+  is = λ _ _. refl;
+  shape = λ _. Nothing;
+  formed = λ _ _. refl;
+}
+
 -- a list: its count, and then its elements' entries, all under the list's name
 abbrev pub list_entries : {X : Type 0} → Entries X → Entries (Vector X)
 list_entries f name nullable.Null = Under name (ACount None) ∷ []

@@ -9,7 +9,8 @@ use Rattle.zk_fields.specs.declared.value.Heads.{Heads}
 use Rattle.std.specs.List.{slice_get}
 use Rattle.zk_fields.specs.declared.write.Unwritten.{Unwritten}
 use Rattle.zk_fields.specs.declared.write.Unwritten.TheVariants as unwritten
-use Rattle.zk_fields.specs.Written.{Pair, plain_head, said, all_said}
+use Rattle.zk_fields.specs.Heads.{plain_head}
+use Rattle.zk_fields.specs.Written.{Pair, said, all_said}
 
 abbrev pub value_bytes : Value → List ℕ
 value_bytes (value.Int n) = int_bytes n

@@ -4,6 +4,7 @@ use Rattle.std.specs.Prelude.{nat_le, Bool, true, false, List, [], ◌∷◌, �
 use Rattle.std.specs.Prelude.{Result, Ok, Err}
 use Rattle.std.specs.Option.{option_map, option_and_then}
 use Rattle.std.specs.List.{slice_get}
+use Rattle.std.specs.Ordering.{int_eq}
 use Rattle.std.specs.Str.Lossy.{utf8_valid_len}
 use Rattle.zk_jute.specs.Item.{Item, AnInt, ALong, ABoolean, AUstring, ABuffer, ACount, bytes_of, run_bytes}
 use Rattle.zk_records.specs.declared.header.MultiHeader.{MultiHeader}
@@ -11,11 +12,13 @@ use Rattle.zk_records.specs.Records.{multi_header, reply_header}
 use Rattle.zk_records.specs.Codes.{op_number}
 use Rattle.zk_asks.specs.Held.{ClientFrame}
 use Rattle.zk_asks.specs.Frames as asks
-use Rattle.zk_asks.specs.Parts.{end_header, marked}
 use Rattle.zk_answers.specs.Held.{Reply, ServerFrame}
 use Rattle.zk_answers.specs.Frames as answers
+pub use Rattle.zk_fields.specs.Rows.{behind_of}
 use Rattle.zk_fields.specs.Frames.{client_fields, server_fields}
 use Rattle.zk_fields.specs.declared.field.Field.{Field}
+use Rattle.zk_fields.specs.declared.kind.TheConstants.{INT, LONG, BOOLEAN, TEXT, BLOB, LIST, PART}
+use Rattle.zk_fields.specs.Heads.{plain_head}
 use Rattle.zk_fields.specs.declared.value.Heads.{Heads}
 use Rattle.zk_fields.specs.declared.value.Heads.TheVariants as head
 use Rattle.zk_fields.specs.declared.write.Unwritten.{Unwritten}
@@ -63,21 +66,16 @@ pairs (f ∷ fs) = (f, slice_get fs 0) ∷ pairs fs
 -- the number of an int's field
 abbrev pub error_said : Option Field → Option ℤ
 error_said None = None
-error_said (Some f) = if f.kind == 1 then int_said f.number else None
+error_said (Some f) = if f.kind == INT then int_said f.number else None
 
 -- the err in the header of a result; in that of an error, whose number is -1, it is the int after the header
 abbrev pub result_err : ℤ → Option Field → Option ℤ
-result_err (pos n) next = Some (pos 0)
-result_err (negsuc zero) next = error_said next
-result_err (negsuc (suc n)) next = Some (pos 0)
+result_err n next = if int_eq n (negsuc 0) then error_said next else Some (pos 0)
 
 -- in that of a request's part it is -1
 abbrev pub head_err : Heads → ℤ → Option Field → Option ℤ
 head_err head.Parts n next = Some (negsuc 0)
 head_err head.Results n next = result_err n next
-
-abbrev pub plain_head : ℤ → ℤ → MultiHeader
-plain_head n e = record { kind = n; done = false; err = e }
 
 -- the header of a part or a result with this number
 abbrev pub head_said : Heads → Option Field → ℤ → Option MultiHeader
@@ -86,32 +84,22 @@ head_said heads next n = option_map (plain_head n) (head_err heads n next)
 -- what a field says by its kind, if it says anything
 abbrev pub said : Heads → List ℕ → Pair → Option (List Item)
 said heads content (f, next) =
-    if f.kind == 1 then option_map (λ n. AnInt n ∷ []) (int_said f.number)
-    else if f.kind == 2 then Some (ALong f.number ∷ [])
-    else if f.kind == 3 then option_map (λ b. ABoolean b ∷ []) (bool_said f.number)
-    else if f.kind == 4 then option_map (λ t. AUstring t ∷ []) (option_and_then utf8_said (run_said content f))
-    else if f.kind == 5 then option_map (λ b. ABuffer b ∷ []) (run_said content f)
-    else if f.kind == 6 then option_map (λ n. ACount n ∷ []) (list_said f)
-    else if f.kind == 7 then option_map multi_header.items (option_and_then (head_said heads next) (int_said f.number))
+    if f.kind == INT then option_map (λ n. AnInt n ∷ []) (int_said f.number)
+    else if f.kind == LONG then Some (ALong f.number ∷ [])
+    else if f.kind == BOOLEAN then option_map (λ b. ABoolean b ∷ []) (bool_said f.number)
+    else if f.kind == TEXT then option_map (λ t. AUstring t ∷ []) (option_and_then utf8_said (run_said content f))
+    else if f.kind == BLOB then option_map (λ b. ABuffer b ∷ []) (run_said content f)
+    else if f.kind == LIST then option_map (λ n. ACount n ∷ []) (list_said f)
+    else if f.kind == PART then option_map multi_header.items (option_and_then (head_said heads next) (int_said f.number))
     else None
 
 -- what the field of this index says, or `d` if there is none
 abbrev pub said_at : Heads → List ℕ → List Field → ℕ → Pair → Option (List Item)
 said_at heads content fields index d = said heads content (get_or (pairs fields) index d)
 
--- a multi's end marker
-abbrev pub behind_with : ℕ → List Item
-behind_with n = if n == 14 then marked end_header else []
-
-abbrev pub behind_of : ℤ → List Item
-behind_of (pos n) = behind_with n
-behind_of (negsuc n) = []
-
--- a reply that failed has none
+-- the items after the fields of a reply: one that failed has none
 abbrev pub done_behind : ℤ → ℤ → List Item
-done_behind (pos zero) op = behind_of op
-done_behind (pos (suc n)) op = []
-done_behind (negsuc n) op = []
+done_behind err op = if int_eq err (pos 0) then behind_of op else []
 
 -- a reply's header
 abbrev pub answer_front : ℤ → ℤ → ℤ → List Item

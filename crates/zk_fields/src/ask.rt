@@ -2,7 +2,8 @@
 ghost use Rattle.std.specs.Prelude.{◌≡◌, ◌∷◌, []};
 ghost use Rattle.zk_asks.specs.Parts.{part_header};
 ghost use Rattle.zk_fields.specs.Fields.{Head};
-ghost use Rattle.zk_fields.specs.Asks.{record_entries, part_entries, ask_entries};
+ghost use Rattle.zk_fields.specs.Heads.{plain_head, record_entries, part_entries};
+ghost use Rattle.zk_fields.specs.Rows.{ask_entries};
 ghost use Rattle.zk_fields.specs.Room.{Takes};
 
 use crate::field::{At, Field, put};
@@ -28,16 +29,22 @@ pub(crate) fn show_head(header: &MultiHeader, room: &mut [Field], at: At) -> At
     put(field, 9, room, at)
 }
 
+/// A header that isn't the end marker.
+pub(crate) fn plain_head(kind: i32, err: i32) -> MultiHeader
+    ensures { result ≡ plain_head kind err }
+{
+    MultiHeader {
+        kind,
+        done: false,
+        err,
+    }
+}
+
 /// The header that begins a part.
 fn show_part(op: PartOp, room: &mut [Field], at: At) -> At
     ensures { Takes at room.old (Head (part_header op) ∷ []) result room.new }
 {
-    let header = MultiHeader {
-        kind: part_number(op),
-        done: false,
-        err: -1,
-    };
-    show_head(&header, room, at)
+    show_head(&plain_head(part_number(op), -1), room, at)
 }
 
 /// A part's record.

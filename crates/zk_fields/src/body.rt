@@ -2,9 +2,10 @@
 ghost use Rattle.std.specs.Prelude.{◌≡◌};
 ghost use Rattle.zk_answers.specs.Results.{mark_before};
 ghost use Rattle.zk_fields.specs.Room.{Takes};
-ghost use Rattle.zk_fields.specs.Answers.{result_entries, done_entries, body_entries};
+ghost use Rattle.zk_fields.specs.Heads.{result_entries, done_entries};
+ghost use Rattle.zk_fields.specs.Rows.{body_entries};
 
-use crate::ask::show_head;
+use crate::ask::{plain_head, show_head};
 use crate::field::{At, Field};
 use crate::name::{ACL, CHILDREN, DATA, ERR, NONE, PATH};
 use crate::show::Show;
@@ -16,31 +17,11 @@ fn mark_before(done: &PartDoneRef<'_>) -> MultiHeader
     ensures { result ≡ mark_before done.now }
 {
     match done {
-        PartDoneOf::Created(_) => MultiHeader {
-            kind: part_number(PartOp::Create),
-            done: false,
-            err: 0,
-        },
-        PartDoneOf::Deleted => MultiHeader {
-            kind: part_number(PartOp::Delete),
-            done: false,
-            err: 0,
-        },
-        PartDoneOf::DataSet(_) => MultiHeader {
-            kind: part_number(PartOp::SetData),
-            done: false,
-            err: 0,
-        },
-        PartDoneOf::Checked => MultiHeader {
-            kind: part_number(PartOp::Check),
-            done: false,
-            err: 0,
-        },
-        PartDoneOf::PartFailed(error) => MultiHeader {
-            kind: -1,
-            done: false,
-            err: *error,
-        },
+        PartDoneOf::Created(_) => plain_head(part_number(PartOp::Create), 0),
+        PartDoneOf::Deleted => plain_head(part_number(PartOp::Delete), 0),
+        PartDoneOf::DataSet(_) => plain_head(part_number(PartOp::SetData), 0),
+        PartDoneOf::Checked => plain_head(part_number(PartOp::Check), 0),
+        PartDoneOf::PartFailed(error) => plain_head(-1, *error),
     }
 }
 

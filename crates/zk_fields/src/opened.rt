@@ -2,20 +2,20 @@
 ghost use Rattle.std.specs.Prelude.{◌≡◌, ◌≤◌, ◌<◌, ◌^◌, length, take, IfOk, IfSome};
 ghost use Rattle.zk_jute.specs.Reading.{Tells};
 ghost use Rattle.zk_fields.specs.Frames.{AreWritten};
-ghost use Rattle.zk_fields.specs.Walks.{Walks, walk, head_met, header_at, headed_part, headed_result, headed_shape, record_shape, under, content_met, ask_content, body_content, opened_content, opened_start, opened_fields};
+ghost use Rattle.zk_fields.specs.Heads.{OfHead, headed_part, headed_result, headed_shape};
+ghost use Rattle.zk_fields.specs.Rows.{ask_content, body_content};
+ghost use Rattle.zk_fields.specs.Walks.{Walks, walk, head_met, header_at, under, content_met, opened_content, opened_start, opened_fields};
 
 use crate::ask::show_head;
 use crate::field::{At, Field};
 use crate::frame::{REPLY, REQUEST};
 use crate::name::*;
 use crate::walk::{Column, Walk, Walked, walk_fields, walk_nothing, walk_times};
+use std::marker::PhantomData;
 use zk_answers::body_rows;
 use zk_asks::{ask_rows, part_rows};
 use zk_jute::{ItemFault, TextRef, bool_at, int_at};
-use zk_records::{
-    ConnectRequestRef, ConnectResponseRef, MultiHeader, Op, PartOp, Stat, borrowed, fields_of,
-    part_of,
-};
+use zk_records::{MultiHeader, Op, PartOp, Stat, borrowed, fields_of, part_of};
 
 /// The kind of message that a payload is read as.
 #[derive(Clone, Copy)]
@@ -44,28 +44,6 @@ fn head_at(payload: &[u8], place: usize) -> Result<(MultiHeader, usize), ItemFau
     Ok((MultiHeader { kind, done, err }, place))
 }
 
-/// Writes the fields of the record of a multi's part.
-fn walk_record<'a>(
-    op: PartOp,
-    payload: &'a [u8],
-    place: usize,
-    room: &mut [Field],
-    at: At,
-) -> Walked
-    requires { place ≤ length payload.now }
-    ensures walks { Walks at room.old (walk (record_shape op) payload.now place) result room.new }
-    ensures within { IfSome result.end (λ end. end ≤ length payload.now) }
-{
-    macro_rules! row {
-        ($op:ident: $($part:ident: $record:ident $borrowed:ident),+) => {
-            match $op {
-                $(PartOp::$part => fields_of!($record, walk_fields, payload, place, room, at),)+
-            }
-        };
-    }
-    part_rows!(row, op)
-}
-
 /// What follows a multi's header: a part, a part's own result, or an error.
 #[derive(Clone, Copy)]
 pub enum Headed {
@@ -74,34 +52,53 @@ pub enum Headed {
     Error,
 }
 
-/// What follows `header` in a request; `None` for the end marker, and for a header of no part.
-#[tactic(auto, using(crate::proofs::Heads::part_end, crate::proofs::Heads::part_none, crate::proofs::Heads::part_some))]
-fn headed_part(header: &MultiHeader) -> Option<Headed>
-    ensures { result ≡ headed_part header.now }
-{
-    if header.done {
-        return None;
-    }
-    match part_of(header.kind) {
-        Some(op) => Some(Headed::Part(op)),
-        None => None,
+/// A multi, by what follows its headers.
+trait Multi: Sized {
+    ghost headed: { OfHead };
+
+    /// What follows `header`; `None` for the end marker, and for a header of nothing.
+    fn headed(header: &MultiHeader) -> Option<Headed>
+        ensures { result ≡ headed header.now };
+}
+
+/// That of a request.
+#[derive(Drop)]
+struct Parts {}
+
+impl Multi for Parts {
+    ghost headed = { headed_part };
+
+    #[tactic(auto, using(crate::proofs::Heads::part_end, crate::proofs::Heads::part_none, crate::proofs::Heads::part_some))]
+    fn headed(header: &MultiHeader) -> Option<Headed> {
+        if header.done {
+            return None;
+        }
+        match part_of(header.kind) {
+            Some(op) => Some(Headed::Part(op)),
+            None => None,
+        }
     }
 }
 
-/// What follows `header` in a reply; `None` for the end marker, and for a header of no result.
-#[tactic(auto, using(crate::proofs::Heads::result_end, crate::proofs::Heads::result_error, crate::proofs::Heads::result_none, crate::proofs::Heads::result_some))]
-fn headed_result(header: &MultiHeader) -> Option<Headed>
-    ensures { result ≡ headed_result header.now }
-{
-    if header.done {
-        return None;
-    }
-    if header.kind == -1 {
-        return Some(Headed::Error);
-    }
-    match part_of(header.kind) {
-        Some(op) => Some(Headed::Own(op)),
-        None => None,
+/// That of a reply.
+#[derive(Drop)]
+struct Results {}
+
+impl Multi for Results {
+    ghost headed = { headed_result };
+
+    #[tactic(auto, using(crate::proofs::Heads::result_end, crate::proofs::Heads::result_error, crate::proofs::Heads::result_none, crate::proofs::Heads::result_some))]
+    fn headed(header: &MultiHeader) -> Option<Headed> {
+        if header.done {
+            return None;
+        }
+        if header.kind == -1 {
+            return Some(Headed::Error);
+        }
+        match part_of(header.kind) {
+            Some(op) => Some(Headed::Own(op)),
+            None => None,
+        }
     }
 }
 
@@ -117,14 +114,19 @@ fn walk_headed<'a>(
     ensures walks { Walks at room.old (walk (headed_shape headed) payload.now place) result room.new }
     ensures within { IfSome result.end (λ end. end ≤ length payload.now) }
 {
-    match headed {
-        Headed::Part(op) => walk_record(op, payload, place, room, at),
-        Headed::Own(PartOp::Create) => TextRef::walk(payload, place, PATH, room, at),
-        Headed::Own(PartOp::SetData) => Stat::walk(payload, place, NONE, room, at),
-        Headed::Own(PartOp::Delete) => walk_nothing(place, at),
-        Headed::Own(PartOp::Check) => walk_nothing(place, at),
-        Headed::Error => i32::walk(payload, place, ERR, room, at),
+    macro_rules! row {
+        ($headed:ident: $($op:ident: $record:ident $borrowed:ident),+) => {
+            match $headed {
+                $(Headed::Part(PartOp::$op) => fields_of!($record, walk_fields, payload, place, room, at),)+
+                Headed::Own(PartOp::Create) => TextRef::walk(payload, place, PATH, room, at),
+                Headed::Own(PartOp::SetData) => Stat::walk(payload, place, NONE, room, at),
+                Headed::Own(PartOp::Delete) => walk_nothing(place, at),
+                Headed::Own(PartOp::Check) => walk_nothing(place, at),
+                Headed::Error => i32::walk(payload, place, ERR, room, at),
+            }
+        };
     }
+    part_rows!(row, headed)
 }
 
 /// Writes the fields of a header and of what follows it.
@@ -150,35 +152,19 @@ fn walk_under<'a>(
     }
 }
 
-/// A part of a multi.
+/// A part or a result of a multi, under its header.
 #[derive(Drop)]
-struct AnyPart {}
-
-impl<'a> Walk<'a> for AnyPart {
-    ghost met = { λ _. head_met headed_part };
-
-    fn walk(payload: &'a [u8], place: usize, _name: u16, room: &mut [Field], at: At) -> Walked {
-        match head_at(payload, place) {
-            Ok((header, place)) => {
-                let headed = headed_part(&header);
-                walk_under(&header, headed, payload, place, room, at)
-            }
-            Err(_fault) => Walked { at, end: None },
-        }
-    }
+struct Under<M> {
+    of: PhantomData<M>,
 }
 
-/// A result of a multi.
-#[derive(Drop)]
-struct AnyResult {}
-
-impl<'a> Walk<'a> for AnyResult {
-    ghost met = { λ _. head_met headed_result };
+impl<'a, M: Multi> Walk<'a> for Under<M> {
+    ghost met = { λ _. head_met M.headed };
 
     fn walk(payload: &'a [u8], place: usize, _name: u16, room: &mut [Field], at: At) -> Walked {
         match head_at(payload, place) {
             Ok((header, place)) => {
-                let headed = headed_result(&header);
+                let headed = M::headed(&header);
                 walk_under(&header, headed, payload, place, room, at)
             }
             Err(_fault) => Walked { at, end: None },
@@ -196,7 +182,7 @@ fn walk_ask<'a>(op: Op, payload: &'a [u8], place: usize, room: &mut [Field], at:
             match $op {
                 $($(Op::$held)|+ => fields_of!($record, walk_fields, payload, place, room, at),)+
                 $(Op::$bare)|+ => walk_nothing(place, at),
-                Op::Multi => walk_times::<AnyPart>(payload, payload.len(), place, NONE, room, at),
+                Op::Multi => walk_times::<Under<Parts>>(payload, payload.len(), place, NONE, room, at),
             }
         };
     }
@@ -217,7 +203,7 @@ fn walk_body<'a>(op: Op, payload: &'a [u8], place: usize, room: &mut [Field], at
                     payload, place, room, at: $first $first_name $first_kind, stat NONE stat
                 ),)+
                 $(Op::$bare)|+ => walk_nothing(place, at),
-                Op::Multi => walk_times::<AnyResult>(payload, payload.len(), place, NONE, room, at),
+                Op::Multi => walk_times::<Under<Results>>(payload, payload.len(), place, NONE, room, at),
             }
         };
     }
@@ -237,13 +223,17 @@ fn walk_opened<'a>(
 {
     match opened {
         Opened::First => {
-            <(ConnectRequestRef<'_>, Column<READ_ONLY, bool>)>::walk(payload, place, NONE, room, at)
+            <(
+                fields_of!(ConnectRequest, walk_fields, as),
+                Column<READ_ONLY, bool>,
+            )>::walk(payload, place, NONE, room, at)
         }
         Opened::Ask(op) => walk_ask(op, payload, place, room, at),
         Opened::Connected => {
-            <(ConnectResponseRef<'_>, Column<READ_ONLY, bool>)>::walk(
-                payload, place, NONE, room, at,
-            )
+            <(
+                fields_of!(ConnectResponse, walk_fields, as),
+                Column<READ_ONLY, bool>,
+            )>::walk(payload, place, NONE, room, at)
         }
         Opened::Reply(op) => walk_body(op, payload, place, room, at),
         Opened::Event => fields_of!(WatcherEvent, walk_fields, payload, place, room, at),

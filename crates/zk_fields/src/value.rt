@@ -3,10 +3,12 @@ ghost use Rattle.std.specs.Prelude.{◌≡◌, ◌<◌, ◌^◌, ◌∷◌, ◌+
 ghost use Rattle.std.specs.Option.{option_map, option_and_then};
 ghost use Rattle.zk_jute.specs.Item.{AnInt, ALong, ABoolean, AUstring, ABuffer, ACount, bytes_of, int_bytes};
 ghost use Rattle.zk_records.specs.Records.{multi_header};
+ghost use Rattle.zk_fields.specs.Heads.{plain_head};
 ghost use Rattle.zk_fields.specs.Values.{value_bytes, IsSaid, Fills};
-ghost use Rattle.zk_fields.specs.Written.{int_said, bool_said, count_said, stretch_said, run_said, utf8_said, list_said, Pair, error_said, head_err, plain_head, head_said, said, said_at};
+ghost use Rattle.zk_fields.specs.Written.{int_said, bool_said, count_said, stretch_said, run_said, utf8_said, list_said, Pair, error_said, head_err, head_said, said, said_at};
 
 use crate::field::Field;
+use crate::kind::{BLOB, BOOLEAN, INT, LIST, LONG, PART, TEXT};
 use std::str::from_utf8;
 
 /// Which headers the fields of a multi stand for.
@@ -141,7 +143,7 @@ fn error_of(next: Option<&Field>) -> Option<i32>
     ensures { result ≡ error_said (option_copied next.entry) }
 {
     let field = next?;
-    if field.kind != 1 {
+    if field.kind != INT {
         return None;
     }
     int_of(field.number)
@@ -178,13 +180,13 @@ fn value_of<'a>(
     ensures { IsSaid (said heads content.now (field.now, option_copied next.entry)) result }
 {
     match field.kind {
-        1 => int_value(field.number),
-        2 => Some(Value::Long(field.number)),
-        3 => bool_value(field.number),
-        4 => text_value(field, content),
-        5 => blob_value(field, content),
-        6 => list_value(field),
-        7 => head_value(heads, field.number, next),
+        INT => int_value(field.number),
+        LONG => Some(Value::Long(field.number)),
+        BOOLEAN => bool_value(field.number),
+        TEXT => text_value(field, content),
+        BLOB => blob_value(field, content),
+        LIST => list_value(field),
+        PART => head_value(heads, field.number, next),
         _ => None,
     }
 }

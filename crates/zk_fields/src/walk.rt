@@ -6,7 +6,7 @@ ghost use Rattle.zk_jute.specs.Reading.{Tells, items_at};
 ghost use Rattle.zk_fields.specs.declared.field.Field as fields;
 ghost use Rattle.zk_fields.specs.Fields.{named};
 ghost use Rattle.zk_fields.specs.Named.{Nothing, An};
-ghost use Rattle.zk_fields.specs.Records.{id, acl, stat, connect_request, connect_response};
+ghost use Rattle.zk_fields.specs.Records.{id, acl, stat};
 ghost use Rattle.zk_fields.specs.Walks.{Met, Walks, walk, item_met, met_then, times_met, list_met};
 
 use crate::field::{At, Field};
@@ -15,7 +15,7 @@ use crate::name::*;
 use crate::show::Show;
 use std::marker::PhantomData;
 use zk_jute::{BlobRef, Element, Ends, Form, ItemFault, Reason, Series, TextRef, View, int_at};
-use zk_records::{AclRef, ConnectRequestRef, ConnectResponseRef, IdRef, Stat, borrowed, fields_of};
+use zk_records::{AclRef, IdRef, Stat, borrowed, fields_of};
 
 /// What the fields came to, and the place after them; `None` if the next item isn't whole there.
 #[derive(Clone, Copy)]
@@ -164,14 +164,15 @@ impl<'a, A: Walk<'a>, B: Walk<'a>> Walk<'a> for (A, B) {
     }
 }
 
-/// `fields_of!(R, walk_fields, payload, place, room, at)` walks the fields of the record, each under its name, in order.
+/// `fields_of!(R, walk_fields, payload, place, room, at)` walks the fields of the record, each under its name, in order;
+/// `fields_of!(R, walk_fields, as)` is their type.
 macro_rules! walk_fields {
-    (as $field:ident $name:ident $kind:ident) => { Column<$name, borrowed!($kind)> };
-    (as $field:ident $name:ident $kind:ident, $($rest:tt)+) => {
-        (Column<$name, borrowed!($kind)>, walk_fields!(as $($rest)+))
+    (as: $field:ident $name:ident $kind:ident) => { Column<$name, borrowed!($kind)> };
+    (as: $field:ident $name:ident $kind:ident, $($rest:tt)+) => {
+        (Column<$name, borrowed!($kind)>, walk_fields!(as: $($rest)+))
     };
     ($payload:ident, $place:ident, $room:ident, $at:ident: $($columns:tt)+) => {
-        <walk_fields!(as $($columns)+)>::walk($payload, $place, NONE, $room, $at)
+        <walk_fields!(as: $($columns)+)>::walk($payload, $place, NONE, $room, $at)
     };
 }
 
@@ -198,22 +199,6 @@ impl<'a> Walk<'a> for Stat {
 
     fn walk(payload: &'a [u8], place: usize, _name: u16, room: &mut [Field], at: At) -> Walked {
         fields_of!(Stat, walk_fields, payload, place, room, at)
-    }
-}
-
-impl<'a> Walk<'a> for ConnectRequestRef<'a> {
-    ghost met = { λ name. walk (connect_request.shape name) };
-
-    fn walk(payload: &'a [u8], place: usize, _name: u16, room: &mut [Field], at: At) -> Walked {
-        fields_of!(ConnectRequest, walk_fields, payload, place, room, at)
-    }
-}
-
-impl<'a> Walk<'a> for ConnectResponseRef<'a> {
-    ghost met = { λ name. walk (connect_response.shape name) };
-
-    fn walk(payload: &'a [u8], place: usize, _name: u16, room: &mut [Field], at: At) -> Walked {
-        fields_of!(ConnectResponse, walk_fields, payload, place, room, at)
     }
 }
 

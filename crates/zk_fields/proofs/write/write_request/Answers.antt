@@ -1,12 +1,9 @@
-use Rattle.std.proofs.Common.{rules, ℤ, List, subst}
-use Rattle.zk_jute.specs.Item.{Item}
-use Rattle.zk_records.specs.Codes.{op_number}
+use Rattle.std.proofs.Common.{rules, ℤ, subst}
 use Rattle.zk_asks.specs.Forms.{header_items}
-use Rattle.zk_asks.specs.Rows.{op_of_ask}
 use Rattle.zk_asks.specs.declared.frame.ClientFrameOf.TheVariants as client
 use Rattle.zk_fields.specs.declared.value.Heads.TheVariants as head
 use Rattle.zk_fields.specs.Written.{behind_of, Writes}
-use Rattle.zk_fields.proofs.Again.{client_again, ends_alike}
+use Rattle.zk_fields.proofs.Again.{client_again}
 use Rattle.zk_fields.proofs.write.write_request.Goals as goal
 
 pub returns-clause-again : goal.returns-clause-again
@@ -20,5 +17,4 @@ returns-clause-again c = λ a is.
     let behind = behind_of c.args.operation in
     let same : Writes head.Parts front behind content fields before result after = search (c.write_frame.ensures front behind, c.request_header-front.ensures, c.end_of-behind.ensures.exact, rules) in
     client_again (client.Ask c.args.xid a) content fields before after result
-    (subst (λ (z : List Item). Writes head.Parts (header_items c.args.xid (op_number (op_of_ask a))) z content fields before result after) (ends_alike a)
-    (subst (λ (z : ℤ). Writes head.Parts (header_items c.args.xid z) (behind_of z) content fields before result after) is same))
+    (subst (λ (z : ℤ). Writes head.Parts (header_items c.args.xid z) (behind_of z) content fields before result after) is same)
