@@ -38,7 +38,12 @@ use Rattle.zk_talk.specs.declared.message.MessageOf.TheVariants.{Client as FromC
 use Rattle.zk_talk.specs.declared.message.Kind.{Kind}
 use Rattle.zk_talk.specs.declared.message.Kind.TheVariants as kinds
 use Rattle.zk_talk.specs.Written.{IsWritten, kind_of}
-use Rattle.zk_talk.proofs.Payloads.{first_inj, ask_inj, connected_inj, event_inj, reply_inj}
+use Rattle.zk_asks.proofs.First.{first_injective}
+use Rattle.zk_asks.proofs.Later.{ask_injective}
+use Rattle.zk_answers.proofs.Connected.{connected_injective}
+use Rattle.zk_answers.proofs.Replies.{reply_injective}
+use Rattle.zk_answers.proofs.Events.{event_injective}
+use Rattle.zk_talk.proofs.Payloads.{asks_alike, answers_alike}
 
 -- ---- the client's
 
@@ -58,12 +63,12 @@ allowed xid id a b sent have e =
     subst (λ (z : ℤ). IsAllowed z (asked.op_of_ask b)) head.0 (subst (λ (o : Op). IsAllowed xid o) op sent.0)
 
 pub client_known : (kind : Kind) (p : List ℕ) (f g : ClientFrame) → asks.IsSent f → client_payload f ≡ p → kind_of (FromClient f) ≡ kind → IsWritten kind p (FromClient g) → f ≡ g
-client_known kind p (Connect t x) (Connect u y) sent is k w = first_inj (Connect t x) (Connect u y) tt tt sent (tt, w.have) (is ∙ sym w.is)
+client_known kind p (Connect t x) (Connect u y) sent is k w = first_injective (Connect t x) (Connect u y) tt tt sent (tt, w.have) (asks_alike (Connect t x) (Connect u y) (is ∙ sym w.is))
 client_known kind p (Connect t x) (Ask id b) sent is k w = let e : kinds.Connect ≡ kinds.Ask = k ∙ sym w.kind_is in absurd (cc)
 client_known kind p (Ask xid a) (Connect u y) sent is k w = let e : kinds.Ask ≡ kinds.Connect = k ∙ sym w.kind_is in absurd (cc)
 client_known kind p (Ask xid a) (Ask id b) sent is k w =
     let same = is ∙ sym w.is in
-    ask_inj (Ask xid a) (Ask id b) tt tt sent (allowed xid id a b sent w.have same, w.have) same
+    ask_injective (Ask xid a) (Ask id b) tt tt sent (allowed xid id a b sent w.have same, w.have) (asks_alike (Ask xid a) (Ask id b) same)
 
 -- ---- results of a multi
 
@@ -138,7 +143,7 @@ reply_known op ps p r q fits sent is w =
     let k = have_parts (reply_header.items (header_of q)) (rest_items q.outcome) w.have in
     let op_is : op_of_reply q ≡ op_of_reply r = of_answered (op_of_reply q) (op_of_reply r) w.kind_is in
     let agrees = outcome_fits op ps r.outcome q.outcome op_is fits sent.1 w.failure (ap (λ (h : ReplyHeader). h.err) heads.0) h.1 k.1 heads.1 in
-    reply_inj op ps r q fits agrees sent ((λ z. sent.0 (sym xid ∙ z)), w.failure, w.have) (sym e)
+    reply_injective op ps (Answered r) (Answered q) fits agrees sent ((λ z. sent.0 (sym xid ∙ z)), w.failure, w.have) (answers_alike (Answered r) (Answered q) (sym e))
   where
     of_answered : (x y : Op) → kinds.Answered x ≡ kinds.Answered y → x ≡ y
     of_answered x y e = cc
@@ -146,9 +151,9 @@ reply_known op ps p r q fits sent is w =
 pub event_known : (p : List ℕ) (s t : ServerFrame) → answers.IsEvent s → answers.IsSent s → server_payload s ≡ p → IsWritten kinds.Event p (FromServer t) → s ≡ t
 event_known p s (Connected u y) event sent is w = let e : kinds.Connected ≡ kinds.Event = w.kind_is in absurd (cc)
 event_known p s (Answered q) event sent is w = let e : kinds.Answered (op_of_reply q) ≡ kinds.Event = w.kind_is in absurd (cc)
-event_known p s (Event z k) event sent is w = event_inj s (Event z k) event tt sent (tt, tt, w.have) (is ∙ sym w.is)
+event_known p s (Event z k) event sent is w = event_injective s (Event z k) event tt sent (tt, tt, w.have) (answers_alike s (Event z k) (is ∙ sym w.is))
 
 pub connected_known : (p : List ℕ) (s t : ServerFrame) → answers.IsConnected s → answers.IsSent s → server_payload s ≡ p → IsWritten kinds.Connected p (FromServer t) → s ≡ t
-connected_known p s (Connected u y) first sent is w = connected_inj s (Connected u y) first tt sent (tt, tt, w.have) (is ∙ sym w.is)
+connected_known p s (Connected u y) first sent is w = connected_injective s (Connected u y) first tt sent (tt, tt, w.have) (answers_alike s (Connected u y) (is ∙ sym w.is))
 connected_known p s (Answered q) first sent is w = let e : kinds.Answered (op_of_reply q) ≡ kinds.Connected = w.kind_is in absurd (cc)
 connected_known p s (Event z k) first sent is w = let e : kinds.Event ≡ kinds.Connected = w.kind_is in absurd (cc)

@@ -3,7 +3,7 @@ use Rattle.std.proofs.Common.{◌≡◌, ◌≢◌, true, ℕ, ◌+◌, ◌⊎�
 use Rattle.std.proofs.lemmas.List.{length-take-le}
 use Rattle.zk_jute.specs.declared.fault.ItemFault.{ItemFault}
 use Rattle.zk_jute.specs.declared.fault.Reason.{Reason}
-use Rattle.zk_jute.specs.declared.fault.Reason.TheVariants.{Short, BadBool, BadLength, BadText, NoMemory, Trailing, UnknownOp, XidOp, BadPart, EventErr, LengthRange, QueueFull, Unasked, XidOrder, StreamEnd}
+use Rattle.zk_jute.specs.declared.fault.Reason.TheVariants.{NoMemory, LengthRange, StreamEnd}
 use Rattle.zk_waiting.specs.Waiting.{Lanes}
 use Rattle.zk_talk.specs.declared.message.Fault.{Fault}
 use Rattle.zk_talk.specs.declared.message.Side.{Side}
@@ -27,20 +27,7 @@ use Rattle.zk_talk.proofs.Sides.{TellsOn, IsNextOn, IsToldOn, told_nothing, goes
 
 lacking : (r : Reason) → (r ≡ NoMemory) ⊎ (r ≡ NoMemory → ⊥)
 lacking NoMemory = inl refl
-lacking Short = inr (λ (e : _). cc)
-lacking BadBool = inr (λ (e : _). cc)
-lacking BadLength = inr (λ (e : _). cc)
-lacking BadText = inr (λ (e : _). cc)
-lacking Trailing = inr (λ (e : _). cc)
-lacking UnknownOp = inr (λ (e : _). cc)
-lacking XidOp = inr (λ (e : _). cc)
-lacking BadPart = inr (λ (e : _). cc)
-lacking EventErr = inr (λ (e : _). cc)
-lacking LengthRange = inr (λ (e : _). cc)
-lacking QueueFull = inr (λ (e : _). cc)
-lacking Unasked = inr (λ (e : _). cc)
-lacking (XidOrder a b) = inr (λ (e : _). cc)
-lacking StreamEnd = inr (λ (e : _). cc)
+lacking _ = inr (λ (e : _). cc)
 
 no_end : StreamEnd ≡ NoMemory → ⊥
 no_end e = cc

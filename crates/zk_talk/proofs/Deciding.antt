@@ -1,5 +1,5 @@
 -- Every history of bytes is good or has a fault: byte after byte, by what a talk that has come so far does.
-use Rattle.std.proofs.Common.{◌≡◌, ℕ, zero, suc, ◌+◌, ◌<◌, ◌≤◌, ◌^◌, ◌⊎◌, inl, inr, List, [], ◌∷◌, ◌++◌, length, drop, Option, Some, None, refl, sym, ap, subst, ◌∙◌, append_assoc, arith}
+use Rattle.std.proofs.Common.{◌≡◌, ℕ, zero, suc, ◌+◌, ◌<◌, ◌≤◌, ◌^◌, ◌⊎◌, inl, inr, List, [], ◌∷◌, ◌++◌, length, drop, Option, Some, None, refl, sym, subst, ◌∙◌, append_assoc, arith}
 use Rattle.std.specs.Prelude.{◌≢◌, slice_get}
 use Rattle.std.specs.List.{AllByRecursion}
 use Rattle.std.proofs.lemmas.Bool.{cases_lt, cases_eq}
@@ -228,25 +228,9 @@ stopped_by Client t held f h M x = (f, M, (x.is, x.order))
 stopped_by Server t held f h M x = (f, M, (x.is, x.order))
 
 module _ (h : History) (r : TalkState) (M : List Message) (max : r.waiting.max ≡ r.limits.waiting) (client : IsBytes r.client_held) (server : IsBytes r.server_held) (st : Stands r h M) where
-  reach : (side : Side) (held kept : List ℕ) (count size : ℕ) (x : Lanes) → x.max ≡ r.waiting.max → IsBytes held → (t : TalkState) → (o : Option _) → t ≡ counted side r kept size x o → (n : History) (N : List Message) → held ≡ [] → Stands t n N → Reached r.limits n
-  reach Client held kept count size x same bytes t o e n N none s = record {
-    talk = t;
-    messages = N;
-    is = ap (λ (z : TalkState). z.limits) e;
-    max = ap (λ (z : TalkState). z.waiting.max) e ∙ same ∙ max ∙ sym (ap (λ (z : TalkState). z.limits.waiting) e);
-    client = subst IsBytes (sym (ap (λ (z : TalkState). z.client_held) e)) no_bytes;
-    server = subst IsBytes (sym (ap (λ (z : TalkState). z.server_held) e)) server;
-    stands = s;
-  }
-  reach Server held kept count size x same bytes t o e n N none s = record {
-    talk = t;
-    messages = N;
-    is = ap (λ (z : TalkState). z.limits) e;
-    max = ap (λ (z : TalkState). z.waiting.max) e ∙ same ∙ max ∙ sym (ap (λ (z : TalkState). z.limits.waiting) e);
-    client = subst IsBytes (sym (ap (λ (z : TalkState). z.client_held) e)) client;
-    server = subst IsBytes (sym (ap (λ (z : TalkState). z.server_held) e)) no_bytes;
-    stands = s;
-  }
+  reach : (side : Side) (size : ℕ) (x : Lanes) → x.max ≡ r.waiting.max → (n : History) (N : List Message) → Stands (counted side r [] size x r.answered) n N → Reached r.limits n
+  reach Client size x same n N s = record { talk = counted Client r [] size x r.answered; messages = N; is = refl; max = same ∙ max; client = no_bytes; server = server; stands = s }
+  reach Server size x same n N s = record { talk = counted Server r [] size x r.answered; messages = N; is = refl; max = same ∙ max; client = client; server = no_bytes; stands = s }
 
   grows : (side : Side) (held : List ℕ) (size : ℕ) → IsBytes held → (n : History) (N : List Message) → Stands (grown side r held size) n N → Reached r.limits n
   grows Client held size bytes n N s = record { talk = grown Client r held size; messages = N; is = refl; max = max; client = bytes; server = server; stands = s }
@@ -294,7 +278,7 @@ module _ (h : History) (r : TalkState) (M : List Message) (max : r.waiting.max �
 
     is_whole : size_on side r + 1 < 2 ^ 62 → IsFrame (side_limit r.limits side) now → Outcome r.limits (h ++ on side piece)
     is_whole room whole = elim (next_decided side r.limits.profile r.client_frames (frames_on side r) r.waiting (drop 4 now) (IsBytes-drop 4 now now_bytes)) [
-      | inl n ↦ inl (reach side [] [] 0 (size_on side r + 1) n.1 n.3 no_bytes (counted side r [] (size_on side r + 1) n.1 r.answered) r.answered refl (h ++ on side piece) (M ++ n.0 ∷ []) refl
+      | inl n ↦ inl (reach side (size_on side r + 1) n.1 n.3 (h ++ on side piece) (M ++ n.0 ∷ [])
           (goes_whole side r piece now [] r.answered 1 n.0 n.1 (omega arith, omega arith, room, refl, whole) max n.2 (told_nothing side r n.0 (frames_on side r) n.1 (drop 4 now) n.2) h M st))
       | inr e ↦
           let stop = judged side r piece now 1 e.0 (omega arith, omega arith, room, refl, whole) max e.1 h M st in

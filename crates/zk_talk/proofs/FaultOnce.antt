@@ -32,7 +32,12 @@ use Rattle.zk_asks.specs.Rows.{op_of_ask}
 use Rattle.zk_asks.specs.Frames.{ops_of_ask}
 use Rattle.zk_answers.specs.Faults.{IsConnectedFault, IsHead, IsHeadFault, IsReplyFault, IsEventFault}
 use Rattle.zk_jute.specs.declared.fault.Reason.TheVariants.{Unasked, XidOrder}
-use Rattle.zk_talk.proofs.Payloads.{Same, ask_excluded, head_excluded, same_head, first_once, connected_once, ask_once, head_once, reply_once, event_once}
+use Rattle.zk_asks.proofs.First.{first_unique}
+use Rattle.zk_asks.proofs.Later.{ask_unique}
+use Rattle.zk_answers.proofs.Connected.{connected_unique}
+use Rattle.zk_answers.proofs.Replies.{reply_unique}
+use Rattle.zk_answers.proofs.Events.{event_unique}
+use Rattle.zk_talk.proofs.Payloads.{Same, ask_excluded, head_excluded, same_head, head_once}
 use Rattle.zk_waiting.specs.Lane.{same_lane}
 use Rattle.zk_talk.specs.Conversation.{is_ask_on}
 use Rattle.zk_talk.specs.Fault.{IsNext, IsClientFault, IsServerFault, side_limit, frame_count, rest_on}
@@ -81,11 +86,11 @@ same_before limits h f g is js = go (cases_order (length is.before) (length js.b
 
 -- ---- One place and one reason
 client_once : (limits : Limits) (v : Conversation) (p : List ℕ) (m n : ℕ) (r s : Reason) → IsClientFault limits v p m r → IsClientFault limits v p n s → Same m n r s
-client_once limits v p m n r s (connect_fault e a) (connect_fault f b) = first_once p m n r s a b
+client_once limits v p m n r s (connect_fault e a) (connect_fault f b) = first_unique p m n r s a b
 client_once limits v p m n r s (connect_fault e a) (ask_fault f b) = absurd (f e)
 client_once limits v p m n r s (connect_fault e a) (queue_full f g later sent o q l i j) = absurd (f e)
 client_once limits v p m n r s (ask_fault e a) (connect_fault f b) = absurd (e f)
-client_once limits v p m n r s (ask_fault e a) (ask_fault f b) = ask_once limits.profile p m n r s a b
+client_once limits v p m n r s (ask_fault e a) (ask_fault f b) = ask_unique limits.profile p m n r s a b
 client_once limits v p m n r s (ask_fault e a) (queue_full f g later sent o q l i j) = absurd (ask_excluded limits.profile p m r a g later sent o q)
 client_once limits v p m n r s (queue_full f g later sent o q l i j) (connect_fault e a) = absurd (f e)
 client_once limits v p m n r s (queue_full f g later sent o q l i j) (ask_fault e a) = absurd (ask_excluded limits.profile p n s a g later sent o q)
@@ -142,7 +147,7 @@ module _ (v : Conversation) (p : List ℕ) where
   apart x y s t a e b other = other (xids y x t s b a ∙ e)
 
   later_once : (m n : ℕ) (r s : Reason) → Later v p m r → Later v p n s → Same m n r s
-  later_once m n r s (l_event x t h e f) (l_event x' t' h' e' f') = event_once p m n r s f f'
+  later_once m n r s (l_event x t h e f) (l_event x' t' h' e' f') = event_unique p m n r s f f'
   later_once m n r s (l_event x t h e f) (l_none x' t' h' k few a b) = absurd (apart x x' t t' h e h' k)
   later_once m n r s (l_event x t h e f) (l_wrong x' t' h' k nx o i w a b) = absurd (apart x x' t t' h e h' k)
   later_once m n r s (l_event x t h e f) (l_reply x' t' h' k o i g) = absurd (apart x x' t t' h e h' k)
@@ -167,7 +172,7 @@ module _ (v : Conversation) (p : List ℕ) where
   later_once m n r s (l_reply x t h k o i f) (l_reply x' t' h' k' o' i' f') =
       let q = xids x x' t t' h h' in
       let z = next_once v (lane_of x.xid) (lane_of x'.xid) x.xid x'.xid o o' (ap lane_of q) i i' in
-      reply_once (op_of_ask o) (ops_of_ask o) p m n r s f (subst (λ z. IsReplyFault (op_of_ask z) (ops_of_ask z) p n s) (sym z.1) f')
+      reply_unique (op_of_ask o) (ops_of_ask o) p m n r s f (subst (λ z. IsReplyFault (op_of_ask z) (ops_of_ask z) p n s) (sym z.1) f')
 
   stage_once : (m n : ℕ) (r s : Reason) → Stage v p m r → Stage v p n s → Same m n r s
   stage_once m n r s (s_early es ec a b) (s_early es' ec' a' b') = (a ∙ sym a', b ∙ sym b')
@@ -175,7 +180,7 @@ module _ (v : Conversation) (p : List ℕ) where
   stage_once m n r s (s_early es ec a b) (s_head k f) = absurd (k es)
   stage_once m n r s (s_early es ec a b) (s_later k f) = absurd (k es)
   stage_once m n r s (s_first es ec f) (s_early es' ec' a' b') = absurd (ec ec')
-  stage_once m n r s (s_first es ec f) (s_first es' ec' f') = connected_once p m n r s f f'
+  stage_once m n r s (s_first es ec f) (s_first es' ec' f') = connected_unique p m n r s f f'
   stage_once m n r s (s_first es ec f) (s_head k f') = absurd (k es)
   stage_once m n r s (s_first es ec f) (s_later k f') = absurd (k es)
   stage_once m n r s (s_head k f) (s_early es ec a b) = absurd (k es)

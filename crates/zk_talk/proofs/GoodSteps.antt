@@ -1,5 +1,5 @@
 -- Which histories are good, byte after byte.
-use Rattle.std.proofs.Common.{◌≡◌, ℕ, ◌+◌, ◌<◌, ◌≤◌, ◌^◌, List, [], ◌∷◌, ◌++◌, length, sym, ap, ◌∙◌, subst, arith}
+use Rattle.std.proofs.Common.{◌≡◌, ℕ, ◌+◌, ◌<◌, ◌≤◌, ◌^◌, List, [], ◌∷◌, ◌++◌, length, map, sym, ap, ◌∙◌, subst, arith}
 use Rattle.std.proofs.lemmas.List.{append-nil, map-append, length_push}
 use Rattle.zk_asks.specs.Held.{ClientFrame}
 use Rattle.zk_answers.specs.Held.{ServerFrame}
@@ -34,6 +34,11 @@ module _ (limits : Limits) (h : History) (b : ℕ) where
     client_cut = subst (λ z. IsCut limits.client z (client_payloads C) cb) (sym (other-bytes Server h b)) w.client_cut;
     server_cut = subst (λ z. IsCut limits.server z (server_payloads S') c) (sym (side_bytes-same Server h b)) cut;
   }
+
+-- the last of a side's frames, where its bytes are those of the frames before it and of this payload's
+last_frame : {F : Type 0} (payload : F → List ℕ) (limit : ℕ) → limit < 2 ^ 31 → (X : List ℕ) (b : ℕ) (P : List (List ℕ)) (rest p : List ℕ) → IsCut limit X P rest → rest ++ b ∷ [] ≡ frame p → length p ≤ limit →
+    (all : List F) (more : List ℕ) → IsCut limit (X ++ b ∷ []) (map payload all) more → (before : List F) × (found : F) × (all ≡ before ++ found ∷ []) × (map payload before ≡ P) × (payload found ≡ p)
+last_frame payload limit small X b P rest p g e l all more cut = map_pushed payload all P p (cut_only limit X b P _ rest p more small g e l cut).0
 
 pub load_here : (limits : Limits) (h : History) (v : Conversation) (cb sb : List ℕ) → Good limits h v cb sb → load v.client v.server ≤ limits.waiting
 load_here limits h v cb sb g = g.bounded h [] (sym (append-nil h)) v.client [] (sym (append-nil v.client)) v.server [] (sym (append-nil v.server)) (cb, sb, g.whole)
@@ -120,9 +125,7 @@ module _ (limits : Limits) (small : AreSmall limits) (h : History) (b : ℕ) (v 
   pub found_client : (p : List ℕ) → cb ++ b ∷ [] ≡ frame p → length p ≤ limits.client → IsGood limits (h ++ (Client, b) ∷ []) → FoundClient p
   found_client p e l n =
       let w = n.0 in
-      let cut = subst (λ z. IsCut limits.client z (client_payloads w.client) n.1) (side_bytes-same Client h b) n.3.whole.client_cut in
-      let only = cut_only limits.client _ b _ _ cb p n.1 small.0 g.whole.client_cut e l cut in
-      let split = map_pushed client_payload w.client (client_payloads v.client) p only.0 in
+      let split = last_frame client_payload limits.client small.0 (side_bytes Client h) b (client_payloads v.client) cb p g.whole.client_cut e l w.client n.1 (subst (λ z. IsCut limits.client z (client_payloads w.client) n.1) (side_bytes-same Client h b) n.3.whole.client_cut) in
       let each = subst (EachAfter (ClientMay limits.profile)) split.2 n.3.conversation.client in
       let before = EachAfter-left (ClientMay limits.profile) split.0 (split.1 ∷ []) each in
       let same = same_clients limits.profile split.0 v.client before g.conversation.client split.3 in
@@ -149,9 +152,7 @@ module _ (limits : Limits) (small : AreSmall limits) (h : History) (b : ℕ) (v 
   pub found_server : (p : List ℕ) → sb ++ b ∷ [] ≡ frame p → length p ≤ limits.server → IsGood limits (h ++ (Server, b) ∷ []) → FoundServer p
   found_server p e l n =
       let w = n.0 in
-      let cut = subst (λ z. IsCut limits.server z (server_payloads w.server) n.2) (side_bytes-same Server h b) n.3.whole.server_cut in
-      let only = cut_only limits.server _ b _ _ sb p n.2 small.1 g.whole.server_cut e l cut in
-      let split = map_pushed server_payload w.server (server_payloads v.server) p only.0 in
+      let split = last_frame server_payload limits.server small.1 (side_bytes Server h) b (server_payloads v.server) sb p g.whole.server_cut e l w.server n.2 (subst (λ z. IsCut limits.server z (server_payloads w.server) n.2) (side_bytes-same Server h b) n.3.whole.server_cut) in
       let client_cut = subst (λ z. IsCut limits.client z (client_payloads w.client) n.1) (other-bytes Server h b) n.3.whole.client_cut in
       let clients = same_clients limits.profile w.client v.client n.3.conversation.client g.conversation.client (same_cut limits.client _ _ _ _ _ small.0 client_cut g.whole.client_cut).0 in
       let each = subst (EachAfter (ServerMay v.client)) split.2 (subst (λ z. EachAfter (ServerMay z) w.server) clients n.3.conversation.server) in

@@ -1,5 +1,5 @@
 -- A whole history.
-use Rattle.std.proofs.Common.{◌≡◌, ℕ, ◌+◌, ◌<◌, ◌≤◌, List, [], ◌∷◌, ◌++◌, length, drop, sym, ap, ◌∙◌, subst, append_assoc}
+use Rattle.std.proofs.Common.{◌≡◌, ℕ, ◌+◌, ◌<◌, ◌≤◌, List, [], ◌∷◌, ◌++◌, length, drop, refl, sym, ap, ◌∙◌, subst, append_assoc}
 use Rattle.std.proofs.lemmas.List.{append-nil}
 use Rattle.zk_talk.specs.declared.message.Side.TheVariants.{Client, Server}
 use Rattle.zk_talk.specs.declared.limits.Limits.{Limits}
@@ -7,7 +7,7 @@ use Rattle.zk_talk.specs.Splits.{EachAfter}
 use Rattle.zk_talk.specs.History.{History}
 use Rattle.zk_talk.specs.Conversation.{ServerMay, Conversation}
 use Rattle.zk_talk.specs.Good.{Good, IsGood}
-use Rattle.zk_talk.proofs.Small.{AreSmall}
+use Rattle.zk_talk.proofs.Small.{AreSmall, small_limits}
 use Rattle.zk_talk.proofs.Turns.{same_clients, same_servers}
 use Rattle.zk_talk.proofs.Steps.{same_whole}
 use Rattle.std.proofs.Common.{Option, Some, None, take}
@@ -16,7 +16,8 @@ use Rattle.zk_talk.specs.Held.{Message}
 use Rattle.zk_talk.specs.History.{on}
 use Rattle.zk_talk.specs.Good.{IsOrder}
 use Rattle.zk_talk.specs.Fault.{IsFaultOf}
-use Rattle.zk_talk.specs.Stands.{TalkState, Stands, Refuses}
+use Rattle.zk_talk.specs.Numbers.{IsNewest}
+use Rattle.zk_talk.specs.Stands.{TalkState, Stands, Refuses, held_on}
 use Rattle.std.proofs.Common.{drop, get_or}
 use Rattle.std.proofs.lemmas.List.{take-append-drop, take_more, take_all}
 use Rattle.std.specs.Borrow.{Bor}
@@ -36,6 +37,10 @@ same_good limits small h v w cb sb db tb a b =
     let each = subst (λ z. EachAfter (ServerMay z) w.server) (sym c) b.conversation.server in
     let t = same_servers v.client v.server w.server a.conversation.server each s.1 in
     ((λ i. record { client = c i; server = t i }), s.2, s.3)
+
+-- It is that of a talk that stands, whose beginnings are the sides'.
+pub stands_alone : (t : TalkState) (h : History) (M : List Message) (st : Stands t h M) (v : Conversation) (cb sb : List ℕ) → Good t.limits h v cb sb → (st.conversation ≡ v) × (t.client_held ≡ cb) × (t.server_held ≡ sb)
+stands_alone t h M st v cb sb g = same_good t.limits (small_limits t.limits) h st.conversation v t.client_held t.server_held cb sb st.good g
 
 -- A history with a fault is not good.
 pub fault_is_bad : (limits : Limits) (h : History) (f : Fault) → IsFaultOf limits h f → IsGood limits h → ⊥
@@ -81,18 +86,26 @@ pub messages_more : (limits : Limits) (h r : History) (M : List Message) (f : Fa
 unfolding fault_more
 messages_more limits h r M f m = (fault_more limits h r f m.0, m.1)
 
-pub refuses_more : (t : TalkState) (h r : History) (M : List Message) (f : Fault) → Refuses t h M f → Refuses t (h ++ r) M f
+-- and it still does where other bytes are kept
+held_kept : (t : TalkState) (a b : List ℕ) (side : Side) → held_on side (record t { client_kept = a; server_kept = b }) ≡ held_on side t
+held_kept t a b Client = refl
+held_kept t a b Server = refl
+
+pub refuses_with : (t : TalkState) (a b : List ℕ) (h r : History) (M : List Message) (f : Fault) (x : Refuses t h M f) → ((b ≡ [] → ⊥) → IsNewest x.is.conversation t.answered) → Refuses (record t { client_kept = a; server_kept = b }) (h ++ r) M f
 unfolding fault_more
-refuses_more t h r M f x = record {
+refuses_with t a b h r M f x newest = record {
   kept = x.kept;
   is = fault_more t.limits h r f x.is;
   order = x.order;
   queues = x.queues;
   server_frames = x.server_frames;
-  newest = x.newest;
+  newest = newest;
   load = x.load;
-  held = x.held;
+  held = λ items. held_kept t a b f.side ∙ x.held items;
 }
+
+pub refuses_more : (t : TalkState) (h r : History) (M : List Message) (f : Fault) → Refuses t h M f → Refuses t (h ++ r) M f
+refuses_more t h r M f x = refuses_with t t.client_kept t.server_kept h r M f x x.newest
 
 pub refused : (t : TalkState) (h r : History) (M : List Message) (f : Fault) → Refuses t h M f → IsEnding t.limits (h ++ r) (Refused f) × AreMessages t.limits (h ++ r) M (Refused f)
 unfolding fault_more

@@ -58,34 +58,38 @@ pub front_some : {X : Type 0} (xs : List X) (x : X) → slice_get xs 0 ≡ Some 
 front_some [] x e = absurd (cc)
 front_some (y ∷ xs) x e = (xs, ap (λ z. z ∷ xs) (cc))
 
+-- what is so of a lane with one request more or less, by whether the request is of the lane
+module _ (P : List Request → Type 0) (k l : Lane) (w x : Lanes) where
+  pub with_put : (r : Request) → IsPut l r w x → (same_lane k l ≡ true → P (queue_on k w ++ r ∷ [])) → (same_lane k l ≡ false → P (queue_on k w)) → P (queue_on k x)
+  with_put r e own other = go (same_lane k l) refl
+    where
+      go : (b : Bool) → same_lane k l ≡ b → P (queue_on k x)
+      go true q = subst P (sym (put_on l k r w x e ∙ ap (λ z. cond z (queue_on k w ++ r ∷ []) (queue_on k w)) q)) (own q)
+      go false q = subst P (sym (put_on l k r w x e ∙ ap (λ z. cond z (queue_on k w ++ r ∷ []) (queue_on k w)) q)) (other q)
+
+  pub with_drop : (r : Request) → slice_get (queue_on l w) 0 ≡ Some r → IsDropped l w x → (same_lane k l ≡ true → (rest : List Request) → queue_on k w ≡ r ∷ rest → P rest) → (same_lane k l ≡ false → P (queue_on k w)) → P (queue_on k x)
+  with_drop r some e own other = go (same_lane k l) refl
+    where
+      go : (b : Bool) → same_lane k l ≡ b → P (queue_on k x)
+      go true q =
+          let first = front_some (queue_on l w) r some in
+          let queue : queue_on k w ≡ r ∷ first.0 = ap (λ z. queue_on z w) (lanes_same k l q) ∙ first.1 in
+          subst P (sym (drop_on l k w x e ∙ ap (λ z. cond z (drop 1 (queue_on k w)) (queue_on k w)) q ∙ ap (drop 1) queue)) (own q first.0 queue)
+      go false q = subst P (sym (drop_on l k w x e ∙ ap (λ z. cond z (drop 1 (queue_on k w)) (queue_on k w)) q)) (other q)
+
 module _ (n m : ℕ) (w x : Lanes) (v : Conversation) (d : Describes n m w v) where
   pub remembered : (number : ℕ) (f : ClientFrame) → IsNumbered number f w x → (k : Lane) → IsQueue k (with_client v f) (queue_on k x)
   remembered number (Connect t g) e k = subst (λ z. IsQueue k (with_client v (Connect t g)) (queue_on k z)) (sym e) (queue_skip k v (queue_on k w) (Connect t g) refl (d.queues k))
-  remembered number (Ask xid ask) e k = go (same_lane k (lane_of xid)) refl
-    where
-      f : ClientFrame
-      f = Ask xid ask
-
-      r : Request
-      r = record { xid = xid; op = op_of_ask ask; parts = ops_of_ask ask; frame = number }
-
-      go : (b : Bool) → same_lane k (lane_of xid) ≡ b → IsQueue k (with_client v f) (queue_on k x)
-      go true q = subst (IsQueue k (with_client v f)) (sym (put_on (lane_of xid) k r w x e.1 ∙ ap (λ z. cond z (queue_on k w ++ r ∷ []) (queue_on k w)) q)) (queue_ask k v (queue_on k w) r f d.may q refl (d.queues k))
-      go false q = subst (IsQueue k (with_client v f)) (sym (put_on (lane_of xid) k r w x e.1 ∙ ap (λ z. cond z (queue_on k w ++ r ∷ []) (queue_on k w)) q)) (queue_skip k v (queue_on k w) f q (d.queues k))
+  remembered number (Ask xid ask) e k =
+      let f = Ask xid ask in
+      let r : Request = record { xid = xid; op = op_of_ask ask; parts = ops_of_ask ask; frame = number } in
+      with_put (IsQueue k (with_client v f)) k (lane_of xid) w x r e.1 (λ q. queue_ask k v (queue_on k w) r f d.may q refl (d.queues k)) (λ q. queue_skip k v (queue_on k w) f q (d.queues k))
 
   pub forgotten : (s : ServerFrame) → HasAsk s w → IsForgotten s w x → (k : Lane) → IsQueue k (with_server v s) (queue_on k x)
   forgotten (Connected t g) a e k = subst (λ z. IsQueue k (with_server v (Connected t g)) (queue_on k z)) (sym e) (queue_keep k v (queue_on k w) (Connected t g) refl (d.queues k))
   forgotten (Event z y) a e k = subst (λ u. IsQueue k (with_server v (Event z y)) (queue_on k u)) (sym e) (queue_keep k v (queue_on k w) (Event z y) refl (d.queues k))
-  forgotten (Answered r) a e k = go (same_lane k (lane_of r.xid)) refl
-    where
-      go : (b : Bool) → same_lane k (lane_of r.xid) ≡ b → IsQueue k (with_server v (Answered r)) (queue_on k x)
-      go true q =
-          let same = lanes_same k (lane_of r.xid) q in
-          let first = front_some (queue_on (lane_of r.xid) w) a.0 a.1 in
-          let queue : queue_on k w ≡ a.0 ∷ first.0 = ap (λ l. queue_on l w) same ∙ first.1 in
-          let left : queue_on k x ≡ first.0 = drop_on (lane_of r.xid) k w x e ∙ ap (λ z. cond z (drop 1 (queue_on k w)) (queue_on k w)) q ∙ ap (drop 1) queue in
-          subst (IsQueue k (with_server v (Answered r))) (sym left) (queue_pop k v a.0 first.0 (Answered r) q (subst (IsQueue k v) queue (d.queues k)))
-      go false q = subst (IsQueue k (with_server v (Answered r))) (sym (drop_on (lane_of r.xid) k w x e ∙ ap (λ z. cond z (drop 1 (queue_on k w)) (queue_on k w)) q)) (queue_keep k v (queue_on k w) (Answered r) q (d.queues k))
+  forgotten (Answered r) a e k =
+      with_drop (IsQueue k (with_server v (Answered r))) k (lane_of r.xid) w x a.0 a.1 e (λ q rest is. queue_pop k v a.0 rest (Answered r) q (subst (IsQueue k v) is (d.queues k))) (λ q. queue_keep k v (queue_on k w) (Answered r) q (d.queues k))
 
 -- there are lanes with one request more, and with one less
 put_there : (lane : Lane) (r : Request) (w : Lanes) → (x : Lanes) × IsPut lane r w x

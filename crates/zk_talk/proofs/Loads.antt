@@ -33,18 +33,7 @@ lanes_same Ping Ping e = refl
 lanes_same Auth Auth e = refl
 lanes_same Watches Watches e = refl
 lanes_same Plain Plain e = refl
-lanes_same Ping Auth e = absurd (cc)
-lanes_same Ping Watches e = absurd (cc)
-lanes_same Ping Plain e = absurd (cc)
-lanes_same Auth Ping e = absurd (cc)
-lanes_same Auth Watches e = absurd (cc)
-lanes_same Auth Plain e = absurd (cc)
-lanes_same Watches Ping e = absurd (cc)
-lanes_same Watches Auth e = absurd (cc)
-lanes_same Watches Plain e = absurd (cc)
-lanes_same Plain Ping e = absurd (cc)
-lanes_same Plain Auth e = absurd (cc)
-lanes_same Plain Watches e = absurd (cc)
+lanes_same _ _ e = absurd (cc)
 
 -- a lane has no more replies than asks
 pub replies_in_asks : (v : Conversation) (lane : Lane) → EachAfter (ServerMay v.client) v.server → replies_on lane v.server ≤ asks_on lane v.client

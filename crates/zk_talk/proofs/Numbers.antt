@@ -11,7 +11,7 @@ use Rattle.zk_answers.specs.Held.{Reply, ServerFrame}
 use Rattle.zk_answers.specs.declared.frame.ServerFrameOf.TheVariants.{Connected, Answered, Event}
 use Rattle.zk_answers.specs.Frames.{IsEvent}
 use Rattle.zk_waiting.specs.declared.lane.Lane.{Lane}
-use Rattle.zk_waiting.specs.Lane.{lane_of, same_lane}
+use Rattle.zk_waiting.specs.Lane.{lane_of}
 use Rattle.zk_waiting.specs.Waiting.{Request, Lanes, queue_on}
 use Rattle.zk_talk.specs.declared.replied.Replied.{Replied}
 use Rattle.zk_talk.specs.Splits.{EachAfter}
@@ -19,8 +19,8 @@ use Rattle.zk_talk.specs.Conversation.{Conversation, ServerMay, IsConversation, 
 use Rattle.zk_talk.specs.Numbers.{numbers_from, HaveNumbers, AreNumbered, AnswersFrame, IsNewest}
 use Rattle.zk_talk.specs.Judged.{IsNumbered, HasAsk, IsForgotten, TellsReplied}
 use Rattle.zk_talk.proofs.Turns.{count_cons, same_lane-itself}
-use Rattle.zk_talk.proofs.Loads.{lanes_same, replies_in_asks}
-use Rattle.zk_talk.proofs.Lanes.{put_on, drop_on, front_some}
+use Rattle.zk_talk.proofs.Loads.{replies_in_asks}
+use Rattle.zk_talk.proofs.Lanes.{with_put, with_drop, front_some}
 use Rattle.zk_talk.proofs.Queues.{filter-skip, filter-keep}
 
 -- ---- the numbers of a lane's asks
@@ -111,31 +111,16 @@ have_pop lane v x queue s on h =
 module _ (v : Conversation) (w x : Lanes) (are : AreNumbered v w) where
   pub numbers_after_client : (f : ClientFrame) (number : ℕ) → EachAfter (ServerMay v.client) v.server → number ≡ length v.client → IsNumbered number f w x → AreNumbered (with_client v f) x
   numbers_after_client (Connect t g) number each is e k = subst (λ z. HaveNumbers k (with_client v (Connect t g)) (queue_on k z)) (sym e) (have_skip k v (queue_on k w) (Connect t g) refl (are k))
-  numbers_after_client (Ask xid ask) number each is e k = go (same_lane k (lane_of xid)) refl
-    where
-      f : ClientFrame
-      f = Ask xid ask
-
-      r : Request
-      r = record { xid = xid; op = op_of_ask ask; parts = ops_of_ask ask; frame = number }
-
-      go : (b : Bool) → same_lane k (lane_of xid) ≡ b → HaveNumbers k (with_client v f) (queue_on k x)
-      go true q = subst (HaveNumbers k (with_client v f)) (sym (put_on (lane_of xid) k r w x e.1 ∙ ap (λ z. cond z (queue_on k w ++ r ∷ []) (queue_on k w)) q)) (have_ask k v (queue_on k w) r f each q is (are k))
-      go false q = subst (HaveNumbers k (with_client v f)) (sym (put_on (lane_of xid) k r w x e.1 ∙ ap (λ z. cond z (queue_on k w ++ r ∷ []) (queue_on k w)) q)) (have_skip k v (queue_on k w) f q (are k))
+  numbers_after_client (Ask xid ask) number each is e k =
+      let f = Ask xid ask in
+      let r : Request = record { xid = xid; op = op_of_ask ask; parts = ops_of_ask ask; frame = number } in
+      with_put (HaveNumbers k (with_client v f)) k (lane_of xid) w x r e.1 (λ q. have_ask k v (queue_on k w) r f each q is (are k)) (λ q. have_skip k v (queue_on k w) f q (are k))
 
   pub numbers_after_server : (s : ServerFrame) → HasAsk s w → IsForgotten s w x → AreNumbered (with_server v s) x
   numbers_after_server (Connected t g) a e k = subst (λ z. HaveNumbers k (with_server v (Connected t g)) (queue_on k z)) (sym e) (have_keep k v (queue_on k w) (Connected t g) refl (are k))
   numbers_after_server (Event z y) a e k = subst (λ u. HaveNumbers k (with_server v (Event z y)) (queue_on k u)) (sym e) (have_keep k v (queue_on k w) (Event z y) refl (are k))
-  numbers_after_server (Answered r) a e k = go (same_lane k (lane_of r.xid)) refl
-    where
-      go : (b : Bool) → same_lane k (lane_of r.xid) ≡ b → HaveNumbers k (with_server v (Answered r)) (queue_on k x)
-      go true q =
-          let same = lanes_same k (lane_of r.xid) q in
-          let first = front_some (queue_on (lane_of r.xid) w) a.0 a.1 in
-          let queue : queue_on k w ≡ a.0 ∷ first.0 = ap (λ l. queue_on l w) same ∙ first.1 in
-          let left : queue_on k x ≡ first.0 = drop_on (lane_of r.xid) k w x e ∙ ap (λ z. cond z (drop 1 (queue_on k w)) (queue_on k w)) q ∙ ap (drop 1) queue in
-          subst (HaveNumbers k (with_server v (Answered r))) (sym left) (have_pop k v a.0 first.0 (Answered r) q (subst (HaveNumbers k v) queue (are k)))
-      go false q = subst (HaveNumbers k (with_server v (Answered r))) (sym (drop_on (lane_of r.xid) k w x e ∙ ap (λ z. cond z (drop 1 (queue_on k w)) (queue_on k w)) q)) (have_keep k v (queue_on k w) (Answered r) q (are k))
+  numbers_after_server (Answered r) a e k =
+      with_drop (HaveNumbers k (with_server v (Answered r))) k (lane_of r.xid) w x a.0 a.1 e (λ q rest queue. have_pop k v a.0 rest (Answered r) q (subst (HaveNumbers k v) queue (are k))) (λ q. have_keep k v (queue_on k w) (Answered r) q (are k))
 
 -- ---- the newest
 

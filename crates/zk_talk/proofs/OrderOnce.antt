@@ -1,5 +1,5 @@
 -- The messages of a history stand in one order.
-use Rattle.std.proofs.Common.{◌≡◌, ℕ, ◌+◌, List, [], ◌∷◌, ◌++◌, length, refl, sym, ap, ◌∙◌, subst, arith, append_assoc, length-append}
+use Rattle.std.proofs.Common.{◌≡◌, ℕ, ◌+◌, ◌<◌, ◌^◌, ◌⊎◌, inl, inr, map, List, [], ◌∷◌, ◌++◌, length, refl, sym, ap, ◌∙◌, subst, arith, append_assoc, length-append}
 use Rattle.std.proofs.lemmas.List.{append-nil, length-map, length_push, nil_from_length}
 use Rattle.zk_asks.specs.Held.{ClientFrame}
 use Rattle.zk_answers.specs.Held.{ServerFrame}
@@ -55,38 +55,33 @@ data Grows (limits : Limits) (g : History) (x : Side × ℕ) (C : List ClientFra
   no_more : length C ≡ length C₀ → length S ≡ length S₀ → Grows limits g x C S C₀ S₀
   one_more : length C + length S ≡ length C₀ + length S₀ + 1 → Grows limits g x C S C₀ S₀
 
+-- one cut has one number of frames, and with a byte more as many, or one more
+module _ {F : Type 0} (payload : F → List ℕ) (limit : ℕ) (small : limit < 2 ^ 31) (bytes : List ℕ) (A : List F) (rest : List ℕ) (cut : IsCut limit bytes (map payload A) rest) where
+  same_number : (B : List F) (r : List ℕ) → IsCut limit bytes (map payload B) r → length B ≡ length A
+  same_number B r c = sym (length-map B payload) ∙ ap length (same_cut limit _ _ _ _ _ small c cut).0 ∙ length-map A payload
+
+  number_more : (b : ℕ) (B : List F) (r : List ℕ) → IsCut limit (bytes ++ b ∷ []) (map payload B) r → (length B ≡ length A) ⊎ (length B ≡ length A + 1)
+  number_more b B r c = go (cut_front limit bytes b (map payload B) r c)
+    where
+      go : Shorter limit bytes b (map payload B) r → (length B ≡ length A) ⊎ (length B ≡ length A + 1)
+      go (within_frame r' e c') = inl (same_number B r' c')
+      go (frame_end Q q r' e n l is c') =
+          inr (omega (arith, length-map B payload, ap length e, length_push Q q, ap length (same_cut limit _ _ _ _ _ small c' cut).0, length-map A payload))
+
 grows : (limits : Limits) → AreSmall limits → (g : History) (side : Side) (b : ℕ) (C : List ClientFrame) (S : List ServerFrame) (C₀ : List ClientFrame) (S₀ : List ServerFrame) →
     AreWholeIn limits (g ++ (side, b) ∷ []) C S → AreWholeIn limits g C₀ S₀ → Grows limits g (side, b) C S C₀ S₀
 grows limits small g Client b C S C₀ S₀ w w₀ =
-    go (cut_front limits.client (side_bytes Client g) b (client_payloads C) w.0 (subst (λ z. IsCut limits.client z (client_payloads C) w.0) (side_bytes-same Client g b) w.2.client_cut))
-  where
-    servers_same : length S ≡ length S₀
-    servers_same =
-        let p = same_cut limits.server _ _ _ _ _ small.1 (subst (λ z. IsCut limits.server z (server_payloads S) w.1) (other-bytes Client g b) w.2.server_cut) w₀.2.server_cut in
-        sym (length-map S server_payload) ∙ ap length p.0 ∙ length-map S₀ server_payload
-
-    go : Shorter limits.client (side_bytes Client g) b (client_payloads C) w.0 → Grows limits g (Client, b) C S C₀ S₀
-    go (within_frame c' e cut) =
-        let p = same_cut limits.client _ _ _ _ _ small.0 cut w₀.2.client_cut in
-        no_more (sym (length-map C client_payload) ∙ ap length p.0 ∙ length-map C₀ client_payload) servers_same
-    go (frame_end Q q c' e n l e2 cut) =
-        let p = same_cut limits.client _ _ _ _ _ small.0 cut w₀.2.client_cut in
-        one_more (omega (arith, servers_same, length-map C client_payload, ap length e, length_push Q q, ap length p.0, length-map C₀ client_payload))
+    let others = same_number server_payload limits.server small.1 (side_bytes Server g) S₀ w₀.1 w₀.2.server_cut S w.1 (subst (λ z. IsCut limits.server z (server_payloads S) w.1) (other-bytes Client g b) w.2.server_cut) in
+    elim (number_more client_payload limits.client small.0 (side_bytes Client g) C₀ w₀.0 w₀.2.client_cut b C w.0 (subst (λ z. IsCut limits.client z (client_payloads C) w.0) (side_bytes-same Client g b) w.2.client_cut)) [
+      | inl e ↦ no_more e others
+      | inr e ↦ one_more (omega (arith, e, others))
+    ]
 grows limits small g Server b C S C₀ S₀ w w₀ =
-    go (cut_front limits.server (side_bytes Server g) b (server_payloads S) w.1 (subst (λ z. IsCut limits.server z (server_payloads S) w.1) (side_bytes-same Server g b) w.2.server_cut))
-  where
-    clients_same : length C ≡ length C₀
-    clients_same =
-        let p = same_cut limits.client _ _ _ _ _ small.0 (subst (λ z. IsCut limits.client z (client_payloads C) w.0) (other-bytes Server g b) w.2.client_cut) w₀.2.client_cut in
-        sym (length-map C client_payload) ∙ ap length p.0 ∙ length-map C₀ client_payload
-
-    go : Shorter limits.server (side_bytes Server g) b (server_payloads S) w.1 → Grows limits g (Server, b) C S C₀ S₀
-    go (within_frame c' e cut) =
-        let p = same_cut limits.server _ _ _ _ _ small.1 cut w₀.2.server_cut in
-        no_more clients_same (sym (length-map S server_payload) ∙ ap length p.0 ∙ length-map S₀ server_payload)
-    go (frame_end Q q c' e n l e2 cut) =
-        let p = same_cut limits.server _ _ _ _ _ small.1 cut w₀.2.server_cut in
-        one_more (omega (arith, clients_same, length-map S server_payload, ap length e, length_push Q q, ap length p.0, length-map S₀ server_payload))
+    let others = same_number client_payload limits.client small.0 (side_bytes Client g) C₀ w₀.0 w₀.2.client_cut C w.0 (subst (λ z. IsCut limits.client z (client_payloads C) w.0) (other-bytes Server g b) w.2.client_cut) in
+    elim (number_more server_payload limits.server small.1 (side_bytes Server g) S₀ w₀.1 w₀.2.server_cut b S w.1 (subst (λ z. IsCut limits.server z (server_payloads S) w.1) (side_bytes-same Server g b) w.2.server_cut)) [
+      | inl e ↦ no_more others e
+      | inr e ↦ one_more (omega (arith, e, others))
+    ]
 
 -- in each front the messages come first whose frames are whole in it
 abbrev pub ComeFirst : Limits → History → List Message → Type 0

@@ -12,13 +12,13 @@ use Rattle.zk_asks.specs.Forms.{header_items}
 use Rattle.zk_asks.specs.Parts.{op_of_part}
 use Rattle.zk_asks.specs.Rows.{body_items, op_of_ask}
 use Rattle.zk_asks.specs.Frames.{parts_of_ask}
-use Rattle.zk_asks.proofs.First.{first_unique, first_excludes, first_injective}
-use Rattle.zk_asks.proofs.Later.{ask_unique, ask_excludes, ask_injective}
+use Rattle.zk_asks.proofs.First.{first_excludes}
+use Rattle.zk_asks.proofs.Later.{ask_excludes}
 use Rattle.zk_answers.specs.Frames.{header_of, rest_items, event_header}
-use Rattle.zk_answers.proofs.Connected.{connected_unique, connected_excludes, connected_injective}
+use Rattle.zk_answers.proofs.Connected.{connected_excludes}
 use Rattle.zk_answers.proofs.Heads.{head_unique, head_excludes}
-use Rattle.zk_answers.proofs.Replies.{reply_unique, reply_excludes, reply_injective, reply_heads}
-use Rattle.zk_answers.proofs.Events.{event_unique, event_excludes, event_injective, event_head}
+use Rattle.zk_answers.proofs.Replies.{reply_excludes, reply_heads}
+use Rattle.zk_answers.proofs.Events.{event_excludes, event_head}
 use Rattle.zk_jute.specs.declared.fault.Reason.{Reason}
 use Rattle.zk_records.specs.declared.header.ReplyHeader.{ReplyHeader}
 use Rattle.zk_records.specs.declared.op.Op.{Op}
@@ -50,29 +50,30 @@ pub server_is : (s : ServerFrame) (p : List ℕ) → p ≡ answers.payload s →
 unfolding server_payload
 server_is s p e = sym e
 
+-- what the payload crates say of a payload is so of a side's
+pub asks_are : (f : ClientFrame) (p : List ℕ) → client_payload f ≡ p → asks.payload f ≡ p
+unfolding client_payload
+asks_are f p e = e
+
+pub answers_are : (s : ServerFrame) (p : List ℕ) → server_payload s ≡ p → answers.payload s ≡ p
+unfolding server_payload
+answers_are s p e = e
+
+pub asks_alike : (f g : ClientFrame) → client_payload f ≡ client_payload g → asks.payload f ≡ asks.payload g
+unfolding client_payload
+asks_alike f g e = e
+
+pub answers_alike : (s t : ServerFrame) → server_payload s ≡ server_payload t → answers.payload s ≡ answers.payload t
+unfolding server_payload
+answers_alike s t e = e
+
 -- ---- the client's first frame, and the others
 
-pub first_inj : (f g : ClientFrame) → IsFirst f → IsFirst g → asks.IsSent f → asks.IsSent g → client_payload f ≡ client_payload g → f ≡ g
-unfolding client_payload
-first_inj f g a b c d e = first_injective f g a b c d e
-
 pub first_excluded : (p : List ℕ) (place : ℕ) (reason : Reason) → IsFirstFault p place reason → (f : ClientFrame) → IsFirst f → asks.IsSent f → client_payload f ≡ p → ⊥
-unfolding client_payload
-first_excluded p place reason fault f a c e = first_excludes f place reason a c (subst (λ z. IsFirstFault z place reason) (sym e) fault)
-
-pub first_once : (p : List ℕ) (m n : ℕ) (r s : Reason) → IsFirstFault p m r → IsFirstFault p n s → Same m n r s
-first_once p m n r s a b = first_unique p m n r s a b
-
-pub ask_inj : (f g : ClientFrame) → IsLater f → IsLater g → asks.IsSent f → asks.IsSent g → client_payload f ≡ client_payload g → f ≡ g
-unfolding client_payload
-ask_inj f g a b c d e = ask_injective f g a b c d e
+first_excluded p place reason fault f a c e = first_excludes f place reason a c (subst (λ z. IsFirstFault z place reason) (sym (asks_are f p e)) fault)
 
 pub ask_excluded : (profile : Profile) (p : List ℕ) (place : ℕ) (reason : Reason) → IsAskFault profile p place reason → (f : ClientFrame) → IsLater f → asks.IsSent f → IsOfProfile profile f → client_payload f ≡ p → ⊥
-unfolding client_payload
-ask_excluded profile p place reason fault f a c o e = ask_excludes profile f place reason a o c (subst (λ z. IsAskFault profile z place reason) (sym e) fault)
-
-pub ask_once : (profile : Profile) (p : List ℕ) (m n : ℕ) (r s : Reason) → IsAskFault profile p m r → IsAskFault profile p n s → Same m n r s
-ask_once profile p m n r s a b = ask_unique profile p m n r s a b
+ask_excluded profile p place reason fault f a c o e = ask_excludes profile f place reason a o c (subst (λ z. IsAskFault profile z place reason) (sym (asks_are f p e)) fault)
 
 pub few_parts : (xid : ℤ) (ask : Asked) → length (ops_of_ask ask) ≤ length (client_payload (Ask xid ask))
 unfolding client_payload
@@ -86,16 +87,8 @@ few_parts xid ask =
 
 -- ---- the server's first frame
 
-pub connected_inj : (s t : ServerFrame) → IsConnected s → IsConnected t → answers.IsSent s → answers.IsSent t → server_payload s ≡ server_payload t → s ≡ t
-unfolding server_payload
-connected_inj s t a b c d e = connected_injective s t a b c d e
-
 pub connected_excluded : (p : List ℕ) (place : ℕ) (reason : Reason) → IsConnectedFault p place reason → (s : ServerFrame) → IsConnected s → answers.IsSent s → server_payload s ≡ p → ⊥
-unfolding server_payload
-connected_excluded p place reason fault s a c e = connected_excludes s place reason a c (subst (λ z. IsConnectedFault z place reason) (sym e) fault)
-
-pub connected_once : (p : List ℕ) (m n : ℕ) (r s : Reason) → IsConnectedFault p m r → IsConnectedFault p n s → Same m n r s
-connected_once p m n r s a b = connected_unique p m n r s a b
+connected_excluded p place reason fault s a c e = connected_excludes s place reason a c (subst (λ z. IsConnectedFault z place reason) (sym (answers_are s p e)) fault)
 
 -- ---- headers
 
@@ -117,16 +110,8 @@ same_head p a b r s x y = (head_unique p a b r s x y).0
 
 -- ---- replies
 
-pub reply_inj : (op : Op) (parts : List PartOp) (r q : Reply) → Fits op parts r → Fits op parts q → answers.IsSent (Answered r) → answers.IsSent (Answered q) → server_payload (Answered r) ≡ server_payload (Answered q) → ◌≡◌ {A = ServerFrame} (Answered r) (Answered q)
-unfolding server_payload
-reply_inj op parts r q a b c d e = reply_injective op parts (Answered r) (Answered q) a b c d e
-
 pub reply_excluded : (op : Op) (parts : List PartOp) (p : List ℕ) (place : ℕ) (reason : Reason) → IsReplyFault op parts p place reason → (r : Reply) → Fits op parts r → answers.IsSent (Answered r) → server_payload (Answered r) ≡ p → ⊥
-unfolding server_payload
-reply_excluded op parts p place reason fault r a c e = reply_excludes op parts (Answered r) place reason a c (subst (λ z. IsReplyFault op parts z place reason) (sym e) fault)
-
-pub reply_once : (op : Op) (parts : List PartOp) (p : List ℕ) (m n : ℕ) (r s : Reason) → IsReplyFault op parts p m r → IsReplyFault op parts p n s → Same m n r s
-reply_once op parts p m n r s a b = reply_unique op parts p m n r s a b
+reply_excluded op parts p place reason fault r a c e = reply_excludes op parts (Answered r) place reason a c (subst (λ z. IsReplyFault op parts z place reason) (sym (answers_are (Answered r) p e)) fault)
 
 pub reply_head_is : (p : List ℕ) (r : Reply) → answers.IsSent (Answered r) → server_payload (Answered r) ≡ p → HasHead p r.xid
 unfolding server_payload
@@ -137,16 +122,8 @@ reply_no_event r c = c.0
 
 -- ---- events
 
-pub event_inj : (s t : ServerFrame) → IsEvent s → IsEvent t → answers.IsSent s → answers.IsSent t → server_payload s ≡ server_payload t → s ≡ t
-unfolding server_payload
-event_inj s t a b c d e = event_injective s t a b c d e
-
 pub event_excluded : (p : List ℕ) (place : ℕ) (reason : Reason) → IsEventFault p place reason → (s : ServerFrame) → IsEvent s → answers.IsSent s → server_payload s ≡ p → ⊥
-unfolding server_payload
-event_excluded p place reason fault s a c e = event_excludes s place reason a c (subst (λ z. IsEventFault z place reason) (sym e) fault)
-
-pub event_once : (p : List ℕ) (m n : ℕ) (r s : Reason) → IsEventFault p m r → IsEventFault p n s → Same m n r s
-event_once p m n r s a b = event_unique p m n r s a b
+event_excluded p place reason fault s a c e = event_excludes s place reason a c (subst (λ z. IsEventFault z place reason) (sym (answers_are s p e)) fault)
 
 pub event_head_is : (p : List ℕ) (s : ServerFrame) → IsEvent s → answers.IsSent s → server_payload s ≡ p → HasHead p event_xid
 unfolding server_payload

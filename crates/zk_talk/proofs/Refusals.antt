@@ -27,7 +27,8 @@ use Rattle.zk_asks.specs.Frames as asks
 use Rattle.zk_answers.specs.Frames.{IsConnected, IsEvent, Fits}
 use Rattle.zk_answers.specs.Frames as answers
 use Rattle.zk_answers.specs.Faults.{IsHead}
-use Rattle.zk_talk.proofs.Payloads.{HasHead, first_excluded, connected_excluded, ask_excluded, ask_inj, head_excluded, reply_excluded, event_excluded, same_head, reply_head_is, reply_no_event, event_head_is}
+use Rattle.zk_asks.proofs.Later.{ask_injective}
+use Rattle.zk_talk.proofs.Payloads.{HasHead, first_excluded, connected_excluded, ask_excluded, asks_alike, head_excluded, reply_excluded, event_excluded, same_head, reply_head_is, reply_no_event, event_head_is}
 use Rattle.zk_waiting.specs.Lane.{same_lane}
 use Rattle.zk_talk.specs.Conversation.{is_ask_on}
 use Rattle.zk_talk.specs.Fault.{IsNext, IsClientFault, IsServerFault, IsPayloadFault, side_limit, rest_on}
@@ -73,7 +74,7 @@ client_alone limits v p place reason each (ask_fault n bad) f may e fits =
     ask_excluded limits.profile p place reason bad f t.0 t.1 t.2 e
 client_alone limits v p place reason each (queue_full n g later sent of pay over x y) f may e fits =
     let t = may_later limits.profile v.client f n may in
-    let same = ask_inj g f later t.0 sent t.1 (pay ∙ sym e) in
+    let same = ask_injective g f later t.0 sent t.1 (asks_alike g f (pay ∙ sym e)) in
     omega (arith, over, fits, ap (λ z. load (v.client ++ z ∷ []) v.server) same, load_ask v g each)
 
 -- two headers of one payload have one xid

@@ -1,17 +1,18 @@
 -- The body in which the fault lies, of a talk that keeps it.
-use Rattle.std.proofs.Common.{◌≡◌, ℕ, List, length, refl, sym, subst, ◌∙◌, Option, Some, None, Bor, MatchOption}
+use Rattle.std.proofs.Common.{◌≡◌, ℕ, List, length, refl, sym, ap, subst, ◌∙◌, Option, Some, None, Bor, MatchOption}
 use Rattle.zk_answers.specs.declared.layout.Layout.{Layout}
 use Rattle.zk_frames.specs.Framing.{frame}
 use Rattle.zk_talk.specs.declared.message.Fault.{Fault}
+use Rattle.zk_talk.specs.declared.message.Side.{Side}
 use Rattle.zk_talk.specs.Held.{Message}
 use Rattle.zk_talk.specs.History.{History}
 use Rattle.zk_talk.specs.Conversation.{Conversation}
 use Rattle.zk_talk.specs.Describes.{Describes}
-use Rattle.zk_talk.specs.Refused.{HasBody, IsInBody, IsRefusedBody}
+use Rattle.zk_talk.specs.Refused.{HasBody, IsInBody, IsRefusedBody, TellsRefusedBody}
 use Rattle.zk_talk.specs.Stands.{TalkState, Refuses, held_on}
 use Rattle.zk_talk.proofs.Bodies.{frame_once}
 
-pub some_same : {X : Type 0} (o : Option X) (x y : X) → o ≡ Some x → o ≡ Some y → x ≡ y
+some_same : {X : Type 0} (o : Option X) (x y : X) → o ≡ Some x → o ≡ Some y → x ≡ y
 some_same o x y a b = cc
 
 module _ (t : TalkState) (h : History) (M : List Message) (f : Fault) (r : Refuses t h M f) where
@@ -36,3 +37,12 @@ module _ (t : TalkState) (h : History) (M : List Message) (f : Fault) (r : Refus
         MatchOption o ((layout : Layout) (body : List ℕ) → IsRefusedBody t.limits h f r.is layout body → ⊥) (λ b. IsRefusedBody t.limits h f r.is b.0 b.1.now)
     body_either None inside x = body_none x
     body_either (Some b) inside x = body_some inside b.0 b.1.now x
+
+  -- the same, by the fault that the talk keeps
+  pub body_there : (g : Fault) → t.fault ≡ Some g → (side : Side) → g.side ≡ side → IsInBody g → (p : List ℕ) → held_on side t ≡ frame p → (o : Option (Layout × Bor (List ℕ))) →
+      MatchOption o ((layout : Layout) (body : List ℕ) → HasBody now p side layout body → ⊥) (λ b. HasBody now p side b.0 b.1.now) → TellsRefusedBody t.limits h f r.is o
+  body_there g kept side at inside p is o found =
+      let same : f ≡ g = some_same t.fault f g r.kept kept in
+      let side' : f.side ≡ side = ap (λ (z : Fault). z.side) same ∙ at in
+      body_either p (ap (λ z. held_on z t) side' ∙ is) o (subst IsInBody (sym same) inside)
+      (subst (λ z. MatchOption o ((layout : Layout) (body : List ℕ) → HasBody now p z layout body → ⊥) (λ b. HasBody now p z b.0 b.1.now)) (sym side') found)

@@ -35,33 +35,30 @@ record Replay (limits : Limits) (g : History) : Type 0 where
   are : AreSaid limits messages
 
 -- ---- One byte more
+-- what one byte more makes of a side's beginning
+one_rest : (limit : ℕ) → limit < 2 ^ 31 → {bytes : List ℕ} {P Q : List (List ℕ)} (old now : List ℕ) → IsCut limit bytes P now → IsCut limit bytes Q old → (b : ℕ) → now ++ b ∷ [] ≡ old ++ b ∷ []
+one_rest limit small old now cut before b = ap (λ z. z ++ b ∷ []) (same_cut limit _ _ _ _ _ small cut before).1
+
 module _ (limits : Limits) (g : History) (b : ℕ) (r : Replay limits g) where
   abbrev v : Conversation
   v = conversation_of r.messages
 
+  room : (side : Side) → IsGood limits (g ++ (side, b) ∷ []) → length (side_bytes side g) + 1 < 2 ^ 62
+  room Client n = omega (arith, n.3.client_size, ap length (side_bytes-same Client g b), length_push (side_bytes Client g) b)
+  room Server n = omega (arith, n.3.server_size, ap length (side_bytes-same Server g b), length_push (side_bytes Server g) b)
+
   more_client : (n : IsGood limits (g ++ (Client, b) ∷ [])) → Shorter limits.client (side_bytes Client g) b (client_payloads n.0.client) n.1 → Replay limits (g ++ (Client, b) ∷ [])
   more_client n (within_frame c e cut) =
-      let small = small_limits limits in
-      let rests = (same_cut limits.client _ _ _ _ _ small.0 cut r.runs.good.whole.client_cut).1 in
-      let begin = subst (IsBeginning limits.client) (e ∙ ap (λ z. z ++ b ∷ []) rests) n.3.whole.client_cut.beginning in
-      let size : length (side_bytes Client g) + 1 < 2 ^ 62 = omega (arith, n.3.client_size, ap length (side_bytes-same Client g b), length_push (side_bytes Client g) b) in
-      let next = good_more_client limits small g b v r.client_rest r.server_rest r.runs.good begin size in
-      record {
-        messages = r.messages;
-        client_rest = r.client_rest ++ b ∷ [];
-        server_rest = r.server_rest;
-        runs = record { good = next; order = order_same limits g (Client, b) v (r.client_rest ++ b ∷ []) r.server_rest r.messages r.runs.order next.whole };
-        are = r.are;
-      }
+      let begin = subst (IsBeginning limits.client) (e ∙ one_rest limits.client (small_limits limits).0 r.client_rest c cut r.runs.good.whole.client_cut b) n.3.whole.client_cut.beginning in
+      let next = good_more_client limits (small_limits limits) g b v r.client_rest r.server_rest r.runs.good begin (room Client n) in
+      let order = order_same limits g (Client, b) v (r.client_rest ++ b ∷ []) r.server_rest r.messages r.runs.order next.whole in
+      record { messages = r.messages; client_rest = r.client_rest ++ b ∷ []; server_rest = r.server_rest; runs = record { good = next; order = order }; are = r.are }
   more_client n (frame_end Q p c e none l is cut) =
-      let small = small_limits limits in
       let M = r.messages in
-      let rests = (same_cut limits.client _ _ _ _ _ small.0 cut r.runs.good.whole.client_cut).1 in
-      let whole : r.client_rest ++ b ∷ [] ≡ frame p = ap (λ z. z ++ b ∷ []) (sym rests) ∙ is in
-      let size : length (side_bytes Client g) + 1 < 2 ^ 62 = omega (arith, n.3.client_size, ap length (side_bytes-same Client g b), length_push (side_bytes Client g) b) in
-      let f = found_client limits small g b v r.client_rest r.server_rest r.runs.good p whole l n in
+      let whole : r.client_rest ++ b ∷ [] ≡ frame p = sym (one_rest limits.client (small_limits limits).0 r.client_rest c cut r.runs.good.whole.client_cut b) ∙ is in
+      let f = found_client limits (small_limits limits) g b v r.client_rest r.server_rest r.runs.good p whole l n in
       let within = subst (λ z. length z ≤ limits.client) (sym f.payload) l in
-      let next = good_client limits small g b v r.client_rest r.server_rest r.runs.good f.found (whole ∙ ap frame (sym f.payload)) within f.may f.fits size in
+      let next = good_client limits (small_limits limits) g b v r.client_rest r.server_rest r.runs.good f.found (whole ∙ ap frame (sym f.payload)) within f.may f.fits (room Client n) in
       let order = order_more limits g (Client, b) v (with_client v f.found) [] r.server_rest M (FromClient f.found ∷ []) r.runs.order
       (clients-append M (FromClient f.found ∷ [])) (servers-append M (FromClient f.found ∷ []) ∙ append-nil (servers M)) next.whole in
       record {
@@ -74,27 +71,16 @@ module _ (limits : Limits) (g : History) (b : ℕ) (r : Replay limits g) where
 
   more_server : (n : IsGood limits (g ++ (Server, b) ∷ [])) → Shorter limits.server (side_bytes Server g) b (server_payloads n.0.server) n.2 → Replay limits (g ++ (Server, b) ∷ [])
   more_server n (within_frame c e cut) =
-      let small = small_limits limits in
-      let rests = (same_cut limits.server _ _ _ _ _ small.1 cut r.runs.good.whole.server_cut).1 in
-      let begin = subst (IsBeginning limits.server) (e ∙ ap (λ z. z ++ b ∷ []) rests) n.3.whole.server_cut.beginning in
-      let size : length (side_bytes Server g) + 1 < 2 ^ 62 = omega (arith, n.3.server_size, ap length (side_bytes-same Server g b), length_push (side_bytes Server g) b) in
-      let next = good_more_server limits small g b v r.client_rest r.server_rest r.runs.good begin size in
-      record {
-        messages = r.messages;
-        client_rest = r.client_rest;
-        server_rest = r.server_rest ++ b ∷ [];
-        runs = record { good = next; order = order_same limits g (Server, b) v r.client_rest (r.server_rest ++ b ∷ []) r.messages r.runs.order next.whole };
-        are = r.are;
-      }
+      let begin = subst (IsBeginning limits.server) (e ∙ one_rest limits.server (small_limits limits).1 r.server_rest c cut r.runs.good.whole.server_cut b) n.3.whole.server_cut.beginning in
+      let next = good_more_server limits (small_limits limits) g b v r.client_rest r.server_rest r.runs.good begin (room Server n) in
+      let order = order_same limits g (Server, b) v r.client_rest (r.server_rest ++ b ∷ []) r.messages r.runs.order next.whole in
+      record { messages = r.messages; client_rest = r.client_rest; server_rest = r.server_rest ++ b ∷ []; runs = record { good = next; order = order }; are = r.are }
   more_server n (frame_end Q p c e none l is cut) =
-      let small = small_limits limits in
       let M = r.messages in
-      let rests = (same_cut limits.server _ _ _ _ _ small.1 cut r.runs.good.whole.server_cut).1 in
-      let whole : r.server_rest ++ b ∷ [] ≡ frame p = ap (λ z. z ++ b ∷ []) (sym rests) ∙ is in
-      let size : length (side_bytes Server g) + 1 < 2 ^ 62 = omega (arith, n.3.server_size, ap length (side_bytes-same Server g b), length_push (side_bytes Server g) b) in
-      let s = found_server limits small g b v r.client_rest r.server_rest r.runs.good p whole l n in
+      let whole : r.server_rest ++ b ∷ [] ≡ frame p = sym (one_rest limits.server (small_limits limits).1 r.server_rest c cut r.runs.good.whole.server_cut b) ∙ is in
+      let s = found_server limits (small_limits limits) g b v r.client_rest r.server_rest r.runs.good p whole l n in
       let within = subst (λ z. length z ≤ limits.server) (sym s.payload) l in
-      let next = good_server limits small g b v r.client_rest r.server_rest r.runs.good s.found (whole ∙ ap frame (sym s.payload)) within s.may size in
+      let next = good_server limits (small_limits limits) g b v r.client_rest r.server_rest r.runs.good s.found (whole ∙ ap frame (sym s.payload)) within s.may (room Server n) in
       let order = order_more limits g (Server, b) v (with_server v s.found) r.client_rest [] M (FromServer s.found ∷ []) r.runs.order
       (clients-append M (FromServer s.found ∷ []) ∙ append-nil (clients M)) (servers-append M (FromServer s.found ∷ [])) next.whole in
       record {

@@ -1,5 +1,5 @@
 -- What was judged of a payload is so of the frame that carries it.
-use Rattle.std.proofs.Common.{◌≡◌, ◌≢◌, ℕ, ◌<◌, ◌^◌, List, length, drop, sym, ap, subst, ◌∙◌, arith}
+use Rattle.std.proofs.Common.{◌≡◌, ◌≢◌, ℕ, ◌<◌, ◌^◌, List, length, drop, Option, sym, ap, subst, ◌∙◌, arith}
 use Rattle.zk_jute.specs.declared.fault.ItemFault.{ItemFault}
 use Rattle.zk_jute.specs.declared.fault.Reason.TheVariants.{NoMemory}
 use Rattle.zk_frames.specs.Framing.{frame}
@@ -14,9 +14,12 @@ use Rattle.zk_talk.specs.Payloads.{client_payload, server_payload}
 use Rattle.zk_talk.specs.Conversation.{Conversation, ServerMay}
 use Rattle.zk_talk.specs.Fault.{IsClientFault, IsServerFault}
 use Rattle.zk_talk.specs.Describes.{Describes}
-use Rattle.zk_talk.specs.Judged.{Tells, IsInTurn, HasRoomFor, IsDue, IsNextClient, IsNextServer}
+use Rattle.zk_talk.specs.Judged.{Tells, IsInTurn, HasRoomFor, IsNumbered, IsDue, IsForgotten, IsNextClient, IsNextServer}
+use Rattle.zk_talk.specs.Settled.{IsAwaited, IsSettled}
+use Rattle.zk_talk.specs.declared.replied.Replied.{Replied}
 use Rattle.zk_talk.specs.Streams.{StreamState, IsAtFrame}
 use Rattle.zk_talk.proofs.Judging.{due_waits}
+use Rattle.zk_talk.proofs.Settling.{room_before}
 use Rattle.zk_talk.proofs.Sides.{carried}
 
 module _ (s : StreamState) (used n : ℕ) (at' : IsAtFrame s used) (p : List ℕ) (is : s.held ≡ frame p) (count : n ≡ s.count) (w : Lanes) where
@@ -29,6 +32,9 @@ module _ (s : StreamState) (used n : ℕ) (at' : IsAtFrame s used) (p : List ℕ
   pub client_seen : (profile : Profile) (f : ClientFrame) → IsInTurn profile n f → asks.IsSent f → client_payload f ≡ p → HasRoomFor f w → IsNextClient profile s.count w (drop 4 s.held) f
   client_seen profile f turn sent pay room = record { turn = subst (λ z. IsInTurn profile z f) count turn; sent = sent; is = pay ∙ payload_is; room = room }
 
+  pub client_passes : (profile : Profile) (new : Lanes) (k : (f : ClientFrame) × IsAwaited profile n n p w new f) → IsNextClient profile s.count w (drop 4 s.held) k.0 × IsNumbered s.count k.0 w new
+  client_passes profile new k = (client_seen profile k.0 k.1.turn k.1.sent k.1.is (room_before n k.0 w new k.1.waits), subst (λ z. IsNumbered z k.0 w new) count k.1.waits)
+
   pub client_told : (profile : Profile) (e : ItemFault) → (e.reason ≢ NoMemory) × ((limits : Limits) (m : ℕ) (v : Conversation) → limits.waiting ≡ w.max → limits.profile ≡ profile → Describes n m w v → Tells (IsClientFault limits v p) e) →
       (e.reason ≢ NoMemory) × ((limits : Limits) (m : ℕ) (v : Conversation) → limits.waiting ≡ w.max → limits.profile ≡ profile → Describes s.count m w v → Tells (IsClientFault limits v (drop 4 s.held)) e)
   client_told profile e k = (k.0, λ limits m v q o d. subst (λ z. Tells (IsClientFault limits v z) e) payload_is (k.1 limits m v q o (subst (λ z. Describes z m w v) (sym count) d)))
@@ -36,6 +42,9 @@ module _ (s : StreamState) (used n : ℕ) (at' : IsAtFrame s used) (p : List ℕ
   module _ (asked : ℕ) where
     pub server_seen : (f : ServerFrame) → IsDue f w → server_payload f ≡ p → ((v : Conversation) → Describes asked n w v → ServerMay v.client v.server f) → IsNextServer asked s.count w (drop 4 s.held) f
     server_seen f due pay may = record { due = due_waits w f due; is = pay ∙ payload_is; may = λ v d. may v (subst (λ z. Describes asked z w v) (sym count) d) }
+
+    pub server_passes : (told : Option Replied) (new : Lanes) (k : (f : ServerFrame) × IsSettled asked n p told w new f) → IsNextServer asked s.count w (drop 4 s.held) k.0 × IsForgotten k.0 w new
+    server_passes told new k = (server_seen k.0 k.1.due k.1.is k.1.may, k.1.forgotten)
 
     pub server_told : (e : ItemFault) → (e.reason ≢ NoMemory) × ((v : Conversation) → Describes asked n w v → Tells (IsServerFault v p) e) →
         (e.reason ≢ NoMemory) × ((v : Conversation) → Describes asked s.count w v → Tells (IsServerFault v (drop 4 s.held)) e)

@@ -5,9 +5,7 @@ use Rattle.zk_jute.specs.Item.{Fit}
 use Rattle.zk_asks.specs.Held.{ClientFrame}
 use Rattle.zk_asks.specs.Frames as asks
 use Rattle.zk_answers.specs.Held.{ServerFrame}
-use Rattle.zk_waiting.specs.declared.lane.Lane.{Lane}
-use Rattle.zk_waiting.specs.declared.lane.Lane.TheVariants.{Ping, Auth, Watches, Plain}
-use Rattle.zk_waiting.specs.Waiting.{Lanes, queue_on, count_of}
+use Rattle.zk_waiting.specs.Waiting.{Lanes, count_of}
 use Rattle.zk_talk.specs.declared.limits.Limits.{Limits}
 use Rattle.zk_talk.specs.Held.{Message}
 use Rattle.zk_talk.specs.declared.message.MessageOf.TheVariants.{Client as FromClient, Server as FromServer}
@@ -16,13 +14,12 @@ use Rattle.zk_talk.specs.declared.say.SayFault.TheVariants.{NoMemory}
 use Rattle.zk_talk.specs.Payloads.{client_payload}
 use Rattle.zk_talk.specs.Conversation.{Conversation, with_client, with_server, ServerMay}
 use Rattle.zk_talk.specs.Good.{clients, servers}
-use Rattle.zk_talk.specs.Queues.{IsQueue}
 use Rattle.zk_talk.specs.Ending.{unanswered, unwelcomed}
 use Rattle.zk_talk.specs.Said.{SpeakerState, Says, Heard, HasSpoken, MaySay, MayStand, IsSayFault, IsSaidClient, IsSaidServer, StandsClient, StandsServer, IsClientRefusal, IsServerRefusal, conversation_of}
 use Rattle.zk_talk.proofs.Lists.{EachAfter-push, EachAfter-nil}
 use Rattle.zk_talk.proofs.Standing.{clients-append, servers-append}
 use Rattle.zk_talk.proofs.Queues.{count_is_waiting}
-use Rattle.zk_talk.proofs.Start.{no_lanes, no_conversation}
+use Rattle.zk_talk.proofs.Start.{no_lanes, no_queue}
 use Rattle.zk_talk.proofs.Saying.{is_wanting}
 
 pub small_payload : (limit : ℕ) (f : ClientFrame) → limit ≤ 16777216 → Fit limit (asks.frame_items f) → length (client_payload f) < 2 ^ 32
@@ -39,16 +36,10 @@ starts limits w e =
         client = refl;
         server = refl;
         may = EachAfter-nil (ServerMay []);
-        queues = λ lane. none lane;
+        queues = λ lane. no_queue limits.waiting lane;
       };
       room = refl;
     })
-  where
-    none : (lane : Lane) → IsQueue lane no_conversation (queue_on lane (no_lanes limits.waiting))
-    none Ping = tt
-    none Auth = tt
-    none Watches = tt
-    none Plain = tt
 
 -- ---- one message more
 pub one_client : (M : List Message) (f : ClientFrame) → conversation_of (M ++ FromClient f ∷ []) ≡ with_client (conversation_of M) f

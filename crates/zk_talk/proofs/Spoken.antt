@@ -1,5 +1,5 @@
 -- What was said is a good history, and is read as it was said.
-use Rattle.std.proofs.Common.{Option, Some, None, ◌≡◌, ℕ, ◌+◌, ◌<◌, ◌≤◌, ◌^◌, ◌⊎◌, inl, inr, List, [], ◌∷◌, ◌++◌, length, refl, sym, ap, ◌∙◌, subst, arith, append_assoc}
+use Rattle.std.proofs.Common.{Option, Some, None, ◌≡◌, ℕ, ◌+◌, ◌<◌, ◌≤◌, ◌^◌, inl, inr, List, [], ◌∷◌, ◌++◌, length, refl, sym, ap, ◌∙◌, subst, arith, append_assoc}
 use Rattle.std.proofs.lemmas.List.{append-nil, append_cancel_left, length_push}
 use Rattle.std.proofs.lemmas.List.Concat.{flat_map-append}
 use Rattle.zk_asks.specs.Held.{ClientFrame}
@@ -16,6 +16,7 @@ use Rattle.zk_talk.specs.declared.message.Ending.TheVariants.{Whole}
 use Rattle.zk_talk.specs.Payloads.{client_payload, server_payload}
 use Rattle.zk_talk.specs.History.{History, side_bytes, on}
 use Rattle.zk_talk.specs.Conversation.{Conversation, with_client, with_server}
+use Rattle.zk_talk.specs.Fault.{side_limit}
 use Rattle.zk_talk.specs.Good.{Good, IsGood, IsOrder, client_payloads, server_payloads, clients, servers}
 use Rattle.zk_talk.specs.Ending.{IsEnding, unanswered}
 use Rattle.zk_talk.specs.Answer.{AreMessages}
@@ -27,7 +28,7 @@ use Rattle.zk_talk.proofs.GoodSteps.{good_client, good_server, found_client, fou
 use Rattle.zk_talk.proofs.GoodFronts.{good_front}
 use Rattle.zk_talk.proofs.Lists.{EachAfter-push, EachAfter-nil}
 use Rattle.std.specs.List.{flat_map, AllByRecursion}
-use Rattle.zk_talk.proofs.Standing.{Runs, runs_client, runs_server, frame_front, clients-append, servers-append, order_more, bytes-on, on-push}
+use Rattle.zk_talk.proofs.Standing.{Runs, runs_client, runs_server, frame_front, clients-append, servers-append, order_more, bytes-on, last-on}
 use Rattle.zk_talk.proofs.Start.{start, no_conversation}
 use Rattle.zk_talk.proofs.Headline.{answer_whole, same_good}
 use Rattle.zk_talk.proofs.OrderOnce.{order_once}
@@ -39,47 +40,49 @@ said-append M N = flat_map-append (λ m. on (side_of m) (frame (payload_of m))) 
 said-push : (M : List Message) (m : Message) → said (M ++ m ∷ []) ≡ said M ++ on (side_of m) (frame (payload_of m))
 said-push M m = said-append M (m ∷ []) ∙ ap (λ z. said M ++ z) (append-nil (on (side_of m) (frame (payload_of m))))
 
-module _ (limits : Limits) (h : History) (v : Conversation) (M : List Message) (r : Runs limits h v M [] []) where
-  step_client : (f : ClientFrame) → IsSaidClient limits v f → length (side_bytes Client h) + length (frame (client_payload f)) < 2 ^ 62 → Runs limits (h ++ on Client (frame (client_payload f))) (with_client v f) (M ++ FromClient f ∷ []) [] []
-  step_client f may size = go (by_last (frame (client_payload f)))
-    where
-      p : List ℕ
-      p = client_payload f
+-- a frame's last byte, and those before it
+last_of : (p : List ℕ) → IsPushed (frame p)
+last_of p = elim (by_last (frame p)) [ inl n ↦ absurd (omega (arith, ap length n, length-frame p)) | inr q ↦ q ]
 
-      go : ((frame (client_payload f) ≡ []) ⊎ IsPushed (frame (client_payload f))) → Runs limits (h ++ on Client (frame (client_payload f))) (with_client v f) (M ++ FromClient f ∷ []) [] []
-      go (inl n) = absurd (omega (arith, ap length n, length-frame (client_payload f)))
-      go (inr q) =
-          let long : length (frame (client_payload f)) ≡ length q.init + 1 = ap length q.is ∙ length_push q.init q.last in
-          let begin = frame_front limits.client q.init [] (client_payload f) q.last may.1 (sym q.is) in
-          let r' = runs_client limits (small_limits limits) v M q.init h [] [] r begin (omega (arith, size, long)) in
-          let h' = h ++ on Client q.init in
-          let g = good_client limits (small_limits limits) h' q.last v q.init [] r'.good f (sym q.is) may.1 may.0 may.2 (omega (arith, size, long, bytes-on Client q.init h)) in
-          let o = order_more limits h' (Client, q.last) v (with_client v f) [] [] M (FromClient f ∷ []) r'.order
-          (clients-append M (FromClient f ∷ []) ∙ ap (λ z. z ++ f ∷ []) r.order.client) (servers-append M (FromClient f ∷ []) ∙ append-nil (servers M) ∙ r.order.server) g.whole in
-          let whole : h' ++ (Client, q.last) ∷ [] ≡ h ++ on Client (frame (client_payload f)) = append_assoc h (on Client q.init) ((Client, q.last) ∷ []) ∙ ap (λ z. h ++ z) (sym (on-push Client q.init q.last)) ∙ ap (λ z. h ++ on Client z) (sym q.is) in
-          record {
-            good = subst (λ z. Good limits z (with_client v f) [] []) whole g;
-            order = subst (λ z. IsOrder limits z (with_client v f) (M ++ FromClient f ∷ [])) whole o;
-          }
+whole-on : (side : Side) (h : History) (p : List ℕ) (q : IsPushed (frame p)) → (h ++ on side q.init) ++ (side, q.last) ∷ [] ≡ h ++ on side (frame p)
+whole-on side h p q = last-on side h q.init q.last ∙ ap (λ z. h ++ on side z) (sym q.is)
+
+abbrev own_rest : Side → Side → List ℕ → List ℕ
+own_rest Client Client bs = bs
+own_rest Server Server bs = bs
+own_rest Client Server bs = []
+own_rest Server Client bs = []
+
+module _ (limits : Limits) (h : History) (v : Conversation) (M : List Message) (r : Runs limits h v M [] []) where
+  before_last : (side : Side) (p : List ℕ) (q : IsPushed (frame p)) → length p ≤ side_limit limits side → length (side_bytes side h) + length (frame p) < 2 ^ 62 →
+      Runs limits (h ++ on side q.init) v M (own_rest Client side q.init) (own_rest Server side q.init) × (length (side_bytes side (h ++ on side q.init)) + 1 < 2 ^ 62)
+  before_last side p q l size =
+      let long : length (frame p) ≡ length q.init + 1 = ap length q.is ∙ length_push q.init q.last in
+      (go side l (omega (arith, size, long)), omega (arith, size, long, bytes-on side q.init h))
+    where
+      go : (side : Side) → length p ≤ side_limit limits side → length (side_bytes side h) + length q.init < 2 ^ 62 → Runs limits (h ++ on side q.init) v M (own_rest Client side q.init) (own_rest Server side q.init)
+      go Client l room = runs_client limits (small_limits limits) v M q.init h [] [] r (frame_front limits.client q.init [] p q.last l (sym q.is)) room
+      go Server l room = runs_server limits (small_limits limits) v M q.init h [] [] r (frame_front limits.server q.init [] p q.last l (sym q.is)) room
+
+  step_client : (f : ClientFrame) → IsSaidClient limits v f → length (side_bytes Client h) + length (frame (client_payload f)) < 2 ^ 62 → Runs limits (h ++ on Client (frame (client_payload f))) (with_client v f) (M ++ FromClient f ∷ []) [] []
+  step_client f may size =
+      let q = last_of (client_payload f) in
+      let r' = before_last Client (client_payload f) q may.1 size in
+      let h' = h ++ on Client q.init in
+      let g = good_client limits (small_limits limits) h' q.last v q.init [] r'.0.good f (sym q.is) may.1 may.0 may.2 r'.1 in
+      let o = order_more limits h' (Client, q.last) v (with_client v f) [] [] M (FromClient f ∷ []) r'.0.order
+      (clients-append M (FromClient f ∷ []) ∙ ap (λ z. z ++ f ∷ []) r.order.client) (servers-append M (FromClient f ∷ []) ∙ append-nil (servers M) ∙ r.order.server) g.whole in
+      subst (λ z. Runs limits z (with_client v f) (M ++ FromClient f ∷ []) [] []) (whole-on Client h (client_payload f) q) (record { good = g; order = o })
 
   step_server : (s : ServerFrame) → IsSaidServer limits v s → length (side_bytes Server h) + length (frame (server_payload s)) < 2 ^ 62 → Runs limits (h ++ on Server (frame (server_payload s))) (with_server v s) (M ++ FromServer s ∷ []) [] []
-  step_server s may size = go (by_last (frame (server_payload s)))
-    where
-      go : ((frame (server_payload s) ≡ []) ⊎ IsPushed (frame (server_payload s))) → Runs limits (h ++ on Server (frame (server_payload s))) (with_server v s) (M ++ FromServer s ∷ []) [] []
-      go (inl n) = absurd (omega (arith, ap length n, length-frame (server_payload s)))
-      go (inr q) =
-          let long : length (frame (server_payload s)) ≡ length q.init + 1 = ap length q.is ∙ length_push q.init q.last in
-          let begin = frame_front limits.server q.init [] (server_payload s) q.last may.1 (sym q.is) in
-          let r' = runs_server limits (small_limits limits) v M q.init h [] [] r begin (omega (arith, size, long)) in
-          let h' = h ++ on Server q.init in
-          let g = good_server limits (small_limits limits) h' q.last v [] q.init r'.good s (sym q.is) may.1 may.0 (omega (arith, size, long, bytes-on Server q.init h)) in
-          let o = order_more limits h' (Server, q.last) v (with_server v s) [] [] M (FromServer s ∷ []) r'.order
-          (clients-append M (FromServer s ∷ []) ∙ append-nil (clients M) ∙ r.order.client) (servers-append M (FromServer s ∷ []) ∙ ap (λ z. z ++ s ∷ []) r.order.server) g.whole in
-          let whole : h' ++ (Server, q.last) ∷ [] ≡ h ++ on Server (frame (server_payload s)) = append_assoc h (on Server q.init) ((Server, q.last) ∷ []) ∙ ap (λ z. h ++ z) (sym (on-push Server q.init q.last)) ∙ ap (λ z. h ++ on Server z) (sym q.is) in
-          record {
-            good = subst (λ z. Good limits z (with_server v s) [] []) whole g;
-            order = subst (λ z. IsOrder limits z (with_server v s) (M ++ FromServer s ∷ [])) whole o;
-          }
+  step_server s may size =
+      let q = last_of (server_payload s) in
+      let r' = before_last Server (server_payload s) q may.1 size in
+      let h' = h ++ on Server q.init in
+      let g = good_server limits (small_limits limits) h' q.last v [] q.init r'.0.good s (sym q.is) may.1 may.0 r'.1 in
+      let o = order_more limits h' (Server, q.last) v (with_server v s) [] [] M (FromServer s ∷ []) r'.0.order
+      (clients-append M (FromServer s ∷ []) ∙ append-nil (clients M) ∙ r.order.client) (servers-append M (FromServer s ∷ []) ∙ ap (λ z. z ++ s ∷ []) r.order.server) g.whole in
+      subst (λ z. Runs limits z (with_server v s) (M ++ FromServer s ∷ []) [] []) (whole-on Server h (server_payload s) q) (record { good = g; order = o })
 
 abbrev Spoken : Limits → List Message → Type 0
 Spoken limits M = Runs limits (said M) (conversation_of M) M [] []
@@ -90,21 +93,23 @@ sized-front M N z = (
   omega (arith, z.1, front-length Server (said M) (said N) (said (M ++ N)) (said-append M N)),
 )
 
+sized_on : (side : Side) (M : List Message) → AreSized M → length (side_bytes side (said M)) < 2 ^ 62
+sized_on Client M z = z.0
+sized_on Server M z = z.1
+
+step_message : (limits : Limits) (M : List Message) (m : Message) → Spoken limits M → MaySay limits M m → length (side_bytes (side_of m) (said M)) + length (frame (payload_of m)) < 2 ^ 62 →
+    Runs limits (said M ++ on (side_of m) (frame (payload_of m))) (conversation_of (M ++ m ∷ [])) (M ++ m ∷ []) [] []
+step_message limits M (FromClient f) r may size =
+    subst (λ x. Runs limits (said M ++ on Client (frame (client_payload f))) x (M ++ FromClient f ∷ []) [] []) (sym (one_client M f)) (step_client limits (said M) (conversation_of M) M r f may size)
+step_message limits M (FromServer s) r may size =
+    subst (λ x. Runs limits (said M ++ on Server (frame (server_payload s))) x (M ++ FromServer s ∷ []) [] []) (sym (one_server M s)) (step_server limits (said M) (conversation_of M) M r s may size)
+
 one_more : (limits : Limits) (M : List Message) (m : Message) → Spoken limits M → MaySay limits M m → AreSized (M ++ m ∷ []) → Spoken limits (M ++ m ∷ [])
-one_more limits M (FromClient f) r may z =
-    let h = said M in
-    let p = frame (client_payload f) in
-    let size : length (side_bytes Client h) + length p < 2 ^ 62 = omega (arith, z.0, ap (λ x. length (side_bytes Client x)) (said-push M (FromClient f)), bytes-on Client p h) in
-    let next = step_client limits h (conversation_of M) M r f may size in
-    subst (λ x. Runs limits x (conversation_of (M ++ FromClient f ∷ [])) (M ++ FromClient f ∷ []) [] []) (sym (said-push M (FromClient f)))
-    (subst (λ x. Runs limits (h ++ on Client p) x (M ++ FromClient f ∷ []) [] []) (sym (one_client M f)) next)
-one_more limits M (FromServer s) r may z =
-    let h = said M in
-    let p = frame (server_payload s) in
-    let size : length (side_bytes Server h) + length p < 2 ^ 62 = omega (arith, z.1, ap (λ x. length (side_bytes Server x)) (said-push M (FromServer s)), bytes-on Server p h) in
-    let next = step_server limits h (conversation_of M) M r s may size in
-    subst (λ x. Runs limits x (conversation_of (M ++ FromServer s ∷ [])) (M ++ FromServer s ∷ []) [] []) (sym (said-push M (FromServer s)))
-    (subst (λ x. Runs limits (h ++ on Server p) x (M ++ FromServer s ∷ []) [] []) (sym (one_server M s)) next)
+one_more limits M m r may z =
+    let side = side_of m in
+    let p = frame (payload_of m) in
+    let size : length (side_bytes side (said M)) + length p < 2 ^ 62 = omega (arith, sized_on side (M ++ m ∷ []) z, ap (λ x. length (side_bytes side x)) (said-push M m), bytes-on side p (said M)) in
+    subst (λ x. Runs limits x (conversation_of (M ++ m ∷ [])) (M ++ m ∷ []) [] []) (sym (said-push M m)) (step_message limits M m r may size)
 
 spoken_from : (limits : Limits) (before more : List Message) → Spoken limits before → ((a : List Message) (x : Message) (b : List Message) → more ≡ a ++ x ∷ b → MaySay limits (before ++ a) x) → AreSized (before ++ more) → Spoken limits (before ++ more)
 spoken_from limits before [] r may z = subst (Spoken limits) (sym (append-nil before)) r
@@ -140,55 +145,42 @@ framed fs = flat_map (λ (x : Side × List ℕ). on x.0 (frame x.1)) fs
 sized_of : (limits : Limits) (M : List Message) (r : History) → IsGood limits (said M ++ r) → AreSized M
 sized_of limits M r good = let n = good_front limits (said M) r good in (n.3.client_size, n.3.server_size)
 
-module _ (limits : Limits) (M : List Message) (r : Spoken limits M) where
-  next_client : (p : List ℕ) → length p ≤ limits.client → IsGood limits (said M ++ on Client (frame p)) → (f : ClientFrame) × (client_payload f ≡ p) × IsSaidClient limits (conversation_of M) f
-  next_client p l good = go (by_last (frame p))
-    where
-      go : ((frame p ≡ []) ⊎ IsPushed (frame p)) → (f : ClientFrame) × (client_payload f ≡ p) × IsSaidClient limits (conversation_of M) f
-      go (inl n) = absurd (omega (arith, ap length n, length-frame p))
-      go (inr q) =
-          let whole : (said M ++ on Client q.init) ++ (Client, q.last) ∷ [] ≡ said M ++ on Client (frame p) = append_assoc (said M) (on Client q.init) ((Client, q.last) ∷ []) ∙ ap (λ z. said M ++ z) (sym (on-push Client q.init q.last)) ∙ ap (λ z. said M ++ on Client z) (sym q.is) in
-          let here = subst (IsGood limits) (sym whole) good in
-          let size : length (side_bytes Client (said M)) + length q.init < 2 ^ 62 = omega (arith, good.3.client_size, bytes-on Client (frame p) (said M), ap length q.is, length_push q.init q.last) in
-          let begin = frame_front limits.client q.init [] p q.last l (sym q.is) in
-          let r' = runs_client limits (small_limits limits) (conversation_of M) M q.init (said M) [] [] r begin size in
-          let found = found_client limits (small_limits limits) (said M ++ on Client q.init) q.last (conversation_of M) q.init [] r'.good p (sym q.is) l here in
-          (found.found, found.payload, (found.may, subst (λ z. length z ≤ limits.client) (sym found.payload) l, found.fits))
+good_size : (limits : Limits) (h : History) (side : Side) → IsGood limits h → length (side_bytes side h) < 2 ^ 62
+good_size limits h Client n = n.3.client_size
+good_size limits h Server n = n.3.server_size
 
-  next_server : (p : List ℕ) → length p ≤ limits.server → IsGood limits (said M ++ on Server (frame p)) → (s : ServerFrame) × (server_payload s ≡ p) × IsSaidServer limits (conversation_of M) s
-  next_server p l good = go (by_last (frame p))
-    where
-      go : ((frame p ≡ []) ⊎ IsPushed (frame p)) → (s : ServerFrame) × (server_payload s ≡ p) × IsSaidServer limits (conversation_of M) s
-      go (inl n) = absurd (omega (arith, ap length n, length-frame p))
-      go (inr q) =
-          let whole : (said M ++ on Server q.init) ++ (Server, q.last) ∷ [] ≡ said M ++ on Server (frame p) = append_assoc (said M) (on Server q.init) ((Server, q.last) ∷ []) ∙ ap (λ z. said M ++ z) (sym (on-push Server q.init q.last)) ∙ ap (λ z. said M ++ on Server z) (sym q.is) in
-          let here = subst (IsGood limits) (sym whole) good in
-          let size : length (side_bytes Server (said M)) + length q.init < 2 ^ 62 = omega (arith, good.3.server_size, bytes-on Server (frame p) (said M), ap length q.is, length_push q.init q.last) in
-          let begin = frame_front limits.server q.init [] p q.last l (sym q.is) in
-          let r' = runs_server limits (small_limits limits) (conversation_of M) M q.init (said M) [] [] r begin size in
-          let found = found_server limits (small_limits limits) (said M ++ on Server q.init) q.last (conversation_of M) [] q.init r'.good p (sym q.is) l here in
-          (found.found, found.payload, (found.may, subst (λ z. length z ≤ limits.server) (sym found.payload) l))
+module _ (limits : Limits) (M : List Message) (r : Spoken limits M) where
+  up_to_last : (side : Side) (p : List ℕ) (q : IsPushed (frame p)) → length p ≤ side_limit limits side → IsGood limits (said M ++ on side (frame p)) →
+      Runs limits (said M ++ on side q.init) (conversation_of M) M (own_rest Client side q.init) (own_rest Server side q.init) × IsGood limits ((said M ++ on side q.init) ++ (side, q.last) ∷ [])
+  up_to_last side p q l good = (
+    (before_last limits (said M) (conversation_of M) M r side p q l (omega (arith, good_size limits (said M ++ on side (frame p)) side good, bytes-on side (frame p) (said M)))).0,
+    subst (IsGood limits) (sym (whole-on side (said M) p q)) good,
+  )
+
+  -- the message whose payload leaves the history good may be said
+  next_message : (side : Side) (p : List ℕ) → length p ≤ side_limit limits side → IsGood limits (said M ++ on side (frame p)) → (m : Message) × (side_of m ≡ side) × (payload_of m ≡ p) × MaySay limits M m
+  next_message Client p l good =
+      let q = last_of p in
+      let x = up_to_last Client p q l good in
+      let f = found_client limits (small_limits limits) (said M ++ on Client q.init) q.last (conversation_of M) q.init [] x.0.good p (sym q.is) l x.1 in
+      (FromClient f.found, refl, f.payload, (f.may, subst (λ z. length z ≤ limits.client) (sym f.payload) l, f.fits))
+  next_message Server p l good =
+      let q = last_of p in
+      let x = up_to_last Server p q l good in
+      let s = found_server limits (small_limits limits) (said M ++ on Server q.init) q.last (conversation_of M) [] q.init x.0.good p (sym q.is) l x.1 in
+      (FromServer s.found, refl, s.payload, (s.may, subst (λ z. length z ≤ limits.server) (sym s.payload) l))
 
 said_from : (limits : Limits) (M : List Message) (fs : List (Side × List ℕ)) → Spoken limits M → AreSaid limits M → AllByRecursion (IsWithin limits) fs → IsGood limits (said M ++ framed fs) → (N : List Message) × AreSaid limits N × Spoken limits N × (said N ≡ said M ++ framed fs)
 unfolding framed
 said_from limits M [] r are all good = (M, are, r, sym (append-nil (said M)))
-said_from limits M ((Client, p) ∷ fs) r are all good =
-    let split : said M ++ (on Client (frame p) ++ framed fs) ≡ (said M ++ on Client (frame p)) ++ framed fs = sym (append_assoc (said M) (on Client (frame p)) (framed fs)) in
+said_from limits M ((side, p) ∷ fs) r are all good =
+    let split : said M ++ (on side (frame p) ++ framed fs) ≡ (said M ++ on side (frame p)) ++ framed fs = sym (append_assoc (said M) (on side (frame p)) (framed fs)) in
     let good' = subst (IsGood limits) split good in
-    let n = next_client limits M r p all.0 (good_front limits (said M ++ on Client (frame p)) (framed fs) good') in
-    let more : said (M ++ FromClient n.0 ∷ []) ≡ said M ++ on Client (frame p) = said-push M (FromClient n.0) ∙ ap (λ z. said M ++ on Client (frame z)) n.1 in
+    let n = next_message limits M r side p all.0 (good_front limits (said M ++ on side (frame p)) (framed fs) good') in
+    let more : said (M ++ n.0 ∷ []) ≡ said M ++ on side (frame p) = said-push M n.0 ∙ (λ i. said M ++ on (n.1 i) (frame (n.2 i))) in
     let good'' = subst (λ z. IsGood limits (z ++ framed fs)) (sym more) good' in
-    let sized = sized_of limits (M ++ FromClient n.0 ∷ []) (framed fs) good'' in
-    let next = said_from limits (M ++ FromClient n.0 ∷ []) fs (one_more limits M (FromClient n.0) r n.2 sized) (EachAfter-push (MaySay limits) M (FromClient n.0) are n.2) all.1 good'' in
-    (next.0, next.1, next.2, next.3 ∙ ap (λ z. z ++ framed fs) more ∙ sym split)
-said_from limits M ((Server, p) ∷ fs) r are all good =
-    let split : said M ++ (on Server (frame p) ++ framed fs) ≡ (said M ++ on Server (frame p)) ++ framed fs = sym (append_assoc (said M) (on Server (frame p)) (framed fs)) in
-    let good' = subst (IsGood limits) split good in
-    let n = next_server limits M r p all.0 (good_front limits (said M ++ on Server (frame p)) (framed fs) good') in
-    let more : said (M ++ FromServer n.0 ∷ []) ≡ said M ++ on Server (frame p) = said-push M (FromServer n.0) ∙ ap (λ z. said M ++ on Server (frame z)) n.1 in
-    let good'' = subst (λ z. IsGood limits (z ++ framed fs)) (sym more) good' in
-    let sized = sized_of limits (M ++ FromServer n.0 ∷ []) (framed fs) good'' in
-    let next = said_from limits (M ++ FromServer n.0 ∷ []) fs (one_more limits M (FromServer n.0) r n.2 sized) (EachAfter-push (MaySay limits) M (FromServer n.0) are n.2) all.1 good'' in
+    let sized = sized_of limits (M ++ n.0 ∷ []) (framed fs) good'' in
+    let next = said_from limits (M ++ n.0 ∷ []) fs (one_more limits M n.0 r n.3 sized) (EachAfter-push (MaySay limits) M n.0 are n.3) all.1 good'' in
     (next.0, next.1, next.2, next.3 ∙ ap (λ z. z ++ framed fs) more ∙ sym split)
 
 -- The messages of a good history of whole frames, said again, give its bytes.

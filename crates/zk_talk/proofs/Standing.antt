@@ -121,6 +121,9 @@ other-on side (b ∷ bs) h = ap (side_bytes (other_side side)) (sym (append_asso
 pub on-push : (side : Side) (bs : List ℕ) (b : ℕ) → on side (bs ++ b ∷ []) ≡ on side bs ++ (side, b) ∷ []
 on-push side bs b = map_push (λ (z : ℕ). (side, z)) bs b
 
+pub last-on : (side : Side) (h : History) (bs : List ℕ) (b : ℕ) → (h ++ on side bs) ++ (side, b) ∷ [] ≡ h ++ on side (bs ++ b ∷ [])
+last-on side h bs b = append_assoc h (on side bs) ((side, b) ∷ []) ∙ ap (λ z. h ++ z) (sym (on-push side bs b))
+
 -- ---- A byte that nothing good goes on with
 module _ (limits : Limits) (small : AreSmall limits) (h : History) (b : ℕ) (v : Conversation) (cb sb : List ℕ) (g : Good limits h v cb sb) (side : Side) (place : ℕ) (reason : Reason) where
   pub cause_bad : IsCause limits v side (length (side_bytes side h)) (rest_on side cb sb) b place reason → IsGood limits (h ++ (side, b) ∷ []) → ⊥

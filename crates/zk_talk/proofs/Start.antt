@@ -33,6 +33,19 @@ empty_whole limits = record {
 front_empty : {X : Type 0} (a b : List X) → [] ≡ a ++ b → a ≡ []
 front_empty a b e = (both_empty a b (sym e)).0
 
+-- nothing waits
+pub no_queue : (max : ℕ) (lane : Lane) → IsQueue lane no_conversation (queue_on lane (no_lanes max))
+no_queue max Ping = tt
+no_queue max Auth = tt
+no_queue max Watches = tt
+no_queue max Plain = tt
+
+no_numbers : (max : ℕ) (lane : Lane) → HaveNumbers lane no_conversation (queue_on lane (no_lanes max))
+no_numbers max Ping = refl
+no_numbers max Auth = refl
+no_numbers max Watches = refl
+no_numbers max Plain = refl
+
 pub start : (limits : Limits) → Stands (start_state limits) [] []
 start limits = record {
   conversation = no_conversation;
@@ -54,20 +67,8 @@ start limits = record {
   server_frames = refl;
   client_size = sym (ap length (no_bytes Client));
   server_size = sym (ap length (no_bytes Server));
-  queues = λ lane. none lane;
-  numbers = λ lane. unnumbered lane;
+  queues = λ lane. no_queue limits.waiting lane;
+  numbers = λ lane. no_numbers limits.waiting lane;
   newest = λ kept. absurd (kept refl);
   no_fault = refl;
 }
-  where
-    unnumbered : (lane : Lane) → HaveNumbers lane no_conversation (queue_on lane (no_lanes limits.waiting))
-    unnumbered Ping = refl
-    unnumbered Auth = refl
-    unnumbered Watches = refl
-    unnumbered Plain = refl
-
-    none : (lane : Lane) → IsQueue lane no_conversation (queue_on lane (no_lanes limits.waiting))
-    none Ping = tt
-    none Auth = tt
-    none Watches = tt
-    none Plain = tt

@@ -1,12 +1,15 @@
 -- What a talk does whose kept frame is given up first.
-use Rattle.std.proofs.Common.{◌≡◌, inl, inr, ℕ, List, [], ◌∷◌, Bool, true, false, Some, None, refl, sym, ◌∙◌}
+use Rattle.std.proofs.Common.{◌≡◌, ◌≢◌, inl, inr, ℕ, List, [], ◌∷◌, take, Bool, true, false, Some, None, refl, sym, ◌∙◌, subst}
+use Rattle.std.proofs.lemmas.List.{append-nil}
+use Rattle.zk_jute.specs.declared.fault.Reason.TheVariants.{NoMemory}
 use Rattle.zk_talk.specs.declared.message.Side.{Side}
 use Rattle.zk_talk.specs.declared.message.Side.TheVariants.{Client, Server}
 use Rattle.zk_talk.specs.declared.message.Fault.{Fault}
 use Rattle.zk_talk.specs.Held.{Message}
 use Rattle.zk_talk.specs.History.{History}
 use Rattle.zk_talk.specs.Stands.{TalkState, Stands, Refuses, held_on}
-use Rattle.zk_talk.specs.Taking.{GoesOn, Steps, Passes, IsRefused, Fails, given_up, lacks_memory}
+use Rattle.zk_talk.specs.Taking.{GoesOn, Steps, StepsOn, Passes, PassesOn, IsRefused, Fails, given_up, lacks_memory}
+use Rattle.zk_talk.proofs.Headline.{refuses_with}
 use Rattle.zk_talk.proofs.Answering.{rekept}
 
 stands_given : (side : Side) (t : TalkState) (h : History) (M : List Message) → Stands t h M → Stands (given_up side t) h M
@@ -26,6 +29,7 @@ fault_stays Client t = refl
 fault_stays Server t = refl
 
 module _ (side : Side) (t new : TalkState) where
+  -- what was done after the frame was given up is so of the talk before
   pub goes_first : (used : List ℕ) (messages : List Message) → GoesOn (given_up side t) side used messages new → GoesOn t side used messages new
   goes_first used messages goes h M st = goes h M (stands_given side t h M st)
 
@@ -59,26 +63,19 @@ held_given Server Client t = refl
 held_given Server Server t = refl
 
 refuses_given : (side : Side) (t : TalkState) (h : History) (M : List Message) (f : Fault) → Refuses t h M f → Refuses (given_up side t) h M f
-refuses_given Client t h M f r = record {
-  kept = r.kept;
-  is = r.is;
-  order = r.order;
-  queues = r.queues;
-  server_frames = r.server_frames;
-  newest = r.newest;
-  load = r.load;
-  held = λ items. held_given Client f.side t ∙ r.held items;
-}
-refuses_given Server t h M f r = record {
-  kept = r.kept;
-  is = r.is;
-  order = r.order;
-  queues = r.queues;
-  server_frames = r.server_frames;
-  newest = λ kept. absurd (kept refl);
-  load = r.load;
-  held = λ items. held_given Server f.side t ∙ r.held items;
-}
+refuses_given Client t h M f r = subst (λ z. Refuses (given_up Client t) z M f) (append-nil h) (refuses_with t [] t.server_kept h [] M f r r.newest)
+refuses_given Server t h M f r = subst (λ z. Refuses (given_up Server t) z M f) (append-nil h) (refuses_with t t.client_kept [] h [] M f r (λ kept. absurd (kept refl)))
+
+-- what was done after the frame was given up, by what the talk was then
+module _ (side : Side) (t given new : TalkState) (same : given ≡ given_up side t) (piece : List ℕ) where
+  pub steps_then : (used : ℕ) (whole : Bool) → StepsOn given side piece used whole new → StepsOn t side piece used whole new
+  steps_then used whole x = (x.0, x.1, steps_first side t new (take used piece) whole (subst (λ z. Steps z side (take used piece) whole new) same x.2))
+
+  pub passes_then : (used : ℕ) (whole : Bool) → PassesOn given side piece used whole new → PassesOn t side piece used whole new
+  passes_then used whole x = (x.0, x.1, passes_first side t new (take used piece) whole (subst (λ z. Passes z side (take used piece) whole new) same x.2))
+
+  pub refused_then : (f : Fault) → (f.reason ≢ NoMemory) × IsRefused given side piece f new → (f.reason ≢ NoMemory) × IsRefused t side piece f new
+  refused_then f x = (x.0, refused_first side t new piece f (subst (λ z. IsRefused z side piece f new) same x.1))
 
 -- what a step did, whose frame is given up then
 module _ (side : Side) (t new : TalkState) where

@@ -19,7 +19,7 @@ use Rattle.zk_talk.specs.declared.message.MessageOf.TheVariants.{Client as FromC
 use Rattle.zk_talk.specs.History.{on}
 use Rattle.zk_talk.specs.declared.message.Fault.{Fault}
 use Rattle.zk_talk.specs.Good.{clients, servers, IsOrder}
-use Rattle.zk_talk.specs.Fault.{IsCause, IsOfItems, fault_of, side_limit}
+use Rattle.zk_talk.specs.Fault.{IsCause, IsOfItems, fault_of, side_limit, rest_on, frame_count}
 use Rattle.zk_waiting.specs.Waiting.{Lanes, queue_on}
 use Rattle.zk_talk.specs.Queues.{IsQueue}
 use Rattle.zk_talk.specs.Numbers.{AreNumbered, IsNewest}
@@ -30,13 +30,31 @@ use Rattle.zk_jute.specs.Reading.{told_place}
 use Rattle.zk_talk.proofs.Small.{small_limits}
 use Rattle.zk_talk.proofs.Queues.{weight_is_load}
 use Rattle.zk_talk.proofs.GoodSteps.{good_client, good_server}
-use Rattle.zk_talk.proofs.Standing.{frame_front, clients-append, servers-append, order_more, runs_client, runs_server, bytes-on, other-on, on-push, cause_bad}
+use Rattle.zk_talk.proofs.Standing.{Runs, frame_front, clients-append, servers-append, order_more, runs_client, runs_server, bytes-on, other-on, last-on, cause_bad}
+
+-- what a side has, where one side has something new
+abbrev pub own : {X : Type 0} → Side → Side → X → X → X
+own Client Client new old = new
+own Server Server new old = new
+own Client Server new old = old
+own Server Client new old = old
 
 -- the talk with this in place of what is held and kept of the side, how many frames were whole, how many bytes came, what
 -- waits, what was answered, and the fault
 abbrev pub set_on : Side → TalkState → List ℕ → List ℕ → ℕ → ℕ → Lanes → Option Replied → Option Fault → TalkState
-set_on Client t held kept frames size w o fault = record t { client_held = held; client_kept = kept; client_frames = frames; client_size = size; waiting = w; answered = o; fault = fault }
-set_on Server t held kept frames size w o fault = record t { server_held = held; server_kept = kept; server_frames = frames; server_size = size; waiting = w; answered = o; fault = fault }
+set_on side t held kept frames size w o fault = record t {
+  client_held = own Client side held t.client_held;
+  server_held = own Server side held t.server_held;
+  client_kept = own Client side kept t.client_kept;
+  server_kept = own Server side kept t.server_kept;
+  client_frames = own Client side frames t.client_frames;
+  server_frames = own Server side frames t.server_frames;
+  client_size = own Client side size t.client_size;
+  server_size = own Server side size t.server_size;
+  waiting = w;
+  answered = o;
+  fault = fault;
+}
 
 abbrev pub put_on : Side → TalkState → StreamState → Lanes → Option Replied → Option Fault → TalkState
 put_on side t s w o fault = set_on side t s.held s.kept s.count s.size w o fault
@@ -79,38 +97,113 @@ abbrev pub IsKnownAfter : Side → TalkState → List ℕ → Option Replied →
 IsKnownAfter side t kept o v w = AreNumbered v w × ((server_keeps side t kept ≡ [] → ⊥) → IsNewest v o)
 
 module _ (t : TalkState) (h : History) (M : List Message) (st : Stands t h M) where
-  -- ---- The client's pieces
-  more_client : (bs : List ℕ) → IsBeginning t.limits.client (t.client_held ++ bs) → t.client_size + length bs < 2 ^ 62 →
-      Stands (record t { client_held = t.client_held ++ bs; client_size = t.client_size + length bs }) (h ++ on Client bs) M
-  more_client bs begin size =
-      let r = runs_client t.limits (small_limits t.limits) st.conversation M bs h t.client_held t.server_held (record { good = st.good; order = st.order }) begin (omega (arith, size, st.client_size)) in
+  -- ---- A side's pieces
+  -- what is true of the sides stays true where the new is the old
+  same_own : {X : Type 0} (P : Side → X → Type 0) (on_side : Side → X) (side : Side) → P Client (on_side Client) × P Server (on_side Server) → P Client (own Client side (on_side side) (on_side Client)) × P Server (own Server side (on_side side) (on_side Server))
+  same_own P on_side Client both = both
+  same_own P on_side Server both = both
+
+  size_is : (side : Side) → size_on side t ≡ length (side_bytes side h)
+  size_is Client = st.client_size
+  size_is Server = st.server_size
+
+  frames_are : (side : Side) → frames_on side t ≡ frame_count st.conversation side
+  frames_are Client = st.client_frames
+  frames_are Server = st.server_frames
+
+  all_frames : (side : Side) → (own Client side (frames_on side t) t.client_frames ≡ length st.conversation.client) × (own Server side (frames_on side t) t.server_frames ≡ length st.conversation.server)
+  all_frames side = same_own (λ s n. n ≡ frame_count st.conversation s) (λ s. frames_on s t) side (st.client_frames, st.server_frames)
+
+  newest_still : (side : Side) → (own Server side (kept_on side t) t.server_kept ≡ [] → ⊥) → IsNewest st.conversation t.answered
+  newest_still Client = st.newest
+  newest_still Server = st.newest
+
+  -- the bytes of each side after those of a piece
+  sizes_after : (side : Side) (bs : List ℕ) → (own Client side (size_on side t + length bs) t.client_size ≡ length (side_bytes Client (h ++ on side bs))) × (own Server side (size_on side t + length bs) t.server_size ≡ length (side_bytes Server (h ++ on side bs)))
+  sizes_after Client bs = (omega (arith, st.client_size, bytes-on Client bs h), st.server_size ∙ ap length (sym (other-on Client bs h)))
+  sizes_after Server bs = (st.client_size ∙ ap length (sym (other-on Server bs h)), omega (arith, st.server_size, bytes-on Server bs h))
+
+  -- the conversation so far, after bytes within a frame
+  abbrev RunsOn : Side → List ℕ → Type 0
+  RunsOn side bs = Runs t.limits (h ++ on side bs) st.conversation M (own Client side (held_on side t ++ bs) t.client_held) (own Server side (held_on side t ++ bs) t.server_held)
+
+  runs_on : (side : Side) (bs : List ℕ) → IsBeginning (side_limit t.limits side) (held_on side t ++ bs) → size_on side t + length bs < 2 ^ 62 → RunsOn side bs
+  runs_on Client bs begin size = runs_client t.limits (small_limits t.limits) st.conversation M bs h t.client_held t.server_held (record { good = st.good; order = st.order }) begin (omega (arith, size, st.client_size))
+  runs_on Server bs begin size = runs_server t.limits (small_limits t.limits) st.conversation M bs h t.client_held t.server_held (record { good = st.good; order = st.order }) begin (omega (arith, size, st.server_size))
+
+  pub more : (side : Side) (bs : List ℕ) → IsBeginning (side_limit t.limits side) (held_on side t ++ bs) → size_on side t + length bs < 2 ^ 62 → Stands (grown side t (held_on side t ++ bs) (size_on side t + length bs)) (h ++ on side bs) M
+  more side bs begin size =
+      let r = runs_on side bs begin size in
       record {
         conversation = st.conversation;
         good = r.good;
         order = r.order;
-        client_frames = st.client_frames;
-        server_frames = st.server_frames;
-        client_size = omega (arith, st.client_size, bytes-on Client bs h);
-        server_size = st.server_size ∙ ap length (sym (other-on Client bs h));
+        client_frames = (all_frames side).0;
+        server_frames = (all_frames side).1;
+        client_size = (sizes_after side bs).0;
+        server_size = (sizes_after side bs).1;
         queues = st.queues;
         numbers = st.numbers;
-        newest = st.newest;
+        newest = newest_still side;
         no_fault = st.no_fault;
       }
 
+  rest_is : (side : Side) (held : List ℕ) → rest_on side (own Client side held t.client_held) (own Server side held t.server_held) ≡ held
+  rest_is Client held = refl
+  rest_is Server held = refl
+
+  held_is : (side : Side) (held : List ℕ) (fault : Fault) → held_on side (refusing side t held fault) ≡ held
+  held_is Client held fault = refl
+  held_is Server held fault = refl
+
+  pub refuse : (side : Side) (held : List ℕ) (place told : ℕ) → told ≡ told_place place → (reason : Reason) (bs : List ℕ) (b : ℕ) (more : List ℕ) → IsBeginning (side_limit t.limits side) (held_on side t ++ bs) → size_on side t + length bs < 2 ^ 62 →
+      (IsOfItems reason → held ≡ (held_on side t ++ bs) ++ b ∷ []) → IsCause t.limits st.conversation side (size_on side t + length bs) (held_on side t ++ bs) b place reason →
+      Refuses (refusing side t held (fault_of side (frames_on side t) (size_on side t + length bs + 1) told reason)) (h ++ on side (bs ++ b ∷ more)) M (fault_of side (frames_on side t) (size_on side t + length bs + 1) told reason)
+  refuse side held place told is reason bs b more begin size kept cause =
+      let v = st.conversation in
+      let r = runs_on side bs begin size in
+      let h' = h ++ on side bs in
+      let begun = held_on side t ++ bs in
+      let n : size_on side t + length bs ≡ length (side_bytes side h') = omega (arith, bytes-on side bs h, size_is side) in
+      let cause' = subst (λ z. IsCause t.limits v side (length (side_bytes side h')) z b place reason) (sym (rest_is side begun)) (subst (λ z. IsCause t.limits v side z begun b place reason) n cause) in
+      record {
+        kept = refl;
+        is = record {
+          before = h';
+          byte = b;
+          after = on side more;
+          conversation = v;
+          client_rest = own Client side begun t.client_held;
+          server_rest = own Server side begun t.server_held;
+          stands = ap (λ z. h ++ z) (map-append (λ (z : ℕ). (side, z)) bs (b ∷ more)) ∙ sym (append_assoc h (on side bs) ((side, b) ∷ on side more));
+          good = r.good;
+          bad = cause_bad t.limits (small_limits t.limits) h' b v (own Client side begun t.client_held) (own Server side begun t.server_held) r.good side place reason cause';
+          frame = frames_are side;
+          offset = omega (arith, n);
+          place = place;
+          told = is;
+          cause = cause';
+        };
+        order = r.order;
+        queues = st.queues;
+        server_frames = (all_frames side).1;
+        newest = newest_still side;
+        load = weight_is_load v t.waiting st.queues;
+        held = λ items. held_is side held (fault_of side (frames_on side t) (size_on side t + length bs + 1) told reason) ∙ kept items ∙ ap (λ z. z ++ b ∷ []) (sym (rest_is side begun));
+      }
+
+  -- ---- A whole frame
   whole_client : (k : List ℕ) (o : Option Replied) (bs : List ℕ) (b : ℕ) (f : ClientFrame) (w : Lanes) → (t.client_held ++ bs) ++ b ∷ [] ≡ frame (client_payload f) → length (client_payload f) ≤ t.limits.client → ClientMay t.limits.profile st.conversation.client f →
       load (st.conversation.client ++ f ∷ []) st.conversation.server ≤ t.limits.waiting → t.client_size + (length bs + 1) < 2 ^ 62 → ((lane : Lane) → IsQueue lane (with_client st.conversation f) (queue_on lane w)) → IsKnownAfter Client t k o (with_client st.conversation f) w →
       Stands (counted Client t k (t.client_size + (length bs + 1)) w o) (h ++ on Client (bs ++ b ∷ [])) (M ++ FromClient f ∷ [])
   whole_client k o bs b f w e l may fits size qs after =
       let v = st.conversation in
-      let begin = frame_front t.limits.client (t.client_held ++ bs) [] (client_payload f) b l e in
-      let r = runs_client t.limits (small_limits t.limits) v M bs h t.client_held t.server_held (record { good = st.good; order = st.order }) begin (omega (arith, size, st.client_size)) in
+      let r = runs_on Client bs (frame_front t.limits.client (t.client_held ++ bs) [] (client_payload f) b l e) (omega (arith, size)) in
       let h' = h ++ on Client bs in
-      let n = bytes-on Client bs h in
-      let g = good_client t.limits (small_limits t.limits) h' b v (t.client_held ++ bs) t.server_held r.good f e l may fits (omega (arith, size, st.client_size)) in
+      let g = good_client t.limits (small_limits t.limits) h' b v (t.client_held ++ bs) t.server_held r.good f e l may fits (omega (arith, size, st.client_size, bytes-on Client bs h)) in
       let o = order_more t.limits h' (Client, b) v (with_client v f) [] t.server_held M (FromClient f ∷ []) r.order
       (clients-append M (FromClient f ∷ []) ∙ ap (λ z. z ++ f ∷ []) st.order.client) (servers-append M (FromClient f ∷ []) ∙ append-nil (servers M) ∙ st.order.server) g.whole in
-      let whole : h' ++ (Client, b) ∷ [] ≡ h ++ on Client (bs ++ b ∷ []) = append_assoc h (on Client bs) ((Client, b) ∷ []) ∙ ap (λ z. h ++ z) (sym (on-push Client bs b)) in
+      let whole : h' ++ (Client, b) ∷ [] ≡ h ++ on Client (bs ++ b ∷ []) = last-on Client h bs b in
       record {
         conversation = with_client v f;
         good = subst (λ z. Good t.limits z (with_client v f) [] t.server_held) whole g;
@@ -125,74 +218,17 @@ module _ (t : TalkState) (h : History) (M : List Message) (st : Stands t h M) wh
         no_fault = st.no_fault;
       }
 
-  fault_client : (held : List ℕ) (place told : ℕ) → told ≡ told_place place → (reason : Reason) (bs : List ℕ) (b : ℕ) (more : List ℕ) → IsBeginning t.limits.client (t.client_held ++ bs) → t.client_size + length bs < 2 ^ 62 →
-      (IsOfItems reason → held ≡ (t.client_held ++ bs) ++ b ∷ []) → IsCause t.limits st.conversation Client (t.client_size + length bs) (t.client_held ++ bs) b place reason →
-      Refuses (record t { client_held = held; fault = Some (fault_of Client t.client_frames (t.client_size + length bs + 1) told reason) }) (h ++ on Client (bs ++ b ∷ more)) M (fault_of Client t.client_frames (t.client_size + length bs + 1) told reason)
-  fault_client held place told is reason bs b more begin size kept cause =
-      let v = st.conversation in
-      let r = runs_client t.limits (small_limits t.limits) v M bs h t.client_held t.server_held (record { good = st.good; order = st.order }) begin (omega (arith, size, st.client_size)) in
-      let h' = h ++ on Client bs in
-      let n : t.client_size + length bs ≡ length (side_bytes Client h') = omega (arith, bytes-on Client bs h, st.client_size) in
-      let cause' = subst (λ z. IsCause t.limits v Client z (t.client_held ++ bs) b place reason) n cause in
-      let bad = cause_bad t.limits (small_limits t.limits) h' b v (t.client_held ++ bs) t.server_held r.good Client place reason cause' in
-      record {
-        kept = refl;
-        is = record {
-          before = h';
-          byte = b;
-          after = on Client more;
-          conversation = v;
-          client_rest = t.client_held ++ bs;
-          server_rest = t.server_held;
-          stands = ap (λ z. h ++ z) (map-append (λ (z : ℕ). (Client, z)) bs (b ∷ more)) ∙ sym (append_assoc h (on Client bs) ((Client, b) ∷ on Client more));
-          good = r.good;
-          bad = bad;
-          frame = st.client_frames;
-          offset = omega (arith, n);
-          place = place;
-          told = is;
-          cause = cause';
-        };
-        order = r.order;
-        queues = st.queues;
-        server_frames = st.server_frames;
-        newest = st.newest;
-        load = weight_is_load v t.waiting st.queues;
-        held = kept;
-      }
-
-  -- ---- The server's pieces
-  more_server : (bs : List ℕ) → IsBeginning t.limits.server (t.server_held ++ bs) → t.server_size + length bs < 2 ^ 62 →
-      Stands (record t { server_held = t.server_held ++ bs; server_size = t.server_size + length bs }) (h ++ on Server bs) M
-  more_server bs begin size =
-      let r = runs_server t.limits (small_limits t.limits) st.conversation M bs h t.client_held t.server_held (record { good = st.good; order = st.order }) begin (omega (arith, size, st.server_size)) in
-      record {
-        conversation = st.conversation;
-        good = r.good;
-        order = r.order;
-        client_frames = st.client_frames;
-        server_frames = st.server_frames;
-        client_size = st.client_size ∙ ap length (sym (other-on Server bs h));
-        server_size = omega (arith, st.server_size, bytes-on Server bs h);
-        queues = st.queues;
-        numbers = st.numbers;
-        newest = st.newest;
-        no_fault = st.no_fault;
-      }
-
   whole_server : (k : List ℕ) (o : Option Replied) (bs : List ℕ) (b : ℕ) (s : ServerFrame) (w : Lanes) → (t.server_held ++ bs) ++ b ∷ [] ≡ frame (server_payload s) → length (server_payload s) ≤ t.limits.server → ServerMay st.conversation.client st.conversation.server s →
       t.server_size + (length bs + 1) < 2 ^ 62 → ((lane : Lane) → IsQueue lane (with_server st.conversation s) (queue_on lane w)) → IsKnownAfter Server t k o (with_server st.conversation s) w →
       Stands (counted Server t k (t.server_size + (length bs + 1)) w o) (h ++ on Server (bs ++ b ∷ [])) (M ++ FromServer s ∷ [])
   whole_server k o bs b s w e l may size qs after =
       let v = st.conversation in
-      let begin = frame_front t.limits.server (t.server_held ++ bs) [] (server_payload s) b l e in
-      let r = runs_server t.limits (small_limits t.limits) v M bs h t.client_held t.server_held (record { good = st.good; order = st.order }) begin (omega (arith, size, st.server_size)) in
+      let r = runs_on Server bs (frame_front t.limits.server (t.server_held ++ bs) [] (server_payload s) b l e) (omega (arith, size)) in
       let h' = h ++ on Server bs in
-      let n = bytes-on Server bs h in
-      let g = good_server t.limits (small_limits t.limits) h' b v t.client_held (t.server_held ++ bs) r.good s e l may (omega (arith, size, st.server_size)) in
+      let g = good_server t.limits (small_limits t.limits) h' b v t.client_held (t.server_held ++ bs) r.good s e l may (omega (arith, size, st.server_size, bytes-on Server bs h)) in
       let o = order_more t.limits h' (Server, b) v (with_server v s) t.client_held [] M (FromServer s ∷ []) r.order
       (clients-append M (FromServer s ∷ []) ∙ append-nil (clients M) ∙ st.order.client) (servers-append M (FromServer s ∷ []) ∙ ap (λ z. z ++ s ∷ []) st.order.server) g.whole in
-      let whole : h' ++ (Server, b) ∷ [] ≡ h ++ on Server (bs ++ b ∷ []) = append_assoc h (on Server bs) ((Server, b) ∷ []) ∙ ap (λ z. h ++ z) (sym (on-push Server bs b)) in
+      let whole : h' ++ (Server, b) ∷ [] ≡ h ++ on Server (bs ++ b ∷ []) = last-on Server h bs b in
       record {
         conversation = with_server v s;
         good = subst (λ z. Good t.limits z (with_server v s) t.client_held []) whole g;
@@ -207,56 +243,9 @@ module _ (t : TalkState) (h : History) (M : List Message) (st : Stands t h M) wh
         no_fault = st.no_fault;
       }
 
-  fault_server : (held : List ℕ) (place told : ℕ) → told ≡ told_place place → (reason : Reason) (bs : List ℕ) (b : ℕ) (more : List ℕ) → IsBeginning t.limits.server (t.server_held ++ bs) → t.server_size + length bs < 2 ^ 62 →
-      (IsOfItems reason → held ≡ (t.server_held ++ bs) ++ b ∷ []) → IsCause t.limits st.conversation Server (t.server_size + length bs) (t.server_held ++ bs) b place reason →
-      Refuses (record t { server_held = held; fault = Some (fault_of Server t.server_frames (t.server_size + length bs + 1) told reason) }) (h ++ on Server (bs ++ b ∷ more)) M (fault_of Server t.server_frames (t.server_size + length bs + 1) told reason)
-  fault_server held place told is reason bs b more begin size kept cause =
-      let v = st.conversation in
-      let r = runs_server t.limits (small_limits t.limits) v M bs h t.client_held t.server_held (record { good = st.good; order = st.order }) begin (omega (arith, size, st.server_size)) in
-      let h' = h ++ on Server bs in
-      let n : t.server_size + length bs ≡ length (side_bytes Server h') = omega (arith, bytes-on Server bs h, st.server_size) in
-      let cause' = subst (λ z. IsCause t.limits v Server z (t.server_held ++ bs) b place reason) n cause in
-      let bad = cause_bad t.limits (small_limits t.limits) h' b v t.client_held (t.server_held ++ bs) r.good Server place reason cause' in
-      record {
-        kept = refl;
-        is = record {
-          before = h';
-          byte = b;
-          after = on Server more;
-          conversation = v;
-          client_rest = t.client_held;
-          server_rest = t.server_held ++ bs;
-          stands = ap (λ z. h ++ z) (map-append (λ (z : ℕ). (Server, z)) bs (b ∷ more)) ∙ sym (append_assoc h (on Server bs) ((Server, b) ∷ on Server more));
-          good = r.good;
-          bad = bad;
-          frame = st.server_frames;
-          offset = omega (arith, n);
-          place = place;
-          told = is;
-          cause = cause';
-        };
-        order = r.order;
-        queues = st.queues;
-        server_frames = st.server_frames;
-        newest = st.newest;
-        load = weight_is_load v t.waiting st.queues;
-        held = kept;
-      }
-
-  -- ---- A side's pieces
-  pub more : (side : Side) (bs : List ℕ) → IsBeginning (side_limit t.limits side) (held_on side t ++ bs) → size_on side t + length bs < 2 ^ 62 → Stands (grown side t (held_on side t ++ bs) (size_on side t + length bs)) (h ++ on side bs) M
-  more Client = more_client
-  more Server = more_server
-
   pub whole : (side : Side) (k : List ℕ) (o : Option Replied) (bs : List ℕ) (b : ℕ) (m : Message) (w : Lanes) → (held_on side t ++ bs) ++ b ∷ [] ≡ frame (message_payload m) → length (message_payload m) ≤ side_limit t.limits side → MayOn side t.limits st.conversation m →
       size_on side t + (length bs + 1) < 2 ^ 62 → ((lane : Lane) → IsQueue lane (with_message st.conversation m) (queue_on lane w)) → IsKnownAfter side t k o (with_message st.conversation m) w → Stands (counted side t k (size_on side t + (length bs + 1)) w o) (h ++ on side (bs ++ b ∷ [])) (M ++ m ∷ [])
   whole Client k o bs b (FromClient f) w e l may size qs after = whole_client k o bs b f w e l may.0 may.1 size qs after
   whole Server k o bs b (FromServer s) w e l may size qs after = whole_server k o bs b s w e l may size qs after
   whole Client k o bs b (FromServer s) w e l may size qs after = absurd may
   whole Server k o bs b (FromClient f) w e l may size qs after = absurd may
-
-  pub refuse : (side : Side) (held : List ℕ) (place told : ℕ) → told ≡ told_place place → (reason : Reason) (bs : List ℕ) (b : ℕ) (more : List ℕ) → IsBeginning (side_limit t.limits side) (held_on side t ++ bs) → size_on side t + length bs < 2 ^ 62 →
-      (IsOfItems reason → held ≡ (held_on side t ++ bs) ++ b ∷ []) → IsCause t.limits st.conversation side (size_on side t + length bs) (held_on side t ++ bs) b place reason →
-      Refuses (refusing side t held (fault_of side (frames_on side t) (size_on side t + length bs + 1) told reason)) (h ++ on side (bs ++ b ∷ more)) M (fault_of side (frames_on side t) (size_on side t + length bs + 1) told reason)
-  refuse Client = fault_client
-  refuse Server = fault_server

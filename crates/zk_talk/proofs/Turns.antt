@@ -11,7 +11,12 @@ use Rattle.zk_asks.specs.Rows.{op_of_ask}
 use Rattle.zk_asks.specs.Frames.{ops_of_ask}
 use Rattle.zk_answers.specs.Frames.{Fits, IsEvent}
 use Rattle.zk_answers.specs.Frames as answers
-use Rattle.zk_talk.proofs.Payloads.{first_inj, connected_inj, ask_inj, event_inj, reply_inj, reply_head_is, reply_no_event, event_head_is, same_head}
+use Rattle.zk_asks.proofs.First.{first_injective}
+use Rattle.zk_asks.proofs.Later.{ask_injective}
+use Rattle.zk_answers.proofs.Connected.{connected_injective}
+use Rattle.zk_answers.proofs.Replies.{reply_injective}
+use Rattle.zk_answers.proofs.Events.{event_injective}
+use Rattle.zk_talk.proofs.Payloads.{asks_alike, answers_alike, reply_head_is, reply_no_event, event_head_is, same_head}
 use Rattle.zk_waiting.specs.declared.lane.Lane.{Lane}
 use Rattle.zk_waiting.specs.declared.lane.Lane.TheVariants.{Ping, Auth, Watches, Plain}
 use Rattle.zk_talk.specs.Splits.{EachAfter}
@@ -78,8 +83,8 @@ module _ {X : Type 0} (p : X → Bool) where
 
 -- No two frames that may stand at one place have one payload.
 pub client_inj : (profile : Profile) (before : List ClientFrame) (x y : ClientFrame) → ClientMay profile before x → ClientMay profile before y → client_payload x ≡ client_payload y → x ≡ y
-client_inj profile [] x y p q e = first_inj x y p.0 q.0 p.1 q.1 e
-client_inj profile (f ∷ fs) x y p q e = ask_inj x y p.0 q.0 p.1 q.1 e
+client_inj profile [] x y p q e = first_injective x y p.0 q.0 p.1 q.1 (asks_alike x y e)
+client_inj profile (f ∷ fs) x y p q e = ask_injective x y p.0 q.0 p.1 q.1 (asks_alike x y e)
 
 -- what two replies answer is the same, where they stand at one place and have one xid
 pub same_answered : (client : List ClientFrame) (sent : List ServerFrame) (r q : Reply) → r.xid ≡ q.xid → (a : IsAnswered client sent r) (b : IsAnswered client sent q) → a.ask ≡ b.ask
@@ -106,7 +111,7 @@ reply_or_event r s a b c e =
     reply_no_event r a (sym h.xid_is ∙ ap (λ z. z.xid) (same_head (server_payload s) h.header k.header h.rest k.rest h.is k.is) ∙ k.xid_is)
 
 pub server_inj : (client : List ClientFrame) (before : List ServerFrame) (x y : ServerFrame) → ServerMay client before x → ServerMay client before y → server_payload x ≡ server_payload y → x ≡ y
-server_inj client [] (Connected s f) (Connected t g) p q e = connected_inj (Connected s f) (Connected t g) tt tt p.0 q.0 e
+server_inj client [] (Connected s f) (Connected t g) p q e = connected_injective (Connected s f) (Connected t g) tt tt p.0 q.0 (answers_alike (Connected s f) (Connected t g) e)
 server_inj client [] (Connected s f) (Answered r) p q e = absurd q
 server_inj client [] (Connected s f) (Event z k) p q e = absurd q
 server_inj client [] (Answered r) y p q e = absurd p
@@ -117,11 +122,11 @@ server_inj client (f ∷ fs) (Answered r) (Answered s) p q e =
     let x = reply_xid r s p.0 q.0 e in
     let same = same_answered client (f ∷ fs) r s x p.1 q.1 in
     let fits = subst (λ a. Fits (op_of_ask a) (ops_of_ask a) s) (sym same) q.1.fits in
-    reply_inj (op_of_ask p.1.ask) (ops_of_ask p.1.ask) r s p.1.fits fits p.0 q.0 e
+    reply_injective (op_of_ask p.1.ask) (ops_of_ask p.1.ask) (Answered r) (Answered s) p.1.fits fits p.0 q.0 (answers_alike (Answered r) (Answered s) e)
 server_inj client (f ∷ fs) (Answered r) (Event z k) p q e = absurd (reply_or_event r (Event z k) p.0 tt q e)
 server_inj client (f ∷ fs) (Event z k) (Connected t g) p q e = absurd q
 server_inj client (f ∷ fs) (Event z k) (Answered r) p q e = absurd (reply_or_event r (Event z k) q.0 tt p (sym e))
-server_inj client (f ∷ fs) (Event z k) (Event y l) p q e = event_inj (Event z k) (Event y l) tt tt p q e
+server_inj client (f ∷ fs) (Event z k) (Event y l) p q e = event_injective (Event z k) (Event y l) tt tt p q (answers_alike (Event z k) (Event y l) e)
 
 -- So the frames of each side are known from the payloads.
 pub same_clients : (profile : Profile) (C D : List ClientFrame) → EachAfter (ClientMay profile) C → EachAfter (ClientMay profile) D → client_payloads C ≡ client_payloads D → C ≡ D

@@ -1,5 +1,5 @@
 -- What is returned for a list of pieces.
-use Rattle.std.specs.Prelude.{◌≡◌, ℕ, List, ◌++◌, Option, Some, None}
+use Rattle.std.specs.Prelude.{◌≡◌, ℕ, List, [], ◌++◌, Option, Some, None}
 use Rattle.std.specs.List.{flat_map}
 use Rattle.std.specs.Borrow.{Bor}
 use Rattle.zk_talk.specs.declared.message.Side.{Side}
@@ -12,7 +12,7 @@ use Rattle.zk_talk.specs.History.{History, on}
 use Rattle.zk_talk.specs.Conversation.{Conversation}
 use Rattle.zk_talk.specs.Good.{Good, IsOrder}
 use Rattle.zk_talk.specs.Fault.{IsFaultOf}
-use Rattle.zk_talk.specs.Ending.{IsEnding}
+use Rattle.zk_talk.specs.Ending.{IsEnding, unanswered}
 use Rattle.zk_talk.specs.Stands.{TalkState, Stands, Refuses}
 
 abbrev pub history_of : List (Side × Bor (List ℕ)) → History
@@ -25,6 +25,14 @@ AreMessages limits h messages (Cut side frame got) = (v : Conversation) × (clie
     (server_rest : List ℕ) × Good limits h v client_rest server_rest × IsOrder limits h v messages
 AreMessages limits h messages (Whole n) = (v : Conversation) × (client_rest : List ℕ) × (server_rest : List ℕ) ×
     Good limits h v client_rest server_rest × IsOrder limits h v messages
+
+-- a history that spells a conversation ends whole, with its messages in the order of their last bytes
+abbrev pub EndsWhole : Limits → History → List Message → Ending → Type 0
+EndsWhole limits h messages ending = (v : Conversation) → Good limits h v [] [] → IsOrder limits h v messages × (ending ≡ Whole (unanswered v))
+
+-- no other order than this is that of the messages of such a history
+abbrev pub IsOnlyOrder : Limits → History → List Message → Type 0
+IsOnlyOrder limits h messages = (v : Conversation) (M : List Message) → Good limits h v [] [] → IsOrder limits h v M → messages ≡ M
 
 -- those begin with these
 abbrev pub IsFront : List Message → List Message → Type 0

@@ -111,17 +111,9 @@ of_items reasons.Short = true
 of_items reasons.BadBool = true
 of_items reasons.BadLength = true
 of_items reasons.BadText = true
-of_items reasons.NoMemory = false
 of_items reasons.Trailing = true
-of_items reasons.UnknownOp = false
-of_items reasons.XidOp = false
 of_items reasons.BadPart = true
-of_items reasons.EventErr = false
-of_items reasons.LengthRange = false
-of_items reasons.QueueFull = false
-of_items reasons.Unasked = false
-of_items (reasons.XidOrder expected got) = false
-of_items reasons.StreamEnd = false
+of_items _ = false
 
 abbrev pub IsOfItems : Reason → Type 0
 IsOfItems reason = IsTrue (of_items reason)

@@ -74,6 +74,10 @@ pub record Refuses (t : TalkState) (h : History) (messages : List Message) (faul
   pub load : weight_of t.waiting ≡ load is.conversation.client is.conversation.server
   pub held : IsOfItems fault.reason → held_on fault.side t ≡ rest_on fault.side is.client_rest is.server_rest ++ is.byte ∷ []
 
+-- this holds of the conversation before the fault of any history that the talk has refused
+abbrev pub WhereItRefuses : TalkState → (Conversation → Type 0) → Type 0
+WhereItRefuses t Says = (h : History) (M : List Message) (f : Fault) (r : Refuses t h M f) → Says r.is.conversation
+
 abbrev pub frames_on : Side → TalkState → ℕ
 frames_on Client t = t.client_frames
 frames_on Server t = t.server_frames

@@ -1,11 +1,8 @@
 //! What a talk holds, in numbers.
-ghost use Rattle.std.specs.Prelude.{◌≡◌, ◌≤◌, ◌+◌, List, length};
-ghost use Rattle.zk_talk.specs.declared.message.Fault.{Fault};
-ghost use Rattle.zk_talk.specs.Held.{Message};
-ghost use Rattle.zk_talk.specs.History.{History};
+ghost use Rattle.std.specs.Prelude.{◌≡◌, ◌≤◌, ◌+◌, length};
 ghost use Rattle.zk_talk.specs.Conversation.{number_waiting};
 ghost use Rattle.zk_talk.specs.Fault.{side_limit, rest_on};
-ghost use Rattle.zk_talk.specs.Stands.{held_on, Refuses, WhereItStands};
+ghost use Rattle.zk_talk.specs.Stands.{held_on, WhereItStands, WhereItRefuses};
 
 use crate::message::Side;
 use crate::talk::Talk;
@@ -14,7 +11,7 @@ impl Talk {
     /// The number of requests that wait for their replies. After a fault those before the byte that decided it.
     pub fn requests(&self) -> u32
         ensures stands { WhereItStands self.now (λ v client_rest server_rest. result ≡ number_waiting v.client v.server) }
-        ensures refuses { (h : History) (M : List Message) (f : Fault) (r : Refuses self.now h M f) → result ≡ number_waiting r.is.conversation.client r.is.conversation.server }
+        ensures refuses { WhereItRefuses self.now (λ v. result ≡ number_waiting v.client v.server) }
         ensures most { result ≤ self.now.limits.waiting }
     {
         self.waiting.count()

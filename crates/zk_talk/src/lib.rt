@@ -46,6 +46,7 @@
 //! said; only a reader refuses a byte too many.
 #![tactic(auto)]
 
+mod by_side;
 mod counts;
 mod frame;
 mod fronts;

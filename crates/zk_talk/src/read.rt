@@ -1,15 +1,13 @@
 //! `read_all`: a whole history, from a list of pieces to its messages and its ending.
-ghost use Rattle.std.specs.Prelude.{◌≡◌, ◌≤◌, ◌++◌, ◌↔◌, List, [], length, drop, IsTrue, IfOk, OnOk};
+ghost use Rattle.std.specs.Prelude.{◌≡◌, ◌≤◌, ◌++◌, ◌↔◌, length, drop, IsTrue, IfOk, OnOk};
 ghost use Rattle.std.specs.Option.{option_to_list};
 ghost use Rattle.zk_jute.specs.declared.fault.Reason.TheVariants.{NoMemory};
-ghost use Rattle.zk_talk.specs.declared.message.Ending.TheVariants.{Whole, Refused};
+ghost use Rattle.zk_talk.specs.declared.message.Ending.TheVariants.{Refused};
 ghost use Rattle.zk_talk.specs.declared.message.Fault.{Fault};
 ghost use Rattle.zk_talk.specs.Held.{Message};
-ghost use Rattle.zk_talk.specs.Conversation.{Conversation};
-ghost use Rattle.zk_talk.specs.Good.{Good, IsOrder};
 ghost use Rattle.zk_talk.specs.Fault.{IsFaultOf};
-ghost use Rattle.zk_talk.specs.Ending.{IsEnding, unanswered};
-ghost use Rattle.zk_talk.specs.Answer.{history_of, AreMessages, TakesAll};
+ghost use Rattle.zk_talk.specs.Ending.{IsEnding};
+ghost use Rattle.zk_talk.specs.Answer.{history_of, AreMessages, EndsWhole, IsOnlyOrder, TakesAll};
 
 use crate::limits::Limits;
 use crate::message::{Ended, Ending, Fault, Message, Side};
@@ -78,11 +76,9 @@ pub fn read_all(
     pieces: &[(Side, &[u8])],
 ) -> Result<Ended, AllocError>
     // A history that spells a conversation gives it back, in the order of the last bytes.
-    ensures whole { IfOk result (λ e. (v : Conversation) → Good limits (history_of pieces.now) v [] [] →
-        IsOrder limits (history_of pieces.now) v e.messages.items × (e.ending ≡ Whole (unanswered v))) }
+    ensures whole { IfOk result (λ e. EndsWhole limits (history_of pieces.now) e.messages.items e.ending) }
     // There is one such order.
-    ensures order { IfOk result (λ e. (v : Conversation) (M : List Message) → Good limits (history_of pieces.now) v [] [] →
-        IsOrder limits (history_of pieces.now) v M → e.messages.items ≡ M) }
+    ensures order { IfOk result (λ e. IsOnlyOrder limits (history_of pieces.now) e.messages.items) }
     // A history with a fault is refused with just that fault.
     ensures refused { IfOk result (λ e. (f : Fault) → IsFaultOf limits (history_of pieces.now) f → e.ending ≡ Refused f) }
     // Any history gives its messages up to its fault, and its ending.

@@ -1,5 +1,5 @@
 //! `Talk`: the conversation, judged as its bytes come.
-ghost use Rattle.std.specs.Prelude.{false, true, ◌≡◌, ◌≢◌, ◌≤◌, ◌+◌, List, [], ◌∷◌, length, take, Some, None, Err, IsOk, IfOk, IfErr, OnOk, OnErr, IfSome, IfNone, MatchOption};
+ghost use Rattle.std.specs.Prelude.{false, true, ◌≡◌, ◌≢◌, ◌≤◌, ◌+◌, List, [], ◌∷◌, length, take, Some, None, Err, IsOk, IfOk, IfErr, OnErr, IfSome, IfNone, MatchOption};
 ghost use Rattle.std.specs.Option.{option_to_list};
 ghost use Rattle.zk_jute.specs.declared.fault.Reason.TheVariants.{NoMemory};
 ghost use Rattle.zk_frames.specs.Framing.{frame};
@@ -12,19 +12,15 @@ ghost use Rattle.zk_talk.specs.Fault.{side_limit, rest_on};
 ghost use Rattle.zk_talk.specs.Ending.{IsEnding};
 ghost use Rattle.zk_talk.specs.Numbers.{NewestAnswers};
 ghost use Rattle.zk_talk.specs.declared.message.Side.TheVariants.{Server};
-ghost use Rattle.zk_talk.specs.Stands.{held_on, kept_on, frames_on, Stands, Refuses, WhereItStands, WhereKept};
+ghost use Rattle.zk_talk.specs.Stands.{held_on, kept_on, frames_on, Stands, Refuses, WhereItStands, WhereItRefuses, WhereKept};
 ghost use Rattle.zk_talk.specs.Refused.{TellsRefusedBody};
 ghost use Rattle.zk_records.specs.declared.op.Op.TheVariants as ops;
 ghost use Rattle.zk_answers.specs.declared.layout.Layout.TheVariants as layouts;
 ghost use Rattle.zk_talk.specs.Viewed.{Shows, Leaves, other_side};
 ghost use Rattle.zk_talk.specs.Taking.{TakesOn, StepsOn, IsRefused, Fails, given_up};
 
-use crate::frame::{
-    client_frame, keep_client, keep_server, pass_client, pass_server, server_frame,
-};
 use crate::limits::Limits;
 use crate::message::{Ending, Fault, Message, MessageOf, MessageRef, Side};
-use crate::received::{receive, refuse};
 use crate::refused::{answered_body, asked_body, is_in_body};
 use crate::replied::Replied;
 use crate::stream::Stream;
@@ -32,7 +28,6 @@ use crate::view::{shown_client, shown_server};
 use std::alloc::{AllocError, Global};
 use std::marker::Model;
 use zk_answers::Layout;
-use zk_jute::{ItemFault, Undecided};
 use zk_waiting::Awaited;
 
 /// What `Talk::take` took of a piece.
@@ -57,13 +52,13 @@ pub struct Stepped {
 /// end before its request has ended.
 #[derive(Drop)]
 pub struct Talk {
-    alloc: Global,
-    limits: Limits,
+    pub(crate) alloc: Global,
+    pub(crate) limits: Limits,
     pub(crate) client: Stream,
     pub(crate) server: Stream,
     pub(crate) waiting: Awaited,
     /// The request that the server's kept frame replies to; `None` if that is no reply.
-    answered: Option<Replied>,
+    pub(crate) answered: Option<Replied>,
     pub(crate) fault: Option<Fault>,
 }
 
@@ -116,185 +111,6 @@ impl Talk {
         self.waiting.renew();
         self.answered = None;
         self.fault = None;
-    }
-
-    fn piece(&mut self, side: Side, piece: &[u8]) -> Result<Taken, Fault>
-        requires good { self.old.fault ≡ None }
-        requires given_up { kept_on side self.old ≡ [] }
-        ensures limits { self.new.limits ≡ self.old.limits }
-        ensures ok { IfOk result (λ t. TakesOn self.old side piece.now t.used (option_to_list t.message) self.new) }
-        ensures exact { IfOk result (λ t. MatchOption t.message (t.used ≡ length piece.now) (λ m. held_on side self.new ≡ [])) }
-        ensures other { Leaves (other_side side) self.old self.new }
-        ensures err { IfErr result (λ e. Fails self.old side piece.now e self.new) }
-        ensures given_up { kept_on side self.new ≡ [] }
-        ensures empty { length piece.now ≡ 0 → IsOk result }
-    {
-        let alloc = self.alloc;
-        match side {
-            Side::Client => {
-                let Some(used) = receive(&mut self.fault, side, &mut self.client, piece)? else {
-                    return Ok(Taken {
-                        used: piece.len(),
-                        message: None,
-                    });
-                };
-                let profile = self.limits.profile();
-                match client_frame(alloc, profile, &mut self.client, &mut self.waiting, used) {
-                    Ok(frame) => Ok(Taken {
-                        used,
-                        message: Some(Message::Client(frame)),
-                    }),
-                    Err(item) => Err(refuse(&mut self.fault, side, &self.client, used, item)),
-                }
-            }
-            Side::Server => {
-                let Some(used) = receive(&mut self.fault, side, &mut self.server, piece)? else {
-                    return Ok(Taken {
-                        used: piece.len(),
-                        message: None,
-                    });
-                };
-                let asked = self.client.count();
-                match server_frame(alloc, asked, &mut self.server, &mut self.waiting, used) {
-                    Ok(frame) => Ok(Taken {
-                        used,
-                        message: Some(Message::Server(frame)),
-                    }),
-                    Err(item) => Err(refuse(&mut self.fault, side, &self.server, used, item)),
-                }
-            }
-        }
-    }
-
-    /// Keeps the side's whole frame at the front of `piece` if none is begun and it may come next, and returns the number of
-    /// its bytes; `None`: undecided, and nothing changed.
-    // Most frames come so; no fault, and no frame as a value, is made on the way.
-    #[inline(always)]
-    fn step_whole(&mut self, side: Side, piece: &[u8]) -> Option<usize>
-        requires good { self.old.fault ≡ None }
-        requires given_up { kept_on side self.old ≡ [] }
-        ensures limits { self.new.limits ≡ self.old.limits }
-        ensures some { IfSome result (λ used. StepsOn self.old side piece.now used true self.new) }
-        ensures other { Leaves (other_side side) self.old self.new }
-        ensures none { IfNone result (self.new ≡ self.old) }
-    {
-        match side {
-            Side::Client => {
-                let used = self.client.take_whole(piece)?;
-                let profile = self.limits.profile();
-                match keep_client::<Undecided>(profile, &mut self.client, &mut self.waiting, used) {
-                    Ok(()) => Some(used),
-                    Err(_undecided) => {
-                        self.client.take_back(used);
-                        None
-                    }
-                }
-            }
-            Side::Server => {
-                let used = self.server.take_whole(piece)?;
-                let asked = self.client.count();
-                match keep_server::<Undecided>(asked, &mut self.server, &mut self.waiting, used) {
-                    Ok(answered) => {
-                        self.answered = answered;
-                        Some(used)
-                    }
-                    Err(_undecided) => {
-                        self.server.take_back(used);
-                        None
-                    }
-                }
-            }
-        }
-    }
-
-    /// Passes the side's whole frame at the front of `piece` if none is begun and it may come next, and returns the number of
-    /// its bytes; `None`: undecided, and nothing changed. Copies nothing.
-    #[inline(always)]
-    fn pass_whole(&mut self, side: Side, piece: &[u8]) -> Option<usize>
-        requires good { self.old.fault ≡ None }
-        requires given_up { kept_on side self.old ≡ [] }
-        ensures limits { self.new.limits ≡ self.old.limits }
-        ensures some { IfSome result (λ used. (m : Message) × TakesOn self.old side piece.now used (m ∷ []) self.new) }
-        ensures whole { IfSome result (λ used. held_on side self.new ≡ []) }
-        ensures other { Leaves (other_side side) self.old self.new }
-        ensures given_up { kept_on side self.new ≡ [] }
-        ensures none { IfNone result (self.new ≡ self.old) }
-    {
-        match side {
-            Side::Client => {
-                let used = self.client.front(piece)?;
-                let profile = self.limits.profile();
-                let Ok(()) = pass_client::<Undecided>(
-                    profile,
-                    &mut self.client,
-                    &mut self.waiting,
-                    piece,
-                    used,
-                ) else {
-                    return None;
-                };
-                Some(used)
-            }
-            Side::Server => {
-                let used = self.server.front(piece)?;
-                let asked = self.client.count();
-                let Ok(()) = pass_server::<Undecided>(
-                    asked,
-                    &mut self.server,
-                    &mut self.waiting,
-                    piece,
-                    used,
-                ) else {
-                    return None;
-                };
-                Some(used)
-            }
-        }
-    }
-
-    fn exact(&mut self, side: Side, piece: &[u8]) -> Result<Stepped, Fault>
-        requires good { self.old.fault ≡ None }
-        requires given_up { kept_on side self.old ≡ [] }
-        ensures limits { self.new.limits ≡ self.old.limits }
-        ensures ok { IfOk result (λ s. StepsOn self.old side piece.now s.used s.whole self.new) }
-        ensures exact { IfOk result (λ s. s.whole ≡ false → s.used ≡ length piece.now) }
-        ensures other { Leaves (other_side side) self.old self.new }
-        ensures err { IfErr result (λ e. (e.reason ≢ NoMemory) × IsRefused self.old side piece.now e self.new) }
-        ensures none { OnErr result (kept_on side self.new ≡ []) }
-        ensures well { OnOk result (self.new.fault ≡ None) }
-        ensures kept { IfErr result (λ e. self.new.fault ≡ Some e) }
-    {
-        match side {
-            Side::Client => {
-                let Some(used) = receive(&mut self.fault, side, &mut self.client, piece)? else {
-                    return Ok(Stepped {
-                        used: piece.len(),
-                        whole: false,
-                    });
-                };
-                let profile = self.limits.profile();
-                match keep_client::<ItemFault>(profile, &mut self.client, &mut self.waiting, used) {
-                    Ok(()) => Ok(Stepped { used, whole: true }),
-                    Err(item) => Err(refuse(&mut self.fault, side, &self.client, used, item)),
-                }
-            }
-            Side::Server => {
-                let Some(used) = receive(&mut self.fault, side, &mut self.server, piece)? else {
-                    return Ok(Stepped {
-                        used: piece.len(),
-                        whole: false,
-                    });
-                };
-                let asked = self.client.count();
-                match keep_server::<ItemFault>(asked, &mut self.server, &mut self.waiting, used) {
-                    Ok(answered) => {
-                        self.answered = answered;
-                        Ok(Stepped { used, whole: true })
-                    }
-                    Err(item) => Err(refuse(&mut self.fault, side, &self.server, used, item)),
-                }
-            }
-        }
     }
 
     /// Drops the side's kept frame.
@@ -457,7 +273,7 @@ impl Talk {
         ensures none { kept_on Server self.now ≡ [] → result ≡ None }
         // A reply answers the request that has as many of its lane before it as the reply has replies.
         ensures stands { WhereItStands self.now (λ v client_rest server_rest. WhereKept self.now (NewestAnswers v result)) }
-        ensures refuses { (h : History) (M : List Message) (f : Fault) (r : Refuses self.now h M f) → WhereKept self.now (NewestAnswers r.is.conversation result) }
+        ensures refuses { WhereItRefuses self.now (λ v. WhereKept self.now (NewestAnswers v result)) }
     {
         let _payload = self.server.kept_payload()?;
         match self.answered {
@@ -560,7 +376,7 @@ impl Talk {
     /// those before the byte that decided it.
     pub fn waiting(&self) -> u32
         ensures stands { WhereItStands self.now (λ v client_rest server_rest. result ≡ load v.client v.server) }
-        ensures refuses { (h : History) (M : List Message) (f : Fault) (r : Refuses self.now h M f) → result ≡ load r.is.conversation.client r.is.conversation.server }
+        ensures refuses { WhereItRefuses self.now (λ v. result ≡ load v.client v.server) }
         ensures most { result ≤ self.now.limits.waiting }
     {
         self.waiting.weight()

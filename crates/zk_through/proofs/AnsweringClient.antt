@@ -3,6 +3,7 @@ use Rattle.std.proofs.Common.{◌≡◌, ℕ, ◌+◌, ◌<◌, ◌≤◌, inl, 
 use Rattle.std.specs.Option.{IfSome, IfNone}
 use Rattle.std.proofs.lemmas.List.{append-nil, length-take-le}
 use Rattle.zk_frames.specs.Framing.{frame, IsBeginning}
+use Rattle.zk_records.specs.declared.profile.Profile.{Profile}
 use Rattle.zk_waiting.specs.declared.lane.Lane.{Lane}
 use Rattle.zk_waiting.specs.declared.lane.Lane.TheVariants.{Ping, Auth, Watches, Plain}
 use Rattle.zk_waiting.specs.Lane.{lane_of}
@@ -12,7 +13,7 @@ use Rattle.zk_talk.specs.Conversation.{load, with_client}
 use Rattle.zk_talk.specs.Fault.{fault_of}
 use Rattle.zk_talk.specs.Stands.{TalkState, WhereItStands}
 use Rattle.zk_talk.specs.Streams.{StreamState, TakenBack, passed, kept_now}
-use Rattle.zk_talk.specs.Receiving.{CameWithin, CameWhole, IsStopped as WasStopped}
+use Rattle.zk_talk.specs.Receiving.{CameWithin, CameWhole}
 use Rattle.zk_through.specs.declared.turn.Turn.{Turn}
 use Rattle.zk_through.specs.declared.through.Went.TheVariants as went
 use Rattle.zk_talk.specs.History.{on}
@@ -20,10 +21,10 @@ use Rattle.zk_talk.proofs.Headline.{fault_is_bad}
 use Rattle.zk_through.specs.Came.{payloads, told}
 use Rattle.zk_through.specs.Turns.{TurnsState, IsLacked, turn_of, left_out, with_waits, and_turn, after_request, after_left}
 use Rattle.zk_through.specs.Runs.{ThroughState, Runs, WentOn, IsRefused, IsTold, IsNotTold, IsAhead, IsNotAhead, IsKeptAt, IsRequestOf, WeighsAtMost, IsWeighed, Weighs}
-use Rattle.zk_through.proofs.Steps.{nothing_more, within_on_client, ClientCame}
+use Rattle.zk_through.proofs.Steps.{nothing_more, within_on_client, FrameCame, whole_frame, frame_is, has_come, still, begun_before}
 use Rattle.zk_through.proofs.Outcomes.{counted, client_other, client_asks, client_lacks}
 use Rattle.zk_through.proofs.Seen.{client_counts}
-use Rattle.zk_through.proofs.Refusals.{refused_early, refused_told}
+use Rattle.zk_through.proofs.Refusals.{refused_told}
 use Rattle.zk_through.proofs.Fitting.{some_weight, its_good, talk_takes}
 
 pub left_same : (l : Lane) (f : List Turn → List Turn) (t : TurnsState) → left_out (with_waits l f t) ≡ left_out t
@@ -40,49 +41,23 @@ module _ (old : ThroughState) (piece : List ℕ) (limit : old.client.limit ≡ o
     within_on_client old piece s (w.is ∙ ap (λ z. record old.client { held = z; size = old.client.size + length piece }) w.advance.0) (subst (λ z. IsBeginning z (old.client.held ++ piece)) limit w.advance.1),
   )
 
-  pub client_stopped : (e : Fault) (s : StreamState) (k : Option Fault) → WasStopped Client old.client piece e s → k ≡ Some e → IsRefused old Client piece e (record old { client = s; fault = k })
-  client_stopped e s k w kept = refused_early Client old (record old { client = s; fault = k }) piece e s limit w kept
-
   module _ (used : ℕ) (s : StreamState) (w : CameWhole old.client piece used s) where
-    pub whole : (p : List ℕ) × (s.held ≡ frame p) × (length p ≤ old.client.limit)
-    whole = w.advance.4
+    abbrev whole : (p : List ℕ) × (s.held ≡ frame p) × (length p ≤ old.client.limit)
+    whole = whole_frame Client old piece used s w
 
     is : old.client.held ++ take used piece ≡ frame whole.0
-    is = sym w.advance.3 ∙ whole.1
-
-    came : (new : ThroughState) → new.talk.limits ≡ old.talk.limits → new.client.held ≡ [] → new.client.count ≡ s.count + 1 → new.client.size ≡ s.size + used → new.server ≡ old.server → new.late ≡ old.late → new.matched ≡ old.matched → new.answered ≡ old.answered → new.fault ≡ old.fault → ClientCame old new piece used whole.0
-    came new limits held count size other late matched answered fault = record {
-      some = w.advance.0;
-      part = w.advance.1;
-      fits = omega (arith, whole.2, limit);
-      is = is;
-      limits = limits;
-      held = held;
-      count = count ∙ ap (λ (z : StreamState). z.count + 1) w.stays;
-      size = size ∙ ap (λ (z : StreamState). z.size + used) w.stays;
-      other = other;
-      late = late;
-      matched = matched;
-      answered = answered;
-      fault = fault;
-    }
-
-    still : s.kept ≡ []
-    still = ap (λ (z : StreamState). z.kept) w.stays ∙ none
-
-    later : 0 < s.count → 0 < old.client.count
-    later some = omega (arith, some, ap (λ (z : StreamState). z.count) w.stays)
+    is = frame_is Client old piece used s w
 
     -- the talk took the frame
     module _ (s' : StreamState) (talk : TalkState) (turns : TurnsState) (pass : s' ≡ passed s used) (limits : talk.limits ≡ old.talk.limits) (tells : (p : List ℕ) → s.held ≡ frame p → IsTold old.talk Client p talk) where
       abbrev pub new : ThroughState
       new = record old { talk = talk; client = s'; turns = turns }
 
-      passed_on : ClientCame old new piece used whole.0
-      passed_on = came new limits (ap (λ (z : StreamState). z.held) pass) (ap (λ (z : StreamState). z.count) pass) (ap (λ (z : StreamState). z.size) pass) refl refl refl refl refl
+      passed_on : FrameCame Client old new piece used whole.0
+      passed_on = has_come Client old piece used s w limit new limits (ap (λ (z : StreamState). z.held) pass) (ap (λ (z : StreamState). z.count) pass) (ap (λ (z : StreamState). z.size) pass) refl refl refl
 
       left : s'.kept ≡ []
-      left = ap (λ (z : StreamState). z.kept) pass ∙ still
+      left = ap (λ (z : StreamState). z.kept) pass ∙ still Client old piece used s w none
 
       module _ (size : ℕ) (weighs : WeighsAtMost old.talk.limits.profile s size)
           (fits : 0 < size → WhereItStands old.talk (λ v client_rest server_rest. load v.client v.server + left_out old.turns + size ≤ old.talk.limits.waiting)) where
@@ -95,14 +70,14 @@ module _ (old : ThroughState) (piece : List ℕ) (limit : old.client.limit ≡ o
           w.advance.1,
           left,
           whole.0,
-          client_other old new piece used whole.0 passed_on size only fits (tells whole.0 whole.1) (ap left_out same) same (λ later. none (omega (arith, later, ap (λ (z : StreamState). z.count) w.stays)) whole.0 whole.1),
+          client_other old new piece used whole.0 passed_on refl refl size only fits (tells whole.0 whole.1) (ap left_out same) same (λ later. none (omega (arith, later, ap (λ (z : StreamState). z.count) w.stays)) whole.0 whole.1),
         )
         client_told (Some turn) more a none known =
             let t = a.1 whole.0 whole.1 in (
               w.advance.1,
               left,
               whole.0,
-              client_asks old new piece used whole.0 passed_on size only fits (tells whole.0 whole.1) (ap left_out more ∙ left_same (lane_of turn.xid) (and_turn old.turns.room turn) old.turns) t.0 (later a.0) room turn
+              client_asks old new piece used whole.0 passed_on refl refl size only fits (tells whole.0 whole.1) (ap left_out more ∙ left_same (lane_of turn.xid) (and_turn old.turns.room turn) old.turns) t.0 (begun_before Client old piece used s w a.0) room turn
                   (t.1 ∙ ap (λ (z : StreamState). turn_of (z.count, whole.0)) w.stays) (more ∙ ap (λ (z : Turn). with_waits (lane_of z.xid) (and_turn old.turns.room turn) old.turns) t.1) (λ lacked. known turn refl lacked),
             )
 
@@ -113,13 +88,13 @@ module _ (old : ThroughState) (piece : List ℕ) (limit : old.client.limit ≡ o
         let new : ThroughState = record old { client = s'; turns = turns } in
         let t = a.1 whole.0 whole.1 in
         let is_turn : turn ≡ turn_of (old.client.count, whole.0) = t.1 ∙ ap (λ (z : StreamState). turn_of (z.count, whole.0)) w.stays in
-        let c' = came new refl (ap (λ (z : StreamState). z.held) keep) (ap (λ (z : StreamState). z.count) keep) (ap (λ (z : StreamState). z.size) keep) refl refl refl refl refl in (
+        let c' = has_come Client old piece used s w limit new refl (ap (λ (z : StreamState). z.held) keep) (ap (λ (z : StreamState). z.count) keep) (ap (λ (z : StreamState). z.size) keep) refl refl refl in (
           w.advance.1,
           refl,
           whole.0,
           ap (λ (z : StreamState). z.kept) keep ∙ whole.1,
           is_turn,
-          client_lacks old new piece used whole.0 c' t.0 (later a.0) room refl turn is_turn (more ∙ ap (λ (z : Turn). record (with_waits (lane_of z.xid) (and_turn old.turns.room turn) old.turns) { left = old.turns.left + 1 }) t.1) lacked fits,
+          client_lacks old new piece used whole.0 c' refl refl t.0 (begun_before Client old piece used s w a.0) room refl turn is_turn (more ∙ ap (λ (z : Turn). record (with_waits (lane_of z.xid) (and_turn old.turns.room turn) old.turns) { left = old.turns.left + 1 }) t.1) lacked fits,
         )
 
     -- there is no room for it
@@ -135,7 +110,7 @@ module _ (old : ThroughState) (piece : List ℕ) (limit : old.client.limit ≡ o
             payload = whole.0;
             weight = weight;
             whole = is;
-            later = later some;
+            later = begun_before Client old piece used s w some;
             weighs = weighs;
             full = λ h c k M r v g. full (told k) M v [] [] r.stands g;
           },
@@ -154,10 +129,10 @@ module _ (old : ThroughState) (piece : List ℕ) (limit : old.client.limit ≡ o
         let y = (asks.1 more).found (omega (arith, more)) in
         (y.0, inr (y.1 whole.0 whole.1))
 
-    pub out_ahead : (ahead out : Option Turn) → IfSome ahead (λ turn. IsAhead 8 s (λ p. turn ≡ turn_of (s.count, p))) → IfSome out (λ turn. (ahead ≡ Some turn) × IsLacked old.talk.limits.profile turn) →
+    pub out_ahead : (profile : Profile) → profile ≡ old.talk.limits.profile → (ahead out : Option Turn) → IfSome ahead (λ turn. IsAhead 8 s (λ p. turn ≡ turn_of (s.count, p))) → IfSome out (λ turn. (ahead ≡ Some turn) × IsLacked profile turn) →
         IfSome out (λ turn. IsAhead 8 s (λ p. turn ≡ turn_of (s.count, p)) × IsLacked old.talk.limits.profile turn)
-    out_ahead ahead None a o = tt
-    out_ahead ahead (Some turn) a o = (subst (λ (z : Option Turn). IfSome z (λ t. IsAhead 8 s (λ p. t ≡ turn_of (s.count, p)))) o.0 a, o.1)
+    out_ahead profile same ahead None a o = tt
+    out_ahead profile same ahead (Some turn) a o = (subst (λ (z : Option Turn). IfSome z (λ t. IsAhead 8 s (λ p. t ≡ turn_of (s.count, p)))) o.0 a, subst (λ (z : Profile). IsLacked z turn) same o.1)
 
     -- the talk refused it: it is no request that there is room for
     pub client_refused : (size : ℕ) (e : Fault) (k : Option Fault) (s' : StreamState) (talk : TalkState) → WeighsAtMost old.talk.limits.profile s size →

@@ -1,5 +1,5 @@
 -- What a step of the server answers, by what its side became.
-use Rattle.std.proofs.Common.{◌≡◌, ℕ, ◌+◌, ◌<◌, ◌≤◌, ℤ, Bool, inl, inr, List, [], ◌++◌, length, take, drop, Option, Some, None, refl, sym, ap, ◌∙◌, subst, arith, true}
+use Rattle.std.proofs.Common.{◌≡◌, ℕ, ◌+◌, ◌≤◌, ℤ, Bool, inl, inr, List, [], ◌++◌, length, take, drop, Option, Some, None, refl, sym, ap, ◌∙◌, subst, arith, true}
 use Rattle.std.specs.Prelude.{slice_get, Ok}
 use Rattle.std.specs.Option.{IfSome, IfNone}
 use Rattle.zk_jute.specs.declared.fault.Reason.{Reason}
@@ -13,7 +13,7 @@ use Rattle.zk_talk.specs.History.{History}
 use Rattle.zk_talk.specs.Fault.{fault_of}
 use Rattle.zk_talk.specs.Stands.{TalkState}
 use Rattle.zk_talk.specs.Streams.{StreamState, passed, kept_now}
-use Rattle.zk_talk.specs.Receiving.{CameWithin, CameWhole, IsStopped as WasStopped}
+use Rattle.zk_talk.specs.Receiving.{CameWithin, CameWhole}
 use Rattle.zk_through.specs.declared.turn.Turn.{Turn}
 use Rattle.zk_through.specs.declared.through.Went.TheVariants as went
 use Rattle.zk_through.specs.LeftOut.{has_turn, xid_of}
@@ -23,12 +23,12 @@ use Rattle.zk_through.specs.Came.{Came}
 use Rattle.zk_through.specs.Unseen.{IsSeen}
 use Rattle.zk_through.specs.Turns.{TurnsState, IsEarlier, matched_on, matched_after, Judges, IsDue, IsLacked, IsBadTurn, TellsFrame, waits_on, with_waits, after_reply, after_answer, left_out}
 use Rattle.zk_through.specs.Runs.{ThroughState, WentOn, IsRefused, IsTold, IsNotTold, IsAhead, IsNotAhead, IsHeader, IsKeptAt, Runs}
-use Rattle.zk_through.proofs.Steps.{within_on_server, ServerCame}
+use Rattle.zk_through.proofs.Steps.{within_on_server, FrameCame, whole_frame, frame_is, has_come, still, begun_before}
 use Rattle.zk_through.proofs.AnsweringClient.{left_same}
 use Rattle.zk_through.proofs.Seen.{some_counts}
 use Rattle.zk_through.proofs.Earlier.{seen_other, seen_reply}
 use Rattle.zk_through.proofs.Outcomes.{server_other, server_answers, server_lacks, server_unseen}
-use Rattle.zk_through.proofs.Refusals.{refused_early, refused_told, refused_unasked, refused_turn}
+use Rattle.zk_through.proofs.Refusals.{refused_told, refused_unasked, refused_turn}
 
 module _ (old : ThroughState) (piece : List ℕ) (limit : old.server.limit ≡ old.talk.limits.server) (none : old.server.kept ≡ []) where
   pub server_within : (s : StreamState) → CameWithin old.server piece s → WentOn old Server piece (length piece) went.Within (record old { server = s })
@@ -38,47 +38,23 @@ module _ (old : ThroughState) (piece : List ℕ) (limit : old.server.limit ≡ o
     within_on_server old piece s (w.is ∙ ap (λ z. record old.server { held = z; size = old.server.size + length piece }) w.advance.0) (subst (λ z. IsBeginning z (old.server.held ++ piece)) limit w.advance.1),
   )
 
-  pub server_stopped : (e : Fault) (s : StreamState) (k : Option Fault) → WasStopped Server old.server piece e s → k ≡ Some e → IsRefused old Server piece e (record old { server = s; fault = k })
-  server_stopped e s k w kept = refused_early Server old (record old { server = s; fault = k }) piece e s limit w kept
-
   module _ (used : ℕ) (s : StreamState) (w : CameWhole old.server piece used s) where
-    whole : (p : List ℕ) × (s.held ≡ frame p) × (length p ≤ old.server.limit)
-    whole = w.advance.4
+    abbrev whole : (p : List ℕ) × (s.held ≡ frame p) × (length p ≤ old.server.limit)
+    whole = whole_frame Server old piece used s w
 
     is : old.server.held ++ take used piece ≡ frame whole.0
-    is = sym w.advance.3 ∙ whole.1
-
-    came : (new : ThroughState) → new.talk.limits ≡ old.talk.limits → new.server.held ≡ [] → new.server.count ≡ s.count + 1 → new.server.size ≡ s.size + used → new.client ≡ old.client → new.late ≡ old.late → new.fault ≡ old.fault → ServerCame old new piece used whole.0
-    came new limits held count size other late fault = record {
-      some = w.advance.0;
-      part = w.advance.1;
-      fits = omega (arith, whole.2, limit);
-      is = is;
-      limits = limits;
-      held = held;
-      count = count ∙ ap (λ (z : StreamState). z.count + 1) w.stays;
-      size = size ∙ ap (λ (z : StreamState). z.size + used) w.stays;
-      other = other;
-      late = late;
-      fault = fault;
-    }
-
-    still : s.kept ≡ []
-    still = ap (λ (z : StreamState). z.kept) w.stays ∙ none
-
-    later : 0 < s.count → 0 < old.server.count
-    later some = omega (arith, some, ap (λ (z : StreamState). z.count) w.stays)
+    is = frame_is Server old piece used s w
 
     -- the talk took the frame
     module _ (s' : StreamState) (talk : TalkState) (turns : TurnsState) (matched : Bool) (answered : Option ℕ) (pass : s' ≡ passed s used) (limits : talk.limits ≡ old.talk.limits) (tells : (p : List ℕ) → s.held ≡ frame p → IsTold old.talk Server p talk) where
       abbrev pub new : ThroughState
       new = record old { talk = talk; server = s'; turns = turns; matched = matched; answered = answered }
 
-      passed_on : ServerCame old new piece used whole.0
-      passed_on = came new limits (ap (λ (z : StreamState). z.held) pass) (ap (λ (z : StreamState). z.count) pass) (ap (λ (z : StreamState). z.size) pass) refl refl refl
+      passed_on : FrameCame Server old new piece used whole.0
+      passed_on = has_come Server old piece used s w limit new limits (ap (λ (z : StreamState). z.held) pass) (ap (λ (z : StreamState). z.count) pass) (ap (λ (z : StreamState). z.size) pass) refl refl refl
 
       left : s'.kept ≡ []
-      left = ap (λ (z : StreamState). z.kept) pass ∙ still
+      left = ap (λ (z : StreamState). z.kept) pass ∙ still Server old piece used s w none
 
       count : s.count ≡ old.server.count
       count = ap (λ (z : StreamState). z.count) w.stays
@@ -101,7 +77,7 @@ module _ (old : ThroughState) (piece : List ℕ) (limit : old.server.limit ≡ o
             w.advance.1,
             left,
             whole.0,
-            server_answers old new piece used whole.0 passed_on (tells whole.0 whole.1) (ap left_out less ∙ left_same (lane_of xid) (drop 1) old.turns) t.0 (later a.0) turn (subst (λ z. IsDue old.turns z turn) t.1 is_due) known
+            server_answers old new piece used whole.0 passed_on (tells whole.0 whole.1) (ap left_out less ∙ left_same (lane_of xid) (drop 1) old.turns) t.0 (begun_before Server old piece used s w a.0) turn (subst (λ z. IsDue old.turns z turn) t.1 is_due) known
                 (less ∙ ap (λ z. with_waits (lane_of z) (drop 1) old.turns) t.1) frame (subst (λ z. old.late ≡ true → IsEarlier old.matched old.turns (Some z) → ⊥) t.1 stays) (λ e. replies e ∙ ap (λ z. matched_on (lane_of z) old.matched) t.1),
           )
 
@@ -129,14 +105,14 @@ module _ (old : ThroughState) (piece : List ℕ) (limit : old.server.limit ≡ o
       server_left s' turns matched answered due keep less same is_due lacked frame stays replies =
           let new : ThroughState = record old { server = s'; turns = turns; matched = matched; answered = answered } in
           let is_xid : due.xid ≡ xid_of whole.0 = sym same ∙ xid_is in
-          let c' = came new refl (ap (λ (z : StreamState). z.held) keep) (ap (λ (z : StreamState). z.count) keep) (ap (λ (z : StreamState). z.size) keep) refl refl refl in (
+          let c' = has_come Server old piece used s w limit new refl (ap (λ (z : StreamState). z.held) keep) (ap (λ (z : StreamState). z.count) keep) (ap (λ (z : StreamState). z.size) keep) refl refl refl in (
             w.advance.1,
             refl,
             whole.0,
             ap (λ (z : StreamState). z.kept) keep ∙ whole.1,
             sym is_xid,
             is_due,
-            server_lacks old new piece used whole.0 c' turn (later a.0) refl due (subst (λ z. IsDue old.turns z due) is_xid is_due) lacked (less ∙ ap (λ z. after_answer z old.turns) is_xid) (sym is_xid) frame
+            server_lacks old new piece used whole.0 c' turn (begun_before Server old piece used s w a.0) refl due (subst (λ z. IsDue old.turns z due) is_xid is_due) lacked (less ∙ ap (λ z. after_answer z old.turns) is_xid) (sym is_xid) frame
                 (subst (λ z. old.late ≡ true → IsEarlier old.matched old.turns (Some z) → ⊥) xid_is stays) (λ e. replies e ∙ ap (λ z. matched_on (lane_of z) old.matched) xid_is),
           )
 
@@ -145,7 +121,7 @@ module _ (old : ThroughState) (piece : List ℕ) (limit : old.server.limit ≡ o
           WentOn old Server piece used (went.Unseen head.0 head.1 head.2) (record old { server = s'; matched = matched })
       server_passes_over s' matched head keep replies late earlier says =
           let new : ThroughState = record old { server = s'; matched = matched } in
-          let c' = came new refl (ap (λ (z : StreamState). z.held) keep) (ap (λ (z : StreamState). z.count) keep) (ap (λ (z : StreamState). z.size) keep) refl refl refl in
+          let c' = has_come Server old piece used s w limit new refl (ap (λ (z : StreamState). z.held) keep) (ap (λ (z : StreamState). z.count) keep) (ap (λ (z : StreamState). z.size) keep) refl refl refl in
           let same = says whole.0 whole.1 in (
             w.advance.1,
             refl,
@@ -154,7 +130,7 @@ module _ (old : ThroughState) (piece : List ℕ) (limit : old.server.limit ≡ o
             ap (λ (z : ℤ × ℤ × ℤ). z.0) same,
             ap (λ (z : ℤ × ℤ × ℤ). z.1) same,
             ap (λ (z : ℤ × ℤ × ℤ). z.2) same,
-            server_unseen old new piece used whole.0 c' late turn (later a.0) (subst (λ z. IsEarlier old.matched old.turns (Some z)) xid_is earlier) refl refl replies refl,
+            server_unseen old new piece used whole.0 c' late turn (begun_before Server old piece used s w a.0) (subst (λ z. IsEarlier old.matched old.turns (Some z)) xid_is earlier) refl refl replies refl,
           )
 
       -- none waits for it, or another's turn it is

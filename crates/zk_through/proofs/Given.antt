@@ -1,111 +1,78 @@
 -- What was left out last on a side is of no weight for what comes.
-use Rattle.std.proofs.Common.{◌≡◌, ℕ, inl, List, Some, None, refl, sym, ◌∙◌}
+use Rattle.std.proofs.Common.{◌≡◌, ℕ, ◌+◌, inl, List, [], ◌++◌, length, take, Some, None, refl, sym, ap, subst, ◌∙◌}
+use Rattle.std.specs.Prelude.{Result, IfOk, IfErr, OnErr}
+use Rattle.std.proofs.lemmas.Result.{IfErr-weaker, IfOk-weaker, on_err_weaker}
 use Rattle.zk_talk.specs.declared.message.Side.{Side}
 use Rattle.zk_talk.specs.declared.message.Side.TheVariants.{Client, Server}
 use Rattle.zk_talk.specs.declared.message.Fault.{Fault}
 use Rattle.zk_talk.specs.Held.{Message}
-use Rattle.zk_talk.specs.History.{History}
+use Rattle.zk_talk.specs.History.{History, side_bytes}
 use Rattle.zk_talk.specs.Viewed.{other_side}
 use Rattle.zk_through.specs.declared.through.Went.{Went}
+use Rattle.zk_through.specs.declared.through.Passed.{Passed}
 use Rattle.zk_through.specs.declared.through.Went.TheVariants as went
 use Rattle.zk_through.specs.Came.{Came}
-use Rattle.zk_through.specs.Runs.{ThroughState, Runs, WentOn, IsRefused, LeavesSide, KeepsWaiting, given_up}
+use Rattle.zk_through.specs.Runs.{ThroughState, Runs, WentOn, IsRefused, IsWhy, IsNeverFull, LeavesSide, KeepsWaiting, given_up, stream_on}
+use Rattle.zk_through.proofs.Steps.{with_streams}
+use Rattle.zk_through.proofs.Never.{never_full}
 
-runs_given : (side : Side) (t : ThroughState) (h : History) (c k : Came) (M : List Message) → Runs t h c k M → Runs (given_up side t) h c k M
-runs_given Client t h c k M r = record {
-  all = r.all;
-  frames = r.frames;
-  seen = r.seen;
-  kept = r.kept;
-  stands = r.stands;
-  alone = r.alone;
-  lanes = r.lanes;
-  few = r.few;
-  matched = r.matched;
-  answered = r.answered;
-  room = r.room;
-  client_count = r.client_count;
-  server_count = r.server_count;
-  client_size = r.client_size;
-  server_size = r.server_size;
-  no_fault = r.no_fault;
-}
-runs_given Server t h c k M r = record {
-  all = r.all;
-  frames = r.frames;
-  seen = r.seen;
-  kept = r.kept;
-  stands = r.stands;
-  alone = r.alone;
-  lanes = r.lanes;
-  few = r.few;
-  matched = r.matched;
-  answered = r.answered;
-  room = r.room;
-  client_count = r.client_count;
-  server_count = r.server_count;
-  client_size = r.client_size;
-  server_size = r.server_size;
-  no_fault = r.no_fault;
-}
+-- these bytes are kept of the sides
+abbrev keeping : ThroughState → List ℕ → List ℕ → ThroughState
+keeping t a b = record t { client = record t.client { kept = a }; server = record t.server { kept = b } }
+
+module _ (t : ThroughState) (a b : List ℕ) where
+  runs_keeping : (h : History) (c k : Came) (M : List Message) → Runs t h c k M → Runs (keeping t a b) h c k M
+  runs_keeping h c k M r =
+      with_streams t (record t.client { kept = a }) (record t.server { kept = b }) t.late t.matched h h c k M r r.all r.frames r.seen r.matched (r.client_count, r.server_count) (r.client_size, r.server_size)
+
+  went_keeping : (side : Side) (piece : List ℕ) (used : ℕ) (w : Went) (new : ThroughState) → WentOn (keeping t a b) side piece used w new → WentOn t side piece used w new
+  unfolding runs_keeping with_streams
+  went_keeping side piece used went.Within new x = (x.0, x.1, λ h c k M r. x.2 h c k M (runs_keeping h c k M r))
+  went_keeping side piece used went.Message new x = (x.0, x.1, x.2, λ h c k M r. x.3 h c k M (runs_keeping h c k M r))
+  went_keeping side piece used (went.Asked turn) new x = (x.0, x.1, x.2, x.3, x.4, λ h c k M r. x.5 h c k M (runs_keeping h c k M r))
+  went_keeping side piece used (went.Answered turn) new x = (x.0, x.1, x.2, x.3, x.4, x.5, λ h c k M r. x.6 h c k M (runs_keeping h c k M r))
+  went_keeping side piece used (went.Unseen xid zxid err) new x = (x.0, x.1, x.2, x.3, x.4, x.5, x.6, (x.7.0, λ h c k M r. x.7.1 h c k M (runs_keeping h c k M r)))
+  went_keeping side piece used went.Full new x = (
+    x.0,
+    x.1,
+    x.2,
+    record {
+      part = x.3.part;
+      payload = x.3.payload;
+      weight = x.3.weight;
+      whole = x.3.whole;
+      later = x.3.later;
+      weighs = x.3.weighs;
+      full = λ h c k M r. x.3.full h c k M (runs_keeping h c k M r);
+    },
+    λ h c k M r. x.4 h c k M (runs_keeping h c k M r),
+  )
+
+  held_keeping : (side : Side) → (stream_on side (keeping t a b)).held ≡ (stream_on side t).held
+  held_keeping Client = refl
+  held_keeping Server = refl
+
+  refused_keeping : (side : Side) (piece : List ℕ) (e : Fault) (new : ThroughState) → IsRefused (keeping t a b) side piece e new → IsRefused t side piece e new
+  unfolding runs_keeping with_streams
+  refused_keeping side piece e new x = (
+    x.0,
+    λ h c k M r.
+        let y = x.1 h c k M (runs_keeping h c k M r) in
+        record {
+          used = y.used;
+          part = y.part;
+          told = y.told;
+          why = subst (λ z. IsWhy t.talk.limits t.late c k side (length (side_bytes side h) + y.used) (z ++ take y.used piece) e.place e.reason) (held_keeping side) y.why;
+        },
+  )
 
 pub given_went : (side : Side) (old : ThroughState) (piece : List ℕ) (used : ℕ) (w : Went) (new : ThroughState) → WentOn (given_up side old) side piece used w new → WentOn old side piece used w new
-unfolding runs_given
-given_went Client old piece used went.Within new x = (x.0, x.1, λ h c k M r. x.2 h c k M (runs_given Client old h c k M r))
-given_went Server old piece used went.Within new x = (x.0, x.1, λ h c k M r. x.2 h c k M (runs_given Server old h c k M r))
-given_went Client old piece used went.Message new x = (x.0, x.1, x.2, λ h c k M r. x.3 h c k M (runs_given Client old h c k M r))
-given_went Server old piece used went.Message new x = (x.0, x.1, x.2, λ h c k M r. x.3 h c k M (runs_given Server old h c k M r))
-given_went Client old piece used (went.Asked turn) new x = (x.0, x.1, x.2, x.3, x.4, λ h c k M r. x.5 h c k M (runs_given Client old h c k M r))
-given_went Server old piece used (went.Asked turn) new x = (x.0, x.1, x.2, x.3, x.4, λ h c k M r. x.5 h c k M (runs_given Server old h c k M r))
-given_went Client old piece used (went.Answered turn) new x = (x.0, x.1, x.2, x.3, x.4, x.5, λ h c k M r. x.6 h c k M (runs_given Client old h c k M r))
-given_went Server old piece used (went.Answered turn) new x = (x.0, x.1, x.2, x.3, x.4, x.5, λ h c k M r. x.6 h c k M (runs_given Server old h c k M r))
-given_went Client old piece used (went.Unseen xid zxid err) new x = (x.0, x.1, x.2, x.3, x.4, x.5, x.6, (x.7.0, λ h c k M r. x.7.1 h c k M (runs_given Client old h c k M r)))
-given_went Client old piece used went.Full new x = (
-  x.0,
-  x.1,
-  x.2,
-  record {
-    part = x.3.part;
-    payload = x.3.payload;
-    weight = x.3.weight;
-    whole = x.3.whole;
-    later = x.3.later;
-    weighs = x.3.weighs;
-    full = λ h c k M r. x.3.full h c k M (runs_given Client old h c k M r);
-  },
-  λ h c k M r. x.4 h c k M (runs_given Client old h c k M r),
-)
-given_went Server old piece used (went.Unseen xid zxid err) new x = (x.0, x.1, x.2, x.3, x.4, x.5, x.6, (x.7.0, λ h c k M r. x.7.1 h c k M (runs_given Server old h c k M r)))
-given_went Server old piece used went.Full new x = (
-  x.0,
-  x.1,
-  x.2,
-  record {
-    part = x.3.part;
-    payload = x.3.payload;
-    weight = x.3.weight;
-    whole = x.3.whole;
-    later = x.3.later;
-    weighs = x.3.weighs;
-    full = λ h c k M r. x.3.full h c k M (runs_given Server old h c k M r);
-  },
-  λ h c k M r. x.4 h c k M (runs_given Server old h c k M r),
-)
+given_went Client old = went_keeping old [] old.server.kept Client
+given_went Server old = went_keeping old old.client.kept [] Server
 
 pub given_refused : (side : Side) (old : ThroughState) (piece : List ℕ) (e : Fault) (new : ThroughState) → IsRefused (given_up side old) side piece e new → IsRefused old side piece e new
-unfolding runs_given
-given_refused Client old piece e new x = (
-  x.0,
-  λ h c k M r.
-      let y = x.1 h c k M (runs_given Client old h c k M r) in
-      record { used = y.used; part = y.part; told = y.told; why = y.why },
-)
-given_refused Server old piece e new x = (
-  x.0,
-  λ h c k M r.
-      let y = x.1 h c k M (runs_given Server old h c k M r) in
-      record { used = y.used; part = y.part; told = y.told; why = y.why },
-)
+given_refused Client old = refused_keeping old [] old.server.kept Client
+given_refused Server old = refused_keeping old old.client.kept [] Server
 
 pub given_leaves : (side : Side) (old new : ThroughState) → LeavesSide (other_side side) (given_up side old) new → LeavesSide (other_side side) old new
 given_leaves Client old new x = x
@@ -128,3 +95,32 @@ fault_stays Server t = refl
 
 pub kept_refused : (side : Side) (old : ThroughState) (piece : List ℕ) (f : Fault) → old.fault ≡ Some f → IsRefused old side piece f (given_up side old)
 kept_refused side old piece f e = (sym (fault_stays side old) ∙ e, λ h c k M r. absurd (some_none f (sym e ∙ r.no_fault)))
+
+-- what a side's step did, after what was left out on the side was given up
+module _ (side own : Side) (at : side ≡ own) (old given new : ThroughState) (gave : given ≡ given_up side old) (piece : List ℕ) where
+  gave_own : given ≡ given_up own old
+  gave_own = gave ∙ ap (λ z. given_up z old) at
+
+  refused_own : (e : Fault) → IsRefused given own piece e new → IsRefused old own piece e new
+  refused_own e x = given_refused own old piece e new (subst (λ (z : ThroughState). IsRefused z own piece e new) gave_own x)
+
+  pub went_then : (result : Result Passed Fault) → IfOk result (λ s. WentOn given own piece s.used s.went new) → IfOk result (λ s. WentOn old side piece s.used s.went new)
+  went_then result x =
+      subst (λ z. IfOk result (λ s. WentOn old z piece s.used s.went new)) (sym at)
+      (IfOk-weaker result _ _ (λ s y. given_went own old piece s.used s.went new (subst (λ (z : ThroughState). WentOn z own piece s.used s.went new) gave_own y)) x)
+
+  pub refused_then : (result : Result Passed Fault) → IfErr result (λ e. IsRefused given own piece e new) → IfErr result (λ e. IsRefused old side piece e new)
+  refused_then result x = subst (λ z. IfErr result (λ e. IsRefused old z piece e new)) (sym at) (IfErr-weaker result _ _ refused_own x)
+
+  pub room_then : (result : Result Passed Fault) → IfErr result (λ e. IsRefused given own piece e new) → IfErr result (λ e. IsNeverFull old e)
+  room_then result x = IfErr-weaker result _ _ (λ e y. never_full own old piece e new (refused_own e y)) x
+
+  pub leaves_then : LeavesSide (other_side own) given new → LeavesSide (other_side side) old new
+  leaves_then x = subst (λ z. LeavesSide (other_side z) old new) (sym at) (given_leaves own old new (subst (λ (z : ThroughState). LeavesSide (other_side own) z new) gave_own x))
+
+  pub waits_then : (result : Result Passed Fault) → OnErr result (KeepsWaiting given new) → OnErr result (KeepsWaiting old new)
+  waits_then result x = on_err_weaker result (waits_given own) (subst (λ (z : ThroughState). OnErr result (KeepsWaiting z new)) gave_own x)
+    where
+      waits_given : (own : Side) → KeepsWaiting (given_up own old) new → KeepsWaiting old new
+      waits_given Client y = y
+      waits_given Server y = y

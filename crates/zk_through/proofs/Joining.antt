@@ -15,6 +15,7 @@ use Rattle.zk_through.specs.LeftOut.{is_on}
 use Rattle.zk_through.specs.Unseen.{SeenAfter, Seen, made_up}
 use Rattle.zk_through.specs.Runs.{ThroughState, Runs, GoesOnTold}
 use Rattle.zk_through.proofs.Frames.{no_payloads, of_client, of_server, past_client, its_server}
+use Rattle.zk_through.proofs.Steps.{with_streams}
 use Rattle.zk_through.proofs.Telling.{bytes_more}
 use Rattle.zk_talk.proofs.Replays.{own_bytes}
 
@@ -89,21 +90,8 @@ module _ (begun asked joined : ThroughState) (p q : List ℕ) (late : joined.lat
       (after.0, runs)
     where
       made_late : Runs (record joined { late = true; matched = false }) history ((Client, p) ∷ (Server, q) ∷ []) ((Client, p) ∷ (Server, q) ∷ []) after.0
-      made_late = record {
-        all = after.1.all;
-        frames = after.1.frames;
-        seen = subst (λ (z : Came). SeenAfter [] z ((Client, p) ∷ (Server, q) ∷ [])) (sym all_is) (pair_seen p q);
-        kept = after.1.kept;
-        stands = after.1.stands;
-        alone = after.1.alone;
-        lanes = after.1.lanes;
-        few = after.1.few;
-        matched = λ e. ap (λ z. length (filter (is_on Plain 16) (drop 1 z))) (past_client p ((Server, q) ∷ []) ∙ its_server q [] ∙ ap (λ z. q ∷ z) (no_payloads Server));
-        answered = after.1.answered;
-        room = after.1.room;
-        client_count = after.1.client_count;
-        server_count = after.1.server_count;
-        client_size = after.1.client_size;
-        server_size = after.1.server_size;
-        no_fault = after.1.no_fault;
-      }
+      made_late =
+          with_streams joined joined.client joined.server true false history history ((Client, p) ∷ (Server, q) ∷ []) ((Client, p) ∷ (Server, q) ∷ []) after.0 after.1 after.1.all after.1.frames
+          (subst (λ (z : Came). SeenAfter [] z ((Client, p) ∷ (Server, q) ∷ [])) (sym all_is) (pair_seen p q))
+          (λ e. ap (λ z. length (filter (is_on Plain 16) (drop 1 z))) (past_client p ((Server, q) ∷ []) ∙ its_server q [] ∙ ap (λ z. q ∷ z) (no_payloads Server)))
+          (after.1.client_count, after.1.server_count) (after.1.client_size, after.1.server_size)

@@ -270,52 +270,15 @@ are_on profile t a Auth = a.auths
 are_on profile t a Watches = a.of_watches
 are_on profile t a Plain = a.of_plain
 
+are_left : (profile : Profile) (t : TurnsState) (ping auth watches plain : ℕ) → AreLacked profile t.ping ping → AreLacked profile t.auth auth → AreLacked profile t.watches watches → AreLacked profile t.plain plain → t.left ≡ ping + auth + watches + plain → AreLeft profile t
+are_left profile t ping auth watches plain pings auths of_watches of_plain all = record { ping = ping; auth = auth; watches = watches; plain = plain; pings = pings; auths = auths; of_watches = of_watches; of_plain = of_plain; all = all }
+
 left_with : (profile : Profile) (l : Lane) (f : List Turn → List Turn) (t : TurnsState) (a : AreLeft profile t) (left n : ℕ) → AreLacked profile (f (waits_on l t)) n → left + left_on profile t a l ≡ t.left + n →
     AreLeft profile (record (with_waits l f t) { left = left })
-left_with profile Ping f t a left n x e = record {
-  ping = n;
-  auth = a.auth;
-  watches = a.watches;
-  plain = a.plain;
-  pings = x;
-  auths = a.auths;
-  of_watches = a.of_watches;
-  of_plain = a.of_plain;
-  all = omega (arith, a.all, e);
-}
-left_with profile Auth f t a left n x e = record {
-  ping = a.ping;
-  auth = n;
-  watches = a.watches;
-  plain = a.plain;
-  pings = a.pings;
-  auths = x;
-  of_watches = a.of_watches;
-  of_plain = a.of_plain;
-  all = omega (arith, a.all, e);
-}
-left_with profile Watches f t a left n x e = record {
-  ping = a.ping;
-  auth = a.auth;
-  watches = n;
-  plain = a.plain;
-  pings = a.pings;
-  auths = a.auths;
-  of_watches = x;
-  of_plain = a.of_plain;
-  all = omega (arith, a.all, e);
-}
-left_with profile Plain f t a left n x e = record {
-  ping = a.ping;
-  auth = a.auth;
-  watches = a.watches;
-  plain = n;
-  pings = a.pings;
-  auths = a.auths;
-  of_watches = a.of_watches;
-  of_plain = x;
-  all = omega (arith, a.all, e);
-}
+left_with profile Ping f t a left n x e = are_left profile _ n a.auth a.watches a.plain x a.auths a.of_watches a.of_plain (omega (arith, a.all, e))
+left_with profile Auth f t a left n x e = are_left profile _ a.ping n a.watches a.plain a.pings x a.of_watches a.of_plain (omega (arith, a.all, e))
+left_with profile Watches f t a left n x e = are_left profile _ a.ping a.auth n a.plain a.pings a.auths x a.of_plain (omega (arith, a.all, e))
+left_with profile Plain f t a left n x e = are_left profile _ a.ping a.auth a.watches n a.pings a.auths a.of_watches x (omega (arith, a.all, e))
 
 -- ---- The frame's lane
 pub on_none : (lane : Lane) (size : ℕ) (p : List ℕ) → has_turn size p ≡ false → is_on lane size p ≡ false

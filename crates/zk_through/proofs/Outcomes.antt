@@ -4,16 +4,17 @@ use Rattle.std.proofs.lemmas.List.{append-nil}
 use Rattle.std.proofs.lemmas.Option.{slice_get_within}
 use Rattle.zk_frames.specs.Framing.{frame}
 use Rattle.zk_waiting.specs.Waiting.{count_of}
+use Rattle.zk_talk.specs.declared.message.Side.{Side}
 use Rattle.zk_talk.specs.declared.message.Side.TheVariants.{Client, Server}
 use Rattle.zk_talk.specs.Held.{Message}
 use Rattle.zk_talk.specs.History.{History, on}
-use Rattle.zk_talk.specs.Conversation.{load}
+use Rattle.zk_talk.specs.Conversation.{Conversation, load}
 use Rattle.zk_talk.specs.Good.{Good}
 use Rattle.zk_talk.specs.Stands.{TalkState, Stands, WhereItStands}
 use Rattle.zk_talk.specs.Viewed.{Shows}
 use Rattle.zk_through.specs.declared.turn.Turn.{Turn}
 use Rattle.zk_through.specs.Came.{Came, payloads, told}
-use Rattle.zk_through.specs.LeftOut.{xid_of, has_turn, lane_in, IsForeign, IsLeftOut, AnswersAfter}
+use Rattle.zk_through.specs.LeftOut.{xid_of, has_turn, lane_in, IsForeign, IsLeftOut, Kept, AnswersAfter, NewestAnswers}
 use Rattle.zk_through.specs.Unseen.{IsUnseen, IsSeen, TellsMatched}
 use Rattle.zk_through.specs.Turns.{AreLanes, IsDue, IsLacked, IsEarlier, matched_on, turn_of, waits_on, with_waits, and_turn, left_out, number_of_turns}
 use Rattle.zk_through.specs.Runs.{ThroughState, Runs, GoesOn, GoesOnTold, PassesOver, IsTold, IsRequestOf}
@@ -23,8 +24,9 @@ use Rattle.zk_through.proofs.Fitting.{its_good}
 use Rattle.zk_through.proofs.Rooms.{with_one, without_one, waits_fit, kept_client, one_more, weighs_some, load_client, one_less, kept_server, load_server}
 use Rattle.zk_through.proofs.Counts.{not_both}
 use Rattle.zk_through.proofs.Seen.{client_counts, none_counts, server_some, some_counts}
-use Rattle.zk_through.proofs.Earlier.{to_earlier, seen_other, seen_reply, matched_other, matched_reply}
-use Rattle.zk_through.proofs.Steps.{ClientCame, client_came, ServerCame, server_came, over_came}
+use Rattle.zk_through.proofs.Earlier.{to_earlier, seen_other, seen_reply, matched_client, matched_other, matched_reply}
+use Rattle.zk_through.proofs.Steps.{FrameCame, frame_came, over_came}
+use Rattle.zk_through.proofs.Newest.{newest_client, newest_server}
 
 pub counted : (n : ℕ) (P : List (List ℕ)) → n ≡ length P → P ≢ [] → 0 < n
 counted n [] e some = absurd (some refl)
@@ -34,7 +36,31 @@ fitting : (a b left n m : ℕ) → a ≤ b + n → b + left ≤ m → (0 < n →
 fitting a b left zero m less before after = omega (arith, less, before)
 fitting a b left (suc n) m less before after = omega (arith, less, after (omega arith))
 
-module _ (old new : ThroughState) (piece : List ℕ) (used : ℕ) (p : List ℕ) (x : ClientCame old new piece used p) where
+-- the talk was told the side's frame, which isn't left out
+module _ (side : Side) (old new : ThroughState) (used : List ℕ) (p : List ℕ) (tells : IsTold old.talk side p new.talk) where
+  told_on : ((h : History) (c k : Came) (M : List Message) (r : Runs old h c k M) (m : Message) → Shows new.talk side m → (st : Stands new.talk (told k ++ on side (frame p)) (M ++ m ∷ [])) →
+      (new.talk.client_held ≡ []) → (new.talk.server_held ≡ []) →
+      (IsLeftOut old.talk.limits.profile c (side, p) → ⊥) × (Kept old.talk.limits.profile (c ++ (side, p) ∷ []) (k ++ (side, p) ∷ []) → Stands new.talk (told (k ++ (side, p) ∷ [])) (M ++ m ∷ []) →
+      Runs new (h ++ on side used) (c ++ (side, p) ∷ []) (k ++ (side, p) ∷ []) (M ++ m ∷ []))) → GoesOnTold old side used p new
+  told_on more h c k M r =
+      let t = tells (told k) M r.stands r.alone.0 r.alone.1 in
+      let y = more h c k M r t.0 t.1 t.2 t.3 t.4 in
+      (t.0, t.1, y.1 (kept_told old.talk.limits.profile (side, p) [] c k r.kept y.0) (subst (λ z. Stands new.talk z (M ++ t.0 ∷ [])) (sym (told-push k (side, p))) t.2))
+
+-- no more frames or messages are as those so far
+unchanged : (new : ThroughState) (h : History) (c k : Came) (M : List Message) → Runs new h c k M → Runs new h c (k ++ []) (M ++ [])
+unchanged new h c k M runs = subst (λ z. Runs new h c z (M ++ [])) (sym (append-nil k)) (subst (λ z. Runs new h c k z) (sym (append-nil M)) runs)
+
+-- ---- The client's
+module _ (old new : ThroughState) (piece : List ℕ) (used : ℕ) (p : List ℕ) (x : FrameCame Client old new piece used p) (matched : new.matched ≡ old.matched) (answered : new.answered ≡ old.answered) where
+  client_came : (h : History) (c k : Came) (M : List Message) → Runs old h c k M → (k' : Came) (M' : List Message) →
+      Kept old.talk.limits.profile (c ++ (Client, p) ∷ []) k' → Stands new.talk (told k') M' → (new.talk.client_held ≡ []) × (new.talk.server_held ≡ []) → AreLanes old.talk.limits.profile (c ++ (Client, p) ∷ []) new.turns →
+      ((v : Conversation) → Good old.talk.limits (told k') v [] [] → load v.client v.server + left_out new.turns ≤ old.talk.limits.waiting) → number_of_turns new.turns ≤ count_of new.talk.waiting + left_out new.turns →
+      Runs new (h ++ on Client (take used piece)) (c ++ (Client, p) ∷ []) k' M'
+  client_came h c k M r k' M' kept stands alone lanes room few =
+      frame_came old new piece used p Client x h c k M r k' M' kept stands alone lanes room few (subst (NewestAnswers (c ++ (Client, p) ∷ [])) (sym answered) (newest_client c old.answered p r.answered)) (λ e u. u)
+      (λ e. subst (λ z. TellsMatched z (c ++ (Client, p) ∷ [])) (sym matched) (matched_client old.matched c p (r.matched (sym x.late ∙ e))))
+
   -- the talk is told the frame, which isn't left out
   module _ (size : ℕ) (only : 0 < old.client.count → (n : ℕ) → IsRequestOf old.talk.limits.profile p n → n ≤ size)
       (fits : 0 < size → WhereItStands old.talk (λ v client_rest server_rest. load v.client v.server + left_out old.turns + size ≤ old.talk.limits.waiting))
@@ -43,18 +69,15 @@ module _ (old new : ThroughState) (piece : List ℕ) (used : ℕ) (p : List ℕ)
         (new.talk.client_held ≡ []) → (new.talk.server_held ≡ []) →
         (IsLeftOut old.talk.limits.profile c (Client, p) → ⊥) × AreLanes old.talk.limits.profile (c ++ (Client, p) ∷ []) new.turns × (number_of_turns new.turns ≤ count_of new.talk.waiting + left_out new.turns)) →
         GoesOnTold old Client (take used piece) p new
-    told_client more h c k M r =
-        let t = tells (told k) M r.stands r.alone.0 r.alone.1 in
-        let stands = subst (λ z. Stands new.talk z (M ++ t.0 ∷ [])) (sym (told-push k (Client, p))) t.2 in
-        let y = more h c k M r t.0 t.1 t.2 t.3 t.4 in
-        let kept = kept_told old.talk.limits.profile (Client, p) [] c k r.kept y.0 in (
-          t.0,
-          t.1,
-          client_came old new piece used p x h c k M r (k ++ (Client, p) ∷ []) (M ++ t.0 ∷ []) kept stands (t.3, t.4) y.1
+    told_client more =
+        told_on Client old new (take used piece) p tells (λ h c k M r m shows st ch sh.
+        let y = more h c k M r m shows st ch sh in (
+          y.0,
+          λ kept stands. client_came h c k M r (k ++ (Client, p) ∷ []) (M ++ m ∷ []) kept stands (ch, sh) y.1
               (λ v g.
               let w = r.stands.conversation in
               let g' = subst (λ z. Good old.talk.limits z v [] []) (told-push k (Client, p)) g in
-              let less = load_client old h c k M r new.talk x.limits t.3 t.4 p x.fits t.0 t.1 t.2 size only v g' in
+              let less = load_client old h c k M r new.talk x.limits ch sh p x.fits m shows st size only v g' in
               omega (
                 arith,
                 left,
@@ -62,7 +85,7 @@ module _ (old new : ThroughState) (piece : List ℕ) (used : ℕ) (p : List ℕ)
                     (λ some. fits some (told k) M w [] [] r.stands (its_good old h c k M r)),
               ))
               y.2,
-        )
+        ))
 
     -- one that is the first, or of no lane
     pub client_other : new.turns ≡ old.turns → (0 < old.client.count → has_turn 8 p ≡ false) → GoesOnTold old Client (take used piece) p new
@@ -105,12 +128,10 @@ module _ (old new : ThroughState) (piece : List ℕ) (used : ℕ) (p : List ℕ)
       let alone : (new.talk.client_held ≡ []) × (new.talk.server_held ≡ []) = (ap (λ (z : TalkState). z.client_held) same ∙ r.alone.0, ap (λ (z : TalkState). z.server_held) same ∙ r.alone.1) in
       let few : number_of_turns new.turns ≤ count_of new.talk.waiting + left_out new.turns =
       omega (arith, r.few, left, ap number_of_turns more, with_one (lane_in p) asks old.turns, ap (λ (z : TalkState). count_of z.waiting) same) in
-      let runs = client_came old new piece used p x h c k M r k M kept stands alone lanes (λ v g. omega (arith, left, fits (told k) M v [] [] r.stands g)) few in
-      subst (λ z. Runs new (h ++ on Client (take used piece)) (c ++ (Client, p) ∷ []) z (M ++ [])) (sym (append-nil k))
-      (subst (λ z. Runs new (h ++ on Client (take used piece)) (c ++ (Client, p) ∷ []) k z) (sym (append-nil M)) runs)
+      unchanged new (h ++ on Client (take used piece)) (c ++ (Client, p) ∷ []) k M (client_came h c k M r k M kept stands alone lanes (λ v g. omega (arith, left, fits (told k) M v [] [] r.stands g)) few)
 
 -- ---- The server's
-module _ (old new : ThroughState) (piece : List ℕ) (used : ℕ) (q : List ℕ) (x : ServerCame old new piece used q) where
+module _ (old new : ThroughState) (piece : List ℕ) (used : ℕ) (q : List ℕ) (x : FrameCame Server old new piece used q) where
   its_late : new.late ≡ true → old.late ≡ true
   its_late e = sym x.late ∙ e
 
@@ -121,19 +142,16 @@ module _ (old new : ThroughState) (piece : List ℕ) (used : ℕ) (q : List ℕ)
         (IsLeftOut old.talk.limits.profile c (Server, q) → ⊥) × AreLanes old.talk.limits.profile (c ++ (Server, q) ∷ []) new.turns × (number_of_turns new.turns ≤ count_of new.talk.waiting + left_out new.turns) × AnswersAfter c q new.answered × IsSeen old.late c (Server, q) ×
         (new.late ≡ true → TellsMatched new.matched (c ++ (Server, q) ∷ []))) →
         GoesOnTold old Server (take used piece) q new
-    told_server more h c k M r =
-        let t = tells (told k) M r.stands r.alone.0 r.alone.1 in
-        let stands = subst (λ z. Stands new.talk z (M ++ t.0 ∷ [])) (sym (told-push k (Server, q))) t.2 in
-        let y = more h c k M r t.0 t.1 t.2 t.3 t.4 in
-        let kept = kept_told old.talk.limits.profile (Server, q) [] c k r.kept y.0 in (
-          t.0,
-          t.1,
-          server_came old new piece used q x h c k M r (k ++ (Server, q) ∷ []) (M ++ t.0 ∷ []) kept stands (t.3, t.4) y.1
+    told_server more =
+        told_on Server old new (take used piece) q tells (λ h c k M r m shows st ch sh.
+        let y = more h c k M r m shows st ch sh in (
+          y.0,
+          λ kept stands. frame_came old new piece used q Server x h c k M r (k ++ (Server, q) ∷ []) (M ++ m ∷ []) kept stands (ch, sh) y.1
               (λ v g.
               let g' = subst (λ z. Good old.talk.limits z v [] []) (told-push k (Server, q)) g in
-              omega (arith, load_server old h c k M r new.talk x.limits t.3 t.4 q x.fits t.0 t.1 t.2 v g', left, r.room r.stands.conversation (its_good old h c k M r)))
-              y.2 y.3 y.4 y.5,
-        )
+              omega (arith, load_server old h c k M r new.talk x.limits ch sh q x.fits m shows st v g', left, r.room r.stands.conversation (its_good old h c k M r)))
+              y.2 (newest_server c new.answered q y.3) y.4 y.5,
+        ))
 
     -- a frame that is the first, or no reply
     pub server_other : new.turns ≡ old.turns → (old.late ≡ true → new.matched ≡ old.matched) → (0 < old.server.count → has_turn 16 q ≡ false) → (old.server.count ≡ 0 → new.answered ≡ Some 0) → (old.server.count ≢ 0 → new.answered ≡ None) → GoesOnTold old Server (take used piece) q new
@@ -187,12 +205,11 @@ module _ (old new : ThroughState) (piece : List ℕ) (used : ℕ) (q : List ℕ)
       let alone : (new.talk.client_held ≡ []) × (new.talk.server_held ≡ []) = (ap (λ (z : TalkState). z.client_held) same ∙ r.alone.0, ap (λ (z : TalkState). z.server_held) same ∙ r.alone.1) in
       let few : number_of_turns new.turns ≤ count_of new.talk.waiting + left_out new.turns =
       omega (arith, r.few, left, ap number_of_turns less, without_one (lane_in q) old.turns waits, some_left old.talk.limits.profile c old.turns q r.lanes turn some due is lacked, ap (λ (z : TalkState). count_of z.waiting) same) in
-      let runs = server_came old new piece used q x h c k M r k M kept stands alone lanes (λ v g. omega (arith, left, r.room v g)) few
-      (subst (AnswersAfter c q) (sym answered) (inr (some, turn, y.0, y.1, ap (λ (z : Turn). z.frame) y.2)))
+      unchanged new (h ++ on Server (take used piece)) (c ++ (Server, q) ∷ []) k M
+      (frame_came old new piece used q Server x h c k M r k M kept stands alone lanes (λ v g. omega (arith, left, r.room v g)) few
+      (newest_server c new.answered q (subst (AnswersAfter c q) (sym answered) (inr (some, turn, y.0, y.1, ap (λ (z : Turn). z.frame) y.2))))
       (seen_reply old.talk.limits.profile c old.turns r.lanes old.matched old.late r.matched q (xid_of q) refl stays)
-      (λ e. subst (λ z. TellsMatched z (c ++ (Server, q) ∷ [])) (sym (replies (its_late e))) (matched_reply old.matched c q (r.matched (its_late e)) turn some)) in
-      subst (λ z. Runs new (h ++ on Server (take used piece)) (c ++ (Server, q) ∷ []) z (M ++ [])) (sym (append-nil k))
-      (subst (λ z. Runs new (h ++ on Server (take used piece)) (c ++ (Server, q) ∷ []) k z) (sym (append-nil M)) runs)
+      (λ e. subst (λ z. TellsMatched z (c ++ (Server, q) ∷ [])) (sym (replies (its_late e))) (matched_reply old.matched c q (r.matched (its_late e)) turn some)))
 
   -- a reply to a request that wasn't seen is passed over
   pub server_unseen : old.late ≡ true → has_turn 16 q ≡ true → 0 < old.server.count → IsEarlier old.matched old.turns (Some (xid_of q)) → new.talk ≡ old.talk → new.turns ≡ old.turns → new.matched ≡ old.matched →

@@ -1,5 +1,5 @@
 -- What waits weighs no more than may, those that are left out too; and each lane has room for it.
-use Rattle.std.proofs.Common.{◌≡◌, ◌≢◌, ℕ, ◌+◌, ◌-◌, ◌<◌, ◌≤◌, List, [], ◌∷◌, ◌++◌, length, drop, refl, sym, ap, ◌∙◌, subst, arith, false}
+use Rattle.std.proofs.Common.{◌≡◌, ◌≢◌, ℕ, ◌+◌, ◌-◌, ◌^◌, ◌<◌, ◌≤◌, map, List, [], ◌∷◌, ◌++◌, length, drop, refl, sym, ap, ◌∙◌, subst, arith, false}
 use Rattle.std.proofs.lemmas.List.{append-nil, map-append, same_from_push, length_push, length-drop}
 use Rattle.zk_records.specs.declared.profile.Profile.{Profile}
 use Rattle.zk_asks.specs.Held.{ClientFrame}
@@ -59,6 +59,15 @@ in_lane Watches t = omega arith
 in_lane Plain t = omega arith
 
 -- ---- Those of the talk
+-- the payload of the frame that a side has more, where its bytes are those of a frame more
+its_payload : {F : Type 0} (limit : ℕ) (bytes p : List ℕ) (payload : F → List ℕ) (old new : List F) (f : F) → limit < 2 ^ 31 → IsCut limit bytes (map payload old) [] → length p ≤ limit → IsCut limit (bytes ++ frame p) (map payload new) [] → new ≡ old ++ f ∷ [] →
+    payload f ≡ p
+its_payload limit bytes p payload old new f small before fits after one =
+    let P = map payload old in
+    let cut = subst (λ z. IsCut limit z (map payload new) []) (ap (λ z. z ++ frame p) (before.whole ∙ append-nil (frames P))) after in
+    let w = whole_frame limit bytes P (map payload new) [] p [] small before fits cut in
+    (same_from_push P P (payload f) p (sym (map-append payload old (f ∷ [])) ∙ ap (map payload) (sym one) ∙ w.0)).1
+
 no_weight : (f : ClientFrame) → IsFirst f → 0 ≡ weight f
 no_weight (Connect hello read_only) first = refl
 no_weight (Ask xid ask) first = absurd first
@@ -98,22 +107,13 @@ module _ (t : ThroughState) (h : History) (c k : Came) (M : List Message) (r : R
       told_client : (m : Message) → Shows new Client m → (st : Stands new (told k ++ on Client (frame p)) (M ++ m ∷ [])) → ToldClient t.talk.limits r.stands.conversation st.conversation p
       told_client (FromServer s) shows st = absurd shows
       told_client (FromClient f) shows st =
-          let limits = t.talk.limits in
           let old = r.stands.conversation in
-          let v = st.conversation in
           let g0 = its_good t h c k M r in
           let g = good_now (told k ++ on Client (frame p)) (M ++ FromClient f ∷ []) st in
-          let ec : v.client ≡ old.client ++ f ∷ [] = sym st.order.client ∙ clients-append M (FromClient f ∷ []) ∙ ap (λ z. z ++ f ∷ []) r.stands.order.client in
-          let es : v.server ≡ old.server = sym st.order.server ∙ servers-append M (FromClient f ∷ []) ∙ append-nil (servers M) ∙ r.stands.order.server in
-          let cut = subst (λ z. IsCut limits.client z (client_payloads v.client) []) (bytes_more Client (told k) (frame p) ∙ ap (λ z. z ++ frame p) (g0.whole.client_cut.whole ∙ append-nil (frames (client_payloads old.client)))) g.whole.client_cut in
-          let w = whole_frame limits.client (side_bytes Client (told k)) (client_payloads old.client) (client_payloads v.client) [] p [] (small_limits limits).0 g0.whole.client_cut fits cut in
-          record {
-            f = f;
-            client = ec;
-            server = es;
-            may = g.conversation.client old.client f [] ec;
-            payload = (same_from_push (client_payloads old.client) (client_payloads old.client) (client_payload f) p (sym (map-append client_payload old.client (f ∷ [])) ∙ ap client_payloads (sym ec) ∙ w.0)).1;
-          }
+          let ec : st.conversation.client ≡ old.client ++ f ∷ [] = sym st.order.client ∙ clients-append M (FromClient f ∷ []) ∙ ap (λ z. z ++ f ∷ []) r.stands.order.client in
+          let es : st.conversation.server ≡ old.server = sym st.order.server ∙ servers-append M (FromClient f ∷ []) ∙ append-nil (servers M) ∙ r.stands.order.server in
+          let payload = its_payload t.talk.limits.client (side_bytes Client (told k)) p client_payload old.client st.conversation.client f (small_limits t.talk.limits).0 g0.whole.client_cut fits (subst (λ z. IsCut t.talk.limits.client z (client_payloads st.conversation.client) []) (bytes_more Client (told k) (frame p)) g.whole.client_cut) ec in
+          record { f = f; client = ec; server = es; may = g.conversation.client old.client f [] ec; payload = payload }
 
       module _ (m : Message) (shows : Shows new Client m) (st : Stands new (told k ++ on Client (frame p)) (M ++ m ∷ [])) where
         its : ToldClient t.talk.limits r.stands.conversation st.conversation p
@@ -157,22 +157,13 @@ module _ (t : ThroughState) (h : History) (c k : Came) (M : List Message) (r : R
       told_server : (m : Message) → Shows new Server m → (st : Stands new (told k ++ on Server (frame q)) (M ++ m ∷ [])) → ToldServer r.stands.conversation st.conversation q
       told_server (FromClient f) shows st = absurd shows
       told_server (FromServer s) shows st =
-          let limits = t.talk.limits in
           let old = r.stands.conversation in
-          let v = st.conversation in
           let g0 = its_good t h c k M r in
           let g = good_now (told k ++ on Server (frame q)) (M ++ FromServer s ∷ []) st in
-          let ec : v.client ≡ old.client = sym st.order.client ∙ clients-append M (FromServer s ∷ []) ∙ append-nil (clients M) ∙ r.stands.order.client in
-          let es : v.server ≡ old.server ++ s ∷ [] = sym st.order.server ∙ servers-append M (FromServer s ∷ []) ∙ ap (λ z. z ++ s ∷ []) r.stands.order.server in
-          let cut = subst (λ z. IsCut limits.server z (server_payloads v.server) []) (bytes_more Server (told k) (frame q) ∙ ap (λ z. z ++ frame q) (g0.whole.server_cut.whole ∙ append-nil (frames (server_payloads old.server)))) g.whole.server_cut in
-          let w = whole_frame limits.server (side_bytes Server (told k)) (server_payloads old.server) (server_payloads v.server) [] q [] (small_limits limits).1 g0.whole.server_cut fits cut in
-          record {
-            s = s;
-            client = ec;
-            server = es;
-            may = g.conversation.server old.server s [] es;
-            payload = (same_from_push (server_payloads old.server) (server_payloads old.server) (server_payload s) q (sym (map-append server_payload old.server (s ∷ [])) ∙ ap server_payloads (sym es) ∙ w.0)).1;
-          }
+          let ec : st.conversation.client ≡ old.client = sym st.order.client ∙ clients-append M (FromServer s ∷ []) ∙ append-nil (clients M) ∙ r.stands.order.client in
+          let es : st.conversation.server ≡ old.server ++ s ∷ [] = sym st.order.server ∙ servers-append M (FromServer s ∷ []) ∙ ap (λ z. z ++ s ∷ []) r.stands.order.server in
+          let payload = its_payload t.talk.limits.server (side_bytes Server (told k)) q server_payload old.server st.conversation.server s (small_limits t.talk.limits).1 g0.whole.server_cut fits (subst (λ z. IsCut t.talk.limits.server z (server_payloads st.conversation.server) []) (bytes_more Server (told k) (frame q)) g.whole.server_cut) es in
+          record { s = s; client = ec; server = es; may = g.conversation.server old.server s [] es; payload = payload }
 
       module _ (m : Message) (shows : Shows new Server m) (st : Stands new (told k ++ on Server (frame q)) (M ++ m ∷ [])) where
         theirs : ToldServer r.stands.conversation st.conversation q

@@ -10,7 +10,9 @@ use Rattle.zk_talk.specs.declared.limits.Limits.{Limits}
 use Rattle.zk_talk.specs.History.{History, side_bytes, on}
 use Rattle.zk_talk.specs.Good.{client_payloads, server_payloads, clients, servers}
 use Rattle.zk_talk.specs.Held.{Message}
-use Rattle.zk_talk.specs.Stands.{TalkState, Stands}
+use Rattle.zk_talk.specs.Stands.{TalkState, Stands, held_on}
+use Rattle.zk_talk.specs.Viewed.{other_side}
+use Rattle.zk_talk.specs.Conversation.{Conversation}
 use Rattle.zk_talk.specs.Taking.{StepsOn}
 use Rattle.zk_talk.specs.Fault.{side_limit}
 use Rattle.zk_talk.proofs.Histories.{side_bytes-append}
@@ -51,74 +53,63 @@ module _ (limit : ℕ) (bytes p : List ℕ) (P P' : List (List ℕ)) (small : li
       omega (arith, ap length (same ∙ r.0), length-append P (p ∷ []))
 
 -- ---- The talk
-module _ (old new : TalkState) (p : List ℕ) (used : ℕ) (same : new.limits ≡ old.limits) where
-  client_cut : (h : History) (M : List Message) (st : Stands new h M) → IsCut old.limits.client (side_bytes Client h) (client_payloads st.conversation.client) new.client_held
-  client_cut h M st = subst (λ (l : Limits). IsCut l.client (side_bytes Client h) (client_payloads st.conversation.client) new.client_held) same st.good.whole.client_cut
+abbrev payloads_on : Side → Conversation → List (List ℕ)
+payloads_on Client v = client_payloads v.client
+payloads_on Server v = server_payloads v.server
 
-  server_cut : (h : History) (M : List Message) (st : Stands new h M) → IsCut old.limits.server (side_bytes Server h) (server_payloads st.conversation.server) new.server_held
-  server_cut h M st = subst (λ (l : Limits). IsCut l.server (side_bytes Server h) (server_payloads st.conversation.server) new.server_held) same st.good.whole.server_cut
+both_held : (side : Side) (t : TalkState) → held_on side t ≡ [] → held_on (other_side side) t ≡ [] → (t.client_held ≡ []) × (t.server_held ≡ [])
+both_held Client t own other = (own, other)
+both_held Server t own other = (other, own)
+
+module _ (old new : TalkState) (p : List ℕ) (used : ℕ) (same : new.limits ≡ old.limits) where
+  cut_on : (side : Side) (h : History) (M : List Message) (st : Stands new h M) → IsCut (side_limit old.limits side) (side_bytes side h) (payloads_on side st.conversation) (held_on side new)
+  cut_on Client h M st = subst (λ (l : Limits). IsCut l.client (side_bytes Client h) (client_payloads st.conversation.client) new.client_held) same st.good.whole.client_cut
+  cut_on Server h M st = subst (λ (l : Limits). IsCut l.server (side_bytes Server h) (server_payloads st.conversation.server) new.server_held) same st.good.whole.server_cut
+
+  small_on : AreSmall old.limits → (side : Side) → side_limit old.limits side < 2 ^ 31
+  small_on small Client = small.0
+  small_on small Server = small.1
 
   module _ (small : AreSmall old.limits) (h : History) (M : List Message) (st : Stands old h M) (ce : old.client_held ≡ []) (se : old.server_held ≡ []) where
-    old_client : IsCut old.limits.client (side_bytes Client h) (client_payloads st.conversation.client) []
-    old_client = subst (λ z. IsCut old.limits.client (side_bytes Client h) (client_payloads st.conversation.client) z) ce st.good.whole.client_cut
+    old_on : (side : Side) → IsCut (side_limit old.limits side) (side_bytes side h) (payloads_on side st.conversation) []
+    old_on Client = subst (λ z. IsCut old.limits.client (side_bytes Client h) (client_payloads st.conversation.client) z) ce st.good.whole.client_cut
+    old_on Server = subst (λ z. IsCut old.limits.server (side_bytes Server h) (server_payloads st.conversation.server) z) se st.good.whole.server_cut
 
-    old_server : IsCut old.limits.server (side_bytes Server h) (server_payloads st.conversation.server) []
-    old_server = subst (λ z. IsCut old.limits.server (side_bytes Server h) (server_payloads st.conversation.server) z) se st.good.whole.server_cut
+    -- the other side is still at the end of a frame
+    still : (side : Side) (bs : List ℕ) (N : List Message) → Stands new (h ++ on side bs) N → held_on (other_side side) new ≡ []
+    still side bs N st' =
+        let other = other_side side in
+        let y = subst (λ z. IsCut (side_limit old.limits other) z (payloads_on other st'.conversation) (held_on other new)) (other-on side bs h) (cut_on other (h ++ on side bs) N st') in
+        (same_cut (side_limit old.limits other) _ _ _ _ _ (small_on small other) y (old_on other)).1
 
-    client_still : (bs : List ℕ) (N : List Message) → Stands new (h ++ on Server bs) N → new.client_held ≡ []
-    client_still bs N st' =
-        let y = subst (λ z. IsCut old.limits.client z (client_payloads st'.conversation.client) new.client_held) (other-on Server bs h) (client_cut (h ++ on Server bs) N st') in
-        (same_cut old.limits.client _ _ _ _ _ small.0 y old_client).1
+    module _ (side : Side) (fits : length p ≤ side_limit old.limits side) where
+      cut_more : (bs : List ℕ) (N : List Message) (st' : Stands new (h ++ on side bs) N) → IsCut (side_limit old.limits side) (side_bytes side h ++ bs) (payloads_on side st'.conversation) (held_on side new)
+      cut_more bs N st' = subst (λ z. IsCut (side_limit old.limits side) z (payloads_on side st'.conversation) (held_on side new)) (bytes_more side h bs) (cut_on side (h ++ on side bs) N st')
 
-    server_still : (bs : List ℕ) (N : List Message) → Stands new (h ++ on Client bs) N → new.server_held ≡ []
-    server_still bs N st' =
-        let y = subst (λ z. IsCut old.limits.server z (server_payloads st'.conversation.server) new.server_held) (other-on Client bs h) (server_cut (h ++ on Client bs) N st') in
-        (same_cut old.limits.server _ _ _ _ _ small.1 y old_server).1
+      all_on : 0 < used → used ≤ length (frame p) → (N : List Message) → held_on side new ≡ [] → Stands new (h ++ on side (take used (frame p))) N → take used (frame p) ≡ frame p
+      all_on some part N none st' =
+          let t = take used (frame p) in
+          all_of_it (side_limit old.limits side) (side_bytes side h) p (payloads_on side st.conversation) (payloads_on side st'.conversation) (small_on small side) fits (old_on side) used some part
+          (subst (λ z. IsCut (side_limit old.limits side) (side_bytes side h ++ t) (payloads_on side st'.conversation) z) none (cut_more t N st'))
 
-    client_all : length p ≤ old.limits.client → 0 < used → used ≤ length (frame p) → (N : List Message) → new.client_held ≡ [] → Stands new (h ++ on Client (take used (frame p))) N → take used (frame p) ≡ frame p
-    client_all fits some part N none st' =
-        let t = take used (frame p) in
-        let P' = client_payloads st'.conversation.client in
-        let y = subst (λ z. IsCut old.limits.client z P' new.client_held) (bytes_more Client h t) (client_cut (h ++ on Client t) N st') in
-        all_of_it old.limits.client (side_bytes Client h) p (client_payloads st.conversation.client) P' small.0 fits old_client used some part (subst (λ z. IsCut old.limits.client (side_bytes Client h ++ t) P' z) none y)
-
-    server_all : length p ≤ old.limits.server → 0 < used → used ≤ length (frame p) → (N : List Message) → new.server_held ≡ [] → Stands new (h ++ on Server (take used (frame p))) N → take used (frame p) ≡ frame p
-    server_all fits some part N none st' =
-        let t = take used (frame p) in
-        let P' = server_payloads st'.conversation.server in
-        let y = subst (λ z. IsCut old.limits.server z P' new.server_held) (bytes_more Server h t) (server_cut (h ++ on Server t) N st') in
-        all_of_it old.limits.server (side_bytes Server h) p (server_payloads st.conversation.server) P' small.1 fits old_server used some part (subst (λ z. IsCut old.limits.server (side_bytes Server h ++ t) P' z) none y)
-
-    client_not : length p ≤ old.limits.client → Stands new (h ++ on Client (frame p)) (M ++ []) → ⊥
-    client_not fits st' =
-        let P' = client_payloads st'.conversation.client in
-        let y = subst (λ z. IsCut old.limits.client z P' new.client_held) (bytes_more Client h (frame p)) (client_cut (h ++ on Client (frame p)) (M ++ []) st') in
-        let e = sym st.order.client ∙ ap clients (sym (append-nil M)) ∙ st'.order.client in
-        not_same old.limits.client (side_bytes Client h) p (client_payloads st.conversation.client) P' small.0 fits old_client new.client_held (ap client_payloads e) y
-
-    server_not : length p ≤ old.limits.server → Stands new (h ++ on Server (frame p)) (M ++ []) → ⊥
-    server_not fits st' =
-        let P' = server_payloads st'.conversation.server in
-        let y = subst (λ z. IsCut old.limits.server z P' new.server_held) (bytes_more Server h (frame p)) (server_cut (h ++ on Server (frame p)) (M ++ []) st') in
-        let e = sym st.order.server ∙ ap servers (sym (append-nil M)) ∙ st'.order.server in
-        not_same old.limits.server (side_bytes Server h) p (server_payloads st.conversation.server) P' small.1 fits old_server new.server_held (ap server_payloads e) y
+      not_on : Stands new (h ++ on side (frame p)) (M ++ []) → ⊥
+      not_on st' =
+          not_same (side_limit old.limits side) (side_bytes side h) p (payloads_on side st.conversation) (payloads_on side st'.conversation) (small_on small side) fits (old_on side) (held_on side new) (alike side) (cut_more (frame p) (M ++ []) st')
+        where
+          alike : (side : Side) → payloads_on side st.conversation ≡ payloads_on side st'.conversation
+          alike Client = ap client_payloads (sym st.order.client ∙ ap clients (sym (append-nil M)) ∙ st'.order.client)
+          alike Server = ap server_payloads (sym st.order.server ∙ ap servers (sym (append-nil M)) ∙ st'.order.server)
 
   take_whole : used ≡ length (frame p) → take used (frame p) ≡ frame p
   take_whole e = take_all used (frame p) (omega (arith, e))
 
   -- a whole frame is told to its end
   pub told_whole : AreSmall old.limits → (side : Side) (whole : Bool) → length p ≤ side_limit old.limits side → StepsOn old side (frame p) used whole new → (whole ≡ false → used ≡ length (frame p)) → IsTold old side p new
-  told_whole small Client true fits s _ h M st ce se =
+  told_whole small side true fits s _ h M st ce se =
       let m = s.2 in
       let st' = m.1 h M st in
-      let all = client_all small h M st ce se fits (s.1 (omega (arith, length-frame p))) s.0 (M ++ m.0 ∷ []) m.3 st' in
-      (m.0, m.2, subst (λ z. Stands new (h ++ on Client z) (M ++ m.0 ∷ [])) all st', m.3, server_still small h M st ce se (take used (frame p)) (M ++ m.0 ∷ []) st')
-  told_whole small Server true fits s _ h M st ce se =
-      let m = s.2 in
-      let st' = m.1 h M st in
-      let all = server_all small h M st ce se fits (s.1 (omega (arith, length-frame p))) s.0 (M ++ m.0 ∷ []) m.3 st' in
-      (m.0, m.2, subst (λ z. Stands new (h ++ on Server z) (M ++ m.0 ∷ [])) all st', client_still small h M st ce se (take used (frame p)) (M ++ m.0 ∷ []) st', m.3)
-  told_whole small Client false fits s all h M st ce se =
-      absurd (client_not small h M st ce se fits (subst (λ z. Stands new (h ++ on Client z) (M ++ [])) (take_whole (all refl)) (s.2.0 h M st)))
-  told_whole small Server false fits s all h M st ce se =
-      absurd (server_not small h M st ce se fits (subst (λ z. Stands new (h ++ on Server z) (M ++ [])) (take_whole (all refl)) (s.2.0 h M st)))
+      let held = both_held side new m.3 (still small h M st ce se side (take used (frame p)) (M ++ m.0 ∷ []) st') in
+      let all = all_on small h M st ce se side fits (s.1 (omega (arith, length-frame p))) s.0 (M ++ m.0 ∷ []) m.3 st' in
+      (m.0, m.2, subst (λ z. Stands new (h ++ on side z) (M ++ m.0 ∷ [])) all st', held.0, held.1)
+  told_whole small side false fits s all h M st ce se =
+      absurd (not_on small h M st ce se side fits (subst (λ z. Stands new (h ++ on side z) (M ++ [])) (take_whole (all refl)) (s.2.0 h M st)))

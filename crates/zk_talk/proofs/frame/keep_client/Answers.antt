@@ -1,13 +1,11 @@
-use Rattle.std.proofs.Common.{ℕ, subst, sym, ap, ◌∙◌, ◌+◌}
+use Rattle.std.proofs.Common.{subst, sym, ap, ◌∙◌, ◌+◌}
 use Rattle.std.proofs.lemmas.Result.{err_from_is_err_and}
 use Rattle.zk_jute.proofs.Judged.{says_more}
 use Rattle.zk_frames.specs.Framing.{frame}
 use Rattle.zk_talk.specs.Streams.{StreamState}
 use Rattle.zk_talk.specs.Viewed.{ShowsClient}
-use Rattle.zk_talk.specs.Judged.{IsNumbered}
 use Rattle.zk_talk.proofs.Viewing.{client_shown}
-use Rattle.zk_talk.proofs.Seen.{payload_small, client_seen, client_told}
-use Rattle.zk_talk.proofs.Settling.{room_before}
+use Rattle.zk_talk.proofs.Seen.{payload_small, client_passes, client_told}
 use Rattle.zk_talk.proofs.frame.keep_client.Goals as goal
 
 pub await_ask-requires : goal.await_ask-requires
@@ -20,16 +18,8 @@ returns-in_err-await_ask-clause-fault g c =
 
 pub returns-clause-found : goal.returns-clause-found
 returns-clause-found g c =
-    let found = c.in_ok-await_ask.ensures.found in
-    let f = found.0 in
-    let k = found.1 in
+    let k = c.in_ok-await_ask.ensures.found in
     let old = c.args.stream.now in
-    let w = c.args.waiting.now in
-    let shows = client_shown c.count-count.result old.held f c.args.profile k.turn k.sent (c.payload.ensures ∙ ap frame (sym k.is)) in (
-      f,
-      (
-        client_seen old c.args.used c.count-count.result c.requires c.payload.result.now c.payload.ensures c.count-count.ensures w c.args.profile f k.turn k.sent k.is (room_before c.count-count.result f w c.await_ask.new.waiting k.waits),
-        subst (λ (n : ℕ). IsNumbered n f w c.await_ask.new.waiting) c.count-count.ensures k.waits,
-        subst (λ (z : StreamState). ShowsClient z.count z.kept f) (sym c.keep.ensures) (subst (λ n. ShowsClient (n + 1) old.held f) c.count-count.ensures shows),
-      ),
-    )
+    let next = client_passes old c.args.used c.count-count.result c.requires c.payload.result.now c.payload.ensures c.count-count.ensures c.args.waiting.now c.args.profile c.await_ask.new.waiting k in
+    let shows = client_shown c.count-count.result old.held k.0 c.args.profile k.1.turn k.1.sent (c.payload.ensures ∙ ap frame (sym k.1.is)) in
+    (k.0, (next.0, next.1, subst (λ (z : StreamState). ShowsClient z.count z.kept k.0) (sym c.keep.ensures) (subst (λ n. ShowsClient (n + 1) old.held k.0) c.count-count.ensures shows)))

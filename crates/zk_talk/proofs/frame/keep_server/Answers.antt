@@ -4,7 +4,7 @@ use Rattle.zk_jute.proofs.Judged.{says_more}
 use Rattle.zk_frames.specs.Framing.{frame}
 use Rattle.zk_talk.specs.Streams.{StreamState}
 use Rattle.zk_talk.specs.Viewed.{ShowsServer}
-use Rattle.zk_talk.proofs.Seen.{server_seen, server_told}
+use Rattle.zk_talk.proofs.Seen.{server_passes, server_told}
 use Rattle.zk_talk.proofs.Viewing.{server_shown}
 use Rattle.zk_talk.proofs.frame.keep_server.Goals as goal
 
@@ -15,19 +15,10 @@ returns-in_err-answered-clause-fault g c =
 
 pub returns-clause-found : goal.returns-clause-found
 returns-clause-found g c =
-    let found = c.in_ok-answered.ensures.found in
-    let s = found.0 in
-    let k = found.1 in
     let answered = c.in_ok-answered.answered in
+    let k = c.in_ok-answered.ensures.found in
     let old = c.args.stream.now in
-    let w = c.args.waiting.now in
-    let shows = server_shown c.count.result old.held s w answered k.told k.due k.turn k.sent (c.payload.ensures ∙ ap frame (sym k.is)) in
-    let counted = subst (λ n. ShowsServer (n + 1) answered old.held s) c.count.ensures shows in (
-      s,
-      (
-        server_seen old c.args.used c.count.result c.requires c.payload.result.now c.payload.ensures c.count.ensures w c.args.asked s k.due k.is k.may,
-        k.forgotten,
-        subst (λ (z : StreamState). ShowsServer z.count answered z.kept s) (sym c.keep.ensures) counted,
-        k.told,
-      ),
-    )
+    let next = server_passes old c.args.used c.count.result c.requires c.payload.result.now c.payload.ensures c.count.ensures c.args.waiting.now c.args.asked answered _ k in
+    let shows = server_shown c.count.result old.held k.0 c.args.waiting.now answered k.1.told k.1.due k.1.turn k.1.sent (c.payload.ensures ∙ ap frame (sym k.1.is)) in
+    let counted = subst (λ n. ShowsServer (n + 1) answered old.held k.0) c.count.ensures shows in
+    (k.0, (next.0, next.1, subst (λ (z : StreamState). ShowsServer z.count answered z.kept k.0) (sym c.keep.ensures) counted, k.1.told))

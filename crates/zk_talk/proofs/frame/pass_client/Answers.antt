@@ -1,10 +1,8 @@
-use Rattle.std.proofs.Common.{ℕ, take, subst}
+use Rattle.std.proofs.Common.{take}
 use Rattle.std.proofs.lemmas.Result.{err_from_is_err_and}
 use Rattle.zk_jute.proofs.Judged.{says_more}
 use Rattle.zk_talk.specs.Streams.{held_in}
-use Rattle.zk_talk.specs.Judged.{IsNumbered}
-use Rattle.zk_talk.proofs.Seen.{payload_small, client_seen, client_told}
-use Rattle.zk_talk.proofs.Settling.{room_before}
+use Rattle.zk_talk.proofs.Seen.{payload_small, client_passes, client_told}
 use Rattle.zk_talk.proofs.frame.pass_client.Goals as goal
 
 pub await_ask-requires : goal.await_ask-requires
@@ -19,10 +17,6 @@ returns-in_err-await_ask-clause-fault g c =
 
 pub returns-clause-found : goal.returns-clause-found
 returns-clause-found g c =
-    let found = c.in_ok-await_ask.ensures.found in
-    let f = found.0 in
-    let k = found.1 in
+    let k = c.in_ok-await_ask.ensures.found in
     let old = held_in c.args.stream.now (take c.args.used c.args.piece.now) in
-    let w = c.args.waiting.now in
-    let next = client_seen old c.args.used c.count-count.result c.requires.front c.carried.result.now c.carried.ensures c.count-count.ensures w c.args.profile f k.turn k.sent k.is (room_before c.count-count.result f w c.await_ask.new.waiting k.waits) in
-    (f, (next, subst (λ (n : ℕ). IsNumbered n f w c.await_ask.new.waiting) c.count-count.ensures k.waits))
+    (k.0, client_passes old c.args.used c.count-count.result c.requires.front c.carried.result.now c.carried.ensures c.count-count.ensures c.args.waiting.now c.args.profile c.await_ask.new.waiting k)

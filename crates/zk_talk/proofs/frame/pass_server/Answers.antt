@@ -2,7 +2,7 @@ use Rattle.std.proofs.Common.{take}
 use Rattle.std.proofs.lemmas.Result.{err_from_is_err_and}
 use Rattle.zk_jute.proofs.Judged.{says_more}
 use Rattle.zk_talk.specs.Streams.{held_in}
-use Rattle.zk_talk.proofs.Seen.{server_seen, server_told}
+use Rattle.zk_talk.proofs.Seen.{server_passes, server_told}
 use Rattle.zk_talk.proofs.frame.pass_server.Goals as goal
 
 pub returns-in_err-settle-clause-fault : goal.returns-in_err-settle-clause-fault
@@ -13,10 +13,6 @@ returns-in_err-settle-clause-fault g c =
 
 pub returns-clause-found : goal.returns-clause-found
 returns-clause-found g c =
-    let found = c.in_ok-settle.ensures.found in
-    let s = found.0 in
-    let k = found.1 in
+    let k = c.in_ok-settle.ensures.found in
     let old = held_in c.args.stream.now (take c.args.used c.args.piece.now) in
-    let w = c.args.waiting.now in
-    let next = server_seen old c.args.used c.count.result c.requires.front c.carried.result.now c.carried.ensures c.count.ensures w c.args.asked s k.due k.is k.may in
-    (s, (next, k.forgotten))
+    (k.0, server_passes old c.args.used c.count.result c.requires.front c.carried.result.now c.carried.ensures c.count.ensures c.args.waiting.now c.args.asked _ _ k)

@@ -1,8 +1,7 @@
-use Rattle.std.proofs.Common.{◌≡◌, ◌≤◌, ◌<◌, length, arith, true, false, subst, inr}
+use Rattle.std.proofs.Common.{◌≤◌, ◌<◌, length, arith, subst, inr}
 use Rattle.std.proofs.lemmas.Bool.{true_from_ne_false}
 use Rattle.zk_records.specs.declared.profile.Profile.{Profile}
 use Rattle.zk_talk.specs.Judged.{IsInTurn, IsTurnFault, HasRoomFor}
-use Rattle.zk_talk.specs.Settled.{IsAsking}
 use Rattle.zk_talk.proofs.SayingPayloads.{client_payload_said, client_payload_stands, client_payload_long, client_payload_full, client_payload_item, not_true, spoken_frames}
 use Rattle.zk_talk.proofs.payload.say_client_payload.Goals as goal
 
@@ -25,35 +24,26 @@ returns-then-payload-client-clause-err c =
 pub returns-then-not-has_room-clause-err : goal.returns-then-not-has_room-clause-err
 returns-then-not-has_room-clause-err c =
     let n = c.from-count.result in
-    let p = c.args.payload.now in
-    let w = c.args.waiting.now in
     let k = c.in-Ok.ensures.found in
     let turn = subst (λ (z : Profile). IsInTurn z n k.0) c.profile.ensures k.1.turn in
-    let small : length p ≤ c.args.limits.client = omega (arith, c.if-payload-client.false, c.client.ensures) in
-    let asks : IsAsking c.in-Ok.ask p k.0 = (k.1.asks, k.1.sent, k.1.is) in
-    let off : c.has_room.result ≡ false = cc in
-    let none : HasRoomFor k.0 w → ⊥ = λ room. not_true c.has_room.result off ((c.has_room.ensures k.0 asks).1 room) in
-    inr (client_payload_full c.args.limits c.args.asked n (spoken_frames c.args.asked n c.from-count.ensures) w p k.0 turn k.1.sent k.1.is c.requires.room small none)
+    let small : length c.args.payload.now ≤ c.args.limits.client = omega (arith, c.if-payload-client.false, c.client.ensures) in
+    let none : HasRoomFor k.0 c.args.waiting.now → ⊥ = λ room. not_true c.has_room.result (cc) ((c.has_room.ensures k.0 (k.1.asks, k.1.sent, k.1.is)).1 room) in
+    inr (client_payload_full c.args.limits c.args.asked n (spoken_frames c.args.asked n c.from-count.ensures) c.args.waiting.now c.args.payload.now k.0 turn k.1.sent k.1.is c.requires.room small none)
 
 pub returns-in_default-clause-lacks : goal.returns-in_default-clause-lacks
 returns-in_default-clause-lacks c =
     let n = c.from-count.result in
-    let p = c.args.payload.now in
     let k = c.in-Ok.ensures.found in
     let turn = subst (λ (z : Profile). IsInTurn z n k.0) c.profile.ensures k.1.turn in
-    let small : length p ≤ c.args.limits.client = omega (arith, c.if-payload-client.false, c.client.ensures) in
-    λ wanting. client_payload_stands c.args.limits c.args.asked n (spoken_frames c.args.asked n c.from-count.ensures) c.args.waiting.now p k.0 turn k.1.sent k.1.is small
+    let small : length c.args.payload.now ≤ c.args.limits.client = omega (arith, c.if-payload-client.false, c.client.ensures) in
+    λ wanting. client_payload_stands c.args.limits c.args.asked n (spoken_frames c.args.asked n c.from-count.ensures) c.args.waiting.now c.args.payload.now k.0 turn k.1.sent k.1.is small
 
 pub returns-clause-said : goal.returns-clause-said
 returns-clause-said c =
     let n = c.from-count.result in
-    let p = c.args.payload.now in
-    let w = c.args.waiting.now in
     let k = c.in-Ok.ensures.found in
     let turn = subst (λ (z : Profile). IsInTurn z n k.0) c.profile.ensures k.1.turn in
-    let small : length p ≤ c.args.limits.client = omega (arith, c.if-payload-client.false, c.client.ensures) in
-    let asks : IsAsking c.in-Ok.ask p k.0 = (k.1.asks, k.1.sent, k.1.is) in
-    let on : c.has_room.result ≡ true = cc in
-    let room = (c.has_room.ensures k.0 asks).0 on in
-    let put = c.put_asked.ensures.put (true_from_ne_false c.put_asked.result (λ no. c.put_asked.ensures.full no k.0 asks room)) k.0 asks in
-    client_payload_said c.args.limits c.args.asked n (spoken_frames c.args.asked n c.from-count.ensures) w p k.0 turn k.1.sent k.1.is c.put_asked.new.waiting c.requires.room small put
+    let small : length c.args.payload.now ≤ c.args.limits.client = omega (arith, c.if-payload-client.false, c.client.ensures) in
+    let room = (c.has_room.ensures k.0 (k.1.asks, k.1.sent, k.1.is)).0 (true_from_ne_false c.has_room.result (λ (off : _). cc)) in
+    let put = c.put_asked.ensures.put (true_from_ne_false c.put_asked.result (λ no. c.put_asked.ensures.full no k.0 (k.1.asks, k.1.sent, k.1.is) room)) k.0 (k.1.asks, k.1.sent, k.1.is) in
+    client_payload_said c.args.limits c.args.asked n (spoken_frames c.args.asked n c.from-count.ensures) c.args.waiting.now c.args.payload.now k.0 turn k.1.sent k.1.is c.put_asked.new.waiting c.requires.room small put

@@ -14,30 +14,25 @@ pub returns-in_default-clause-ok : goal.returns-in_default-clause-ok
 returns-in_default-clause-ok c =
     let T = the_view c.self.inside in
     let r = received c.args.side _ _ _ _ _ c.in_default.is c.in_ok-used-in-Client.ensures.received in
-    let w = r.0 in
     let none : T.client_kept ≡ [] = ap (λ (z : TalkState). z.client_kept) c.self.view_is ∙ subst (λ side. kept_on side c.args.self.now ≡ []) c.in-Client.is c.requires.given_up in
-    let more = goes Client T c.args.piece.now (record c.self.inside.client { held = w.held }) c.receive.new.stream c.self.invariant.0.same refl w.advance w.is in
-    rw (c.in-Client.is, ← c.self.view_is, r.1) (omega arith, (λ l. l), (more, ap (λ (z : StreamState). z.kept) w.is ∙ none))
+    let more = goes Client T c.args.piece.now (record c.self.inside.client { held = r.0.held }) c.receive.new.stream c.self.invariant.0.same refl r.0.advance r.0.is in
+    rw (c.in-Client.is, ← c.self.view_is, r.1) (omega arith, (λ l. l), (more, ap (λ (z : StreamState). z.kept) r.0.is ∙ none))
 
 pub returns-in-Ok-clause-ok : goal.returns-in-Ok-clause-ok
 returns-in-Ok-clause-ok c =
     let T = the_view c.self.inside in
     let s = c.receive.new.stream in
     let r = received c.args.side _ _ _ _ _ c.in-Some.is c.in_ok-used-in-Client.ensures.received in
-    let w = r.0 in
     let f = c.in-Ok.ensures.found in
     let next = subst (λ z. IsNextClient z s.count T.waiting (drop 4 s.held) f.0) c.profile-profile.ensures f.1.0 in
-    rw (c.in-Client.is, ← c.self.view_is, r.1) (w.advance.1, (λ l. w.advance.0), keeps Client T c.args.piece.now s c.keep_client.new.stream c.self.invariant.0.same w.stays c.in-Some.used w.advance c.self.invariant.2 T.answered (FromClient f.0) c.keep_client.new.waiting (next, f.1.1) refl f.1.2 c.in-Ok.ensures.kept)
+    rw (c.in-Client.is, ← c.self.view_is, r.1) (r.0.advance.1, (λ l. r.0.advance.0), keeps Client T c.args.piece.now s c.keep_client.new.stream c.self.invariant.0.same r.0.stays c.in-Some.used r.0.advance c.self.invariant.2 T.answered (FromClient f.0) c.keep_client.new.waiting (next, f.1.1) refl f.1.2 c.in-Ok.ensures.kept)
 
 pub returns-in-Err-clause-err : goal.returns-in-Err-clause-err
 returns-in-Err-clause-err c =
     let T = the_view c.self.inside in
     let s = c.receive.new.stream in
     let r = received c.args.side _ _ _ _ _ c.in-Some.is c.in_ok-used-in-Client.ensures.received in
-    let w = r.0 in
-    let k = c.in-Err.ensures in
-    let e = k.fault in
-    rw (c.in-Client.is, ← c.self.view_is) (bad Client T c.args.piece.now s c.keep_client.new.stream c.self.invariant.0.same w.stays c.in-Some.used w.advance c.self.invariant.2 c.in-Client.is c.keep_client.new.waiting c.refuse.new.kept c.in-Err.item c.refuse.result c.refuse.ensures.told k.same.0 e.0 k.same.1 (λ limits m v q o d. e.1 limits m v q (o ∙ sym c.profile-profile.ensures) d))
+    rw (c.in-Client.is, ← c.self.view_is) (bad Client T c.args.piece.now s c.keep_client.new.stream c.self.invariant.0.same r.0.stays c.in-Some.used r.0.advance c.self.invariant.2 c.in-Client.is c.keep_client.new.waiting c.refuse.new.kept c.in-Err.item c.refuse.result c.refuse.ensures.told c.in-Err.ensures.same.0 c.in-Err.ensures.fault.0 c.in-Err.ensures.same.1 (λ limits m v q o d. c.in-Err.ensures.fault.1 limits m v q (o ∙ sym c.profile-profile.ensures) d))
 
 pub returns-in_err-used-in-Client-clause-err : goal.returns-in_err-used-in-Client-clause-err
 returns-in_err-used-in-Client-clause-err c =
@@ -50,30 +45,25 @@ pub returns-in_default-2-clause-ok : goal.returns-in_default-2-clause-ok
 returns-in_default-2-clause-ok c =
     let T = the_view c.self.inside in
     let r = received c.args.side _ _ _ _ _ c.in_default-2.is c.in_ok-used-in-Server.ensures.received in
-    let w = r.0 in
     let none : T.server_kept ≡ [] = ap (λ (z : TalkState). z.server_kept) c.self.view_is ∙ subst (λ side. kept_on side c.args.self.now ≡ []) c.in-Server.is c.requires.given_up in
-    let more = goes Server T c.args.piece.now (record c.self.inside.server { held = w.held }) c.receive-in-Server.new.stream c.self.invariant.1.same refl w.advance w.is in
-    rw (c.in-Server.is, ← c.self.view_is, r.1) (omega arith, (λ l. l), (more, ap (λ (z : StreamState). z.kept) w.is ∙ none))
+    let more = goes Server T c.args.piece.now (record c.self.inside.server { held = r.0.held }) c.receive-in-Server.new.stream c.self.invariant.1.same refl r.0.advance r.0.is in
+    rw (c.in-Server.is, ← c.self.view_is, r.1) (omega arith, (λ l. l), (more, ap (λ (z : StreamState). z.kept) r.0.is ∙ none))
 
 pub returns-in-Ok-keep_server-clause-ok : goal.returns-in-Ok-keep_server-clause-ok
 returns-in-Ok-keep_server-clause-ok c =
     let T = the_view c.self.inside in
     let s = c.receive-in-Server.new.stream in
     let r = received c.args.side _ _ _ _ _ c.in-Some-2.is c.in_ok-used-in-Server.ensures.received in
-    let w = r.0 in
     let f = c.in-Ok-keep_server.ensures.found in
     let next = subst (λ z. IsNextServer z s.count T.waiting (drop 4 s.held) f.0) c.count-asked.ensures f.1.0 in
-    rw (c.in-Server.is, ← c.self.view_is, r.1) (w.advance.1, (λ l. w.advance.0), keeps Server T c.args.piece.now s c.keep_server.new.stream c.self.invariant.1.same w.stays c.in-Some-2.used w.advance c.self.invariant.2 c.in-Ok-keep_server.answered (FromServer f.0) c.keep_server.new.waiting (next, f.1.1) (λ kept. f.1.3) f.1.2 c.in-Ok-keep_server.ensures.kept)
+    rw (c.in-Server.is, ← c.self.view_is, r.1) (r.0.advance.1, (λ l. r.0.advance.0), keeps Server T c.args.piece.now s c.keep_server.new.stream c.self.invariant.1.same r.0.stays c.in-Some-2.used r.0.advance c.self.invariant.2 c.in-Ok-keep_server.answered (FromServer f.0) c.keep_server.new.waiting (next, f.1.1) (λ kept. f.1.3) f.1.2 c.in-Ok-keep_server.ensures.kept)
 
 pub returns-in-Err-keep_server-clause-err : goal.returns-in-Err-keep_server-clause-err
 returns-in-Err-keep_server-clause-err c =
     let T = the_view c.self.inside in
     let s = c.receive-in-Server.new.stream in
     let r = received c.args.side _ _ _ _ _ c.in-Some-2.is c.in_ok-used-in-Server.ensures.received in
-    let w = r.0 in
-    let k = c.in-Err-keep_server.ensures in
-    let e = k.fault in
-    rw (c.in-Server.is, ← c.self.view_is) (bad Server T c.args.piece.now s c.keep_server.new.stream c.self.invariant.1.same w.stays c.in-Some-2.used w.advance c.self.invariant.2 c.in-Server.is c.keep_server.new.waiting c.refuse-in-Err-keep_server.new.kept c.in-Err-keep_server.item c.refuse-in-Err-keep_server.result c.refuse-in-Err-keep_server.ensures.told k.same.0 e.0 k.same.1 (λ v d. e.1 v (subst (λ z. Describes z s.count T.waiting v) (sym c.count-asked.ensures) d)))
+    rw (c.in-Server.is, ← c.self.view_is) (bad Server T c.args.piece.now s c.keep_server.new.stream c.self.invariant.1.same r.0.stays c.in-Some-2.used r.0.advance c.self.invariant.2 c.in-Server.is c.keep_server.new.waiting c.refuse-in-Err-keep_server.new.kept c.in-Err-keep_server.item c.refuse-in-Err-keep_server.result c.refuse-in-Err-keep_server.ensures.told c.in-Err-keep_server.ensures.same.0 c.in-Err-keep_server.ensures.fault.0 c.in-Err-keep_server.ensures.same.1 (λ v d. c.in-Err-keep_server.ensures.fault.1 v (subst (λ z. Describes z s.count T.waiting v) (sym c.count-asked.ensures) d)))
 
 pub returns-in_err-used-in-Server-clause-err : goal.returns-in_err-used-in-Server-clause-err
 returns-in_err-used-in-Server-clause-err c =

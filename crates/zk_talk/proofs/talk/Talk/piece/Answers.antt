@@ -15,19 +15,17 @@ pub returns-in_default-clause-ok : goal.returns-in_default-clause-ok
 returns-in_default-clause-ok c =
     let T = the_view c.self.inside in
     let r = received c.args.side _ _ _ _ _ c.in_default.is c.in_ok-used-in-Client.ensures.received in
-    let w = r.0 in
-    rw (c.in-Client.is, ← c.self.view_is, r.1) (omega arith, (λ l. l), goes Client T c.args.piece.now (record c.self.inside.client { held = w.held }) c.receive.new.stream c.self.invariant.0.same refl w.advance w.is)
+    rw (c.in-Client.is, ← c.self.view_is, r.1) (omega arith, (λ l. l), goes Client T c.args.piece.now (record c.self.inside.client { held = r.0.held }) c.receive.new.stream c.self.invariant.0.same refl r.0.advance r.0.is)
 
 pub returns-in-Ok-clause-ok : goal.returns-in-Ok-clause-ok
 returns-in-Ok-clause-ok c =
+    let k = c.in-Ok.ensures in
     let T = the_view c.self.inside in
     let s = c.receive.new.stream in
     let r = received c.args.side _ _ _ _ _ c.in-Some.is c.in_ok-used-in-Client.ensures.received in
-    let w = r.0 in
-    let k = c.in-Ok.ensures in
     let next = subst (λ z. IsNextClient z s.count T.waiting (drop 4 s.held) c.in-Ok.frame) c.profile-profile.ensures k.found.0 in
     let none : T.client_kept ≡ [] = ap (λ (z : TalkState). z.client_kept) c.self.view_is ∙ subst (λ side. kept_on side c.args.self.now ≡ []) c.in-Client.is c.requires.given_up in
-    rw (c.in-Client.is, ← c.self.view_is, r.1) (w.advance.1, (λ l. w.advance.0), makes Client T c.args.piece.now s c.client_frame.new.stream c.self.invariant.0.same w.stays c.in-Some.used w.advance c.self.invariant.2 (FromClient c.in-Ok.frame) c.client_frame.new.waiting (next, k.found.1) none k.passed)
+    rw (c.in-Client.is, ← c.self.view_is, r.1) (r.0.advance.1, (λ l. r.0.advance.0), makes Client T c.args.piece.now s c.client_frame.new.stream c.self.invariant.0.same r.0.stays c.in-Some.used r.0.advance c.self.invariant.2 (FromClient c.in-Ok.frame) c.client_frame.new.waiting (next, k.found.1) none k.passed)
 
 pub returns-in-Err-clause-err : goal.returns-in-Err-clause-err
 returns-in-Err-clause-err c =
@@ -55,19 +53,17 @@ pub returns-in_default-2-clause-ok : goal.returns-in_default-2-clause-ok
 returns-in_default-2-clause-ok c =
     let T = the_view c.self.inside in
     let r = received c.args.side _ _ _ _ _ c.in_default-2.is c.in_ok-used-in-Server.ensures.received in
-    let w = r.0 in
-    rw (c.in-Server.is, ← c.self.view_is, r.1) (omega arith, (λ l. l), goes Server T c.args.piece.now (record c.self.inside.server { held = w.held }) c.receive-in-Server.new.stream c.self.invariant.1.same refl w.advance w.is)
+    rw (c.in-Server.is, ← c.self.view_is, r.1) (omega arith, (λ l. l), goes Server T c.args.piece.now (record c.self.inside.server { held = r.0.held }) c.receive-in-Server.new.stream c.self.invariant.1.same refl r.0.advance r.0.is)
 
 pub returns-in-Ok-server_frame-clause-ok : goal.returns-in-Ok-server_frame-clause-ok
 returns-in-Ok-server_frame-clause-ok c =
+    let k = c.in-Ok-server_frame.ensures in
     let T = the_view c.self.inside in
     let s = c.receive-in-Server.new.stream in
     let r = received c.args.side _ _ _ _ _ c.in-Some-2.is c.in_ok-used-in-Server.ensures.received in
-    let w = r.0 in
-    let k = c.in-Ok-server_frame.ensures in
     let next = subst (λ z. IsNextServer z s.count T.waiting (drop 4 s.held) c.in-Ok-server_frame.frame) c.count-asked.ensures k.found.0 in
     let none : T.server_kept ≡ [] = ap (λ (z : TalkState). z.server_kept) c.self.view_is ∙ subst (λ side. kept_on side c.args.self.now ≡ []) c.in-Server.is c.requires.given_up in
-    rw (c.in-Server.is, ← c.self.view_is, r.1) (w.advance.1, (λ l. w.advance.0), makes Server T c.args.piece.now s c.server_frame.new.stream c.self.invariant.1.same w.stays c.in-Some-2.used w.advance c.self.invariant.2 (FromServer c.in-Ok-server_frame.frame) c.server_frame.new.waiting (next, k.found.1) none k.passed)
+    rw (c.in-Server.is, ← c.self.view_is, r.1) (r.0.advance.1, (λ l. r.0.advance.0), makes Server T c.args.piece.now s c.server_frame.new.stream c.self.invariant.1.same r.0.stays c.in-Some-2.used r.0.advance c.self.invariant.2 (FromServer c.in-Ok-server_frame.frame) c.server_frame.new.waiting (next, k.found.1) none k.passed)
 
 pub returns-in-Err-server_frame-clause-err : goal.returns-in-Err-server_frame-clause-err
 returns-in-Err-server_frame-clause-err c =

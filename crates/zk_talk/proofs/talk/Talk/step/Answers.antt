@@ -1,19 +1,10 @@
-use Rattle.std.proofs.Common.{◌∙◌, take, sym, ap}
+use Rattle.std.proofs.Common.{◌∙◌, sym, ap}
 use Rattle.zk_talk.specs.Stands.{TalkState}
-use Rattle.zk_talk.proofs.Stepping.{steps_first, refused_first}
+use Rattle.zk_talk.proofs.Stepping.{steps_then, refused_then}
 use Rattle.zk_talk.proofs.talk.Talk.step.Goals as goal
 
 pub returns-clause-ok : goal.returns-clause-ok
-returns-clause-ok c =
-    let old = c.args.self.now in
-    let s = c.step_exact-stepped in
-    let x = s.ensures.ok (ap (λ (t : TalkState). t.fault) (sym c.self.view_is) ∙ c.in_default-fault.is) in
-    (x.0, x.1, steps_first c.args.side old s.new.self (take s.result.used c.args.piece.now) s.result.whole (rw (← c.in_default.ensures.same) x.2))
+returns-clause-ok c = steps_then c.args.side c.args.self.now _ c.step_exact-stepped.new.self c.in_default.ensures.same c.args.piece.now c.step_exact-stepped.result.used c.step_exact-stepped.result.whole (c.step_exact-stepped.ensures.ok (ap (λ (t : TalkState). t.fault) (sym c.self.view_is) ∙ c.in_default-fault.is))
 
 pub returns-in-Some-fault-clause-err : goal.returns-in-Some-fault-clause-err
-returns-in-Some-fault-clause-err c =
-    let old = c.args.self.now in
-    let s = c.step_exact-stepped in
-    let f = c.in-Some-fault.fault in
-    let x = s.ensures.err f (ap (λ (t : TalkState). t.fault) (sym c.self.view_is) ∙ c.in-Some-fault.is) in
-    (x.0, refused_first c.args.side old s.new.self c.args.piece.now f (rw (← c.in_default.ensures.same) x.1))
+returns-in-Some-fault-clause-err c = refused_then c.args.side c.args.self.now _ c.step_exact-stepped.new.self c.in_default.ensures.same c.args.piece.now c.in-Some-fault.fault (c.step_exact-stepped.ensures.err c.in-Some-fault.fault (ap (λ (t : TalkState). t.fault) (sym c.self.view_is) ∙ c.in-Some-fault.is))
