@@ -37,7 +37,7 @@ good-here t l h messages e i = record {
 }
 
 -- a front of more lines
-pub grown-then : (listing : Listing) (before during after : Option (List ℕ)) (now more : List Message) → Appends before during (text_of listing now) →
+grown-then : (listing : Listing) (before during after : Option (List ℕ)) (now more : List Message) → Appends before during (text_of listing now) →
     HasGrownIn during after (text_of listing more) → HasGrownIn before after (text_of listing (now ++ more))
 grown-then listing before during after now more p q = (
   length (text_of listing now) + q.0,
@@ -48,9 +48,21 @@ grown-then listing before during after now more p q = (
 pub grown-whole : (before after : Option (List ℕ)) (text : List ℕ) → Appends before after text → HasGrownIn before after text
 grown-whole before after text p = (length text, subst (Appends before after) (sym (take-length text)) p)
 
-pub told-then : (listing : Listing) (before during after : Option (List ℕ)) (now more : List Message) → Appends before during (text_of listing now) →
+told-then : (listing : Listing) (before during after : Option (List ℕ)) (now more : List Message) → Appends before during (text_of listing now) →
     Appends during after (text_of listing more) → Appends before after (text_of listing (now ++ more))
 told-then listing before during after now more p q = subst (Appends before after) (sym (text_of-append listing now more)) (Appends-then before during after _ _ p q)
+
+-- the buffer, which was empty, has the lines of more messages
+module _ (listing : Listing) (before during after : Option (List ℕ)) (now more : List Message) (bytes buffer was : List ℕ) (is : bytes ≡ buffer) (added : buffer ≡ was ++ text_of listing more) (empty : was ≡ [])
+    (told : Appends before during (text_of listing now)) where
+  text : bytes ≡ text_of listing more
+  text = is ∙ added ∙ ap (λ l. l ++ text_of listing more) empty
+
+  pub told-more : Appends during after bytes → Appends before after (text_of listing (now ++ more))
+  told-more p = told-then listing before during after now more told (subst (Appends during after) text p)
+
+  pub grown-more : HasGrownIn during after bytes → HasGrownIn before after (text_of listing (now ++ more))
+  grown-more p = grown-then listing before during after now more told (subst (HasGrownIn during after) text p)
 
 -- ---- lines that are appended to a buffer
 

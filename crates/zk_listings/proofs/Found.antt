@@ -1,39 +1,51 @@
 -- What a run of reads comes to.
-use Rattle.std.proofs.Common.{◌≡◌, ℕ, List, [], ◌++◌, ◌+◌, length, Option, inl, inr, sym, ◌∙◌, ap, subst, append-nil}
+use Rattle.std.proofs.Common.{ℕ, ◌⊎◌, List, [], ◌++◌, ◌+◌, length, Option, inl, inr, sym, subst, append-nil}
 use Rattle.std.specs.Io.KnownBytes.{Consumes, IsAtEnd, Appends}
 use Rattle.zk_talk.specs.declared.limits.Limits.{Limits}
 use Rattle.zk_talk.specs.Held.{Message}
 use Rattle.zk_talk.specs.Stands.{TalkState}
+use Rattle.zk_listings.specs.declared.listing.Listing.{Listing}
 use Rattle.zk_listings.specs.declared.summary.Summary.{Summary}
+use Rattle.zk_listings.specs.Lines.{text_of}
 use Rattle.zk_recordings.specs.Recording.{Recording, Spells, history_of, limits_of}
-use Rattle.zk_listings.specs.Outcome.{IsBroken, IsGoodWith, Reads, IsFound, IsRunning, HasBegun, HasGrownIn}
+use Rattle.zk_listings.specs.Outcome.{IsBroken, IsDecided, IsGoodWith, IsOutcome, Reads, IsRunning, HasBegun, HasGrownIn}
+use Rattle.zk_listings.specs.Running.{HasFoundBy}
 use Rattle.zk_listings.specs.Following.{IsKept, Finishes, Decides, Opens}
 use Rattle.std.proofs.Math.Seq.{take-append-add, take-append_seam}
-use Rattle.zk_listings.proofs.Bytes.{Consumes-then, Appends-then}
+use Rattle.zk_listings.proofs.Bytes.{Appends-then}
 use Rattle.zk_listings.proofs.Outcomes.{outcome-once, outcome-good}
 use Rattle.zk_recordings.proofs.Once.{spells-once}
 
 pub reads : (before after : Option (List ℕ)) (x : List ℕ) (r : Recording) → Consumes before after x → Spells x r → Reads before after x r
 reads before after x r p i = record { consumed = p; just = record { spells = i; only = λ s j. spells-once x r s i j } }
 
--- what was found, of a talk that keeps its fault
-pub record FoundBy (limits : Limits) (before after : Option (List ℕ)) (messages : List Message) (talk : Option TalkState) (summary : Summary) : Type 0 where
-  pub found : IsFound limits before after messages summary
-  pub kept : IsKept (limits_of limits found.recording) talk (history_of found.recording) messages summary
+-- a summary was found, and the lines of all messages written
+module _ (limits : Limits) (listing : Listing) (before after contents contents_now : Option (List ℕ)) (x : List ℕ) (messages : List Message) (talk : Option TalkState) (summary : Summary)
+    (consumed : Consumes before after x) (written : Appends contents contents_now (text_of listing messages)) where
+  found-by : (r : Recording) → Spells x r → IsOutcome limits r messages summary → IsKept (limits_of limits r) talk (history_of r) messages summary → IsAtEnd after ⊎ IsDecided limits x r →
+      HasFoundBy limits listing before after contents contents_now talk summary
+  found-by r i is kept enough = record {
+    all = record {
+      messages = messages;
+      found = record {
+        bytes = x;
+        recording = r;
+        reads = reads before after x r consumed i;
+        is = is;
+        only = λ others other o. outcome-once limits r messages others summary other is o;
+        enough = enough;
+      };
+      written = written;
+    };
+    kept = kept;
+  }
 
-pub found-at_end : (limits : Limits) (before mid after : Option (List ℕ)) (x none : List ℕ) (messages : List Message) (talk : Option TalkState) (summary : Summary) →
-    Consumes before mid x → Consumes mid after none → none ≡ [] → IsAtEnd after → Finishes limits x messages talk summary → FoundBy limits before after messages talk summary
-found-at_end limits before mid after x none messages talk summary p q nothing end i = record {
-  found = record {
-    bytes = x;
-    recording = i.recording;
-    reads = reads before after x i.recording (subst (Consumes before after) (ap (λ b. x ++ b) nothing ∙ append-nil x) (Consumes-then before mid after x none p q)) i.spells;
-    is = i.is;
-    only = λ others other o. outcome-once limits i.recording messages others summary other i.is o;
-    enough = inl end;
-  };
-  kept = i.kept;
-}
+  pub found-at_end : IsAtEnd after → Finishes limits x messages talk summary → HasFoundBy limits listing before after contents contents_now talk summary
+  found-at_end end f = found-by f.recording f.spells f.is f.kept (inl end)
+
+  -- what stands whatever follows
+  pub found-decided : Decides limits x messages talk summary → HasFoundBy limits listing before after contents contents_now talk summary
+  found-decided d = found-by d.recording d.spells d.is d.kept (inr d.decided)
 
 -- what was read has these messages and no fault
 pub running : (limits : Limits) (before after : Option (List ℕ)) (x : List ℕ) (messages : List Message) (r : Recording) → Consumes before after x → Spells x r →
@@ -68,25 +80,6 @@ begun-by limits before after x messages p i = record {
   splits = i.splits;
   good = i.good;
 }
-
--- what stands whatever follows was found
-pub found-decided : (limits : Limits) (before after : Option (List ℕ)) (x : List ℕ) (messages : List Message) (talk : Option TalkState) (summary : Summary) →
-    Consumes before after x → Decides limits x messages talk summary → FoundBy limits before after messages talk summary
-found-decided limits before after x messages talk summary p i = record {
-  found = record {
-    bytes = x;
-    recording = i.recording;
-    reads = reads before after x i.recording p i.spells;
-    is = i.is;
-    only = λ others other o. outcome-once limits i.recording messages others summary other i.is o;
-    enough = inr i.decided;
-  };
-  kept = i.kept;
-}
-
--- what stands in the buffer, which held nothing before
-pub appended : (bytes lines before text : List ℕ) → bytes ≡ lines → lines ≡ before ++ text → before ≡ [] → bytes ≡ text
-appended bytes lines before text p q none = p ∙ q ∙ ap (λ l. l ++ text) none
 
 -- nothing, or a front, of what follows a text was written
 pub grown-front : (old new : Option (List ℕ)) (text more : List ℕ) → Appends old new text → HasGrownIn old new (text ++ more)

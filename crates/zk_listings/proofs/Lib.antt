@@ -15,3 +15,4 @@ pub mod Decided
 pub mod Lasting
 pub mod Tails
 pub mod Comings
+pub mod Exits

@@ -10,8 +10,9 @@ use Rattle.zk_listings.specs.declared.listing.Listing.{Listing}
 use Rattle.zk_listings.specs.declared.summary.Summary.{Summary}
 use Rattle.zk_listings.specs.Lines.{text_of, last_line}
 use Rattle.zk_listings.specs.Outcome.{IsOutcome, IsFound, HasBegun, HasGrownIn}
-use Rattle.zk_listings.specs.Running.{HasStopped, in_messages, in_last_line}
+use Rattle.zk_listings.specs.Running.{HasFound, HasStopped, in_messages, in_last_line}
 use Rattle.zk_listings.proofs.Feeding.{text_of-append}
+use Rattle.zk_listings.proofs.Found.{grown-front}
 use Rattle.zk_listings.proofs.Outcomes.{outcome-first}
 
 -- a front of a text is a front of whatever begins with it
@@ -50,3 +51,9 @@ module _ (limits : Limits) (listing : Listing) (unread unread_now contents conte
         subst (HasGrownIn contents contents_now) (ap (λ l. text_of listing l ++ last_line summary) (sym e.0) ∙ ap (λ s. text_of listing others ++ last_line s) (sym e.1)) p;
     written = in_last_line messages summary f.is f.enough p;
   }
+
+-- nothing of the last line was written
+pub stopped-before_last_line : (limits : Limits) (listing : Listing) (unread unread_now contents contents_now : Option (List ℕ)) (summary : Summary) → HasFound limits listing unread unread_now contents contents_now summary →
+    HasStopped limits listing unread unread_now contents contents_now
+stopped-before_last_line limits listing unread unread_now contents contents_now summary f =
+    stopped-in_last_line limits listing unread unread_now contents contents_now f.messages summary f.found (grown-front contents contents_now _ _ f.written)

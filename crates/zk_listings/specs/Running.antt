@@ -1,5 +1,5 @@
 -- What a run has read and written when it returns.
-use Rattle.std.specs.Prelude.{◌≡◌, ℕ, ◌+◌, ◌≤◌, ◌⊎◌, List, ◌++◌, Bool, true, Option, Result, IsErrOf}
+use Rattle.std.specs.Prelude.{◌≡◌, ℕ, ◌+◌, ◌^◌, ◌<◌, ◌≤◌, ◌⊎◌, List, ◌++◌, Bool, true, false, Option, Result, IfOk, IsErrOf}
 use Rattle.std.specs.Io.KnownBytes.{IsAtEnd, Appends}
 use Rattle.zk_talk.specs.declared.limits.Limits.{Limits}
 use Rattle.zk_talk.specs.Held.{Message}
@@ -7,7 +7,7 @@ use Rattle.zk_talk.specs.History.{History}
 use Rattle.zk_talk.specs.Stands.{TalkState}
 use Rattle.zk_listings.specs.declared.listing.Listing.{Listing}
 use Rattle.zk_listings.specs.declared.listing.RunFault.{RunFault}
-use Rattle.zk_listings.specs.declared.listing.RunFault.TheVariants.{Read}
+use Rattle.zk_listings.specs.declared.listing.RunFault.TheVariants.{Read, Write, Memory}
 use Rattle.zk_listings.specs.declared.progress.Progress.{Progress}
 use Rattle.zk_listings.specs.declared.summary.Summary.{Summary}
 use Rattle.zk_listings.specs.declared.summary.Status.{Status}
@@ -19,6 +19,24 @@ use Rattle.zk_listings.specs.Outcome.{Reads, IsGoodWith, IsOutcome, IsDecided, I
 -- the reader failed, or was read as often as a run may
 abbrev pub IsSpent : Bool → ℕ → ℕ → Type 0
 IsSpent failed reads reads_now = (failed ≡ true) ⊎ (reads + 4294967296 ≤ reads_now)
+
+-- a reader that was read this often, and a writer, neither of which has failed
+pub record AreReady (reads : ℕ) (reader_failed writer_failed : Bool) : Type 0 where
+  pub reader : reader_failed ≡ false
+  pub few : reads < 2 ^ 62
+  pub writer : writer_failed ≡ false
+
+-- what a run with this result has done to its reader, which was read this often before and after, and to its writer
+pub record LeavesDevices {X : Type 0} (result : Result X RunFault) (reads reads_now : ℕ) (reader_failed writer_failed : Bool) : Type 0 where
+  pub spent : IsErrOf result Read → IsSpent reader_failed reads reads_now
+  -- a failed write, or one that takes nothing, is reported as that
+  pub write : IsErrOf result Write → writer_failed ≡ true
+  pub intact : IfOk result (λ _. writer_failed ≡ false)
+  pub spared : IsErrOf result Memory → writer_failed ≡ false
+  -- a failed read is never passed over, and no run reads more often than that
+  pub alive : IfOk result (λ _. reader_failed ≡ false)
+  pub memory : IsErrOf result Memory → reader_failed ≡ false
+  pub bound : reads_now ≤ reads + 4294967296
 
 -- after a failed read, or if a run would have to read once more than it may
 abbrev pub OnRead : {X : Type 0} → Result X RunFault → Type 0 → Type 0

@@ -5,7 +5,7 @@ ghost use Rattle.zk_answers.specs.declared.layout.Layout.TheVariants as layouts;
 ghost use Rattle.zk_talk.specs.Refused.{header_size as size_of};
 ghost use Rattle.zk_listings.specs.declared.listing.Listing.TheVariants.{Last};
 ghost use Rattle.zk_listings.specs.Earliest.{answer_line as line_of, IsToldOf, HasToldEarliest, HasStoppedEarliest};
-ghost use Rattle.zk_listings.specs.Running.{IsSpent, OnRead, HasReached};
+ghost use Rattle.zk_listings.specs.Running.{AreReady, LeavesDevices, OnRead, HasReached};
 
 use crate::engines::read_on;
 use crate::listing::{Listing, RunFault};
@@ -74,29 +74,18 @@ pub fn check_earliest_run<R: Source, W: Sink>(
     reader: &mut R,
     writer: &mut W,
 ) -> Result<Status, RunFault>
-    requires reader { R.has_failed reader.old ≡ false }
-    requires reads { R.read_count reader.old < 2 ^ 62 }
-    requires writer { W.has_failed writer.old ≡ false }
+    requires { AreReady (R.read_count reader.old) (R.has_failed reader.old) (W.has_failed writer.old) }
 
     // The last line is written of what was read, and then that of the first impossible byte.
     ensures ok { IfOk result (HasToldEarliest limits (R.remaining reader.old) (R.remaining reader.new) (W.contents writer.old) (W.contents writer.new)) }
 
     // A failed read, or one too many, leaves nothing written.
     ensures read { OnRead result (HasReached limits Last (R.remaining reader.old) (R.remaining reader.new) (W.contents writer.old) (W.contents writer.new)) }
-    ensures spent { IsErrOf result RunFault.Read → IsSpent (R.has_failed reader.new) (R.read_count reader.old) (R.read_count reader.new) }
-
-    // A failed write, or one that takes nothing, is reported as that.
-    ensures write { IsErrOf result RunFault.Write → W.has_failed writer.new ≡ true }
-    ensures open { IfOk result (λ _. W.has_failed writer.new ≡ false) }
-    ensures spared { IsErrOf result RunFault.Memory → W.has_failed writer.new ≡ false }
-
-    // A failed read is never passed over, and no run reads more often than that.
-    ensures alive { IfOk result (λ _. R.has_failed reader.new ≡ false) }
-    ensures memory { IsErrOf result RunFault.Memory → R.has_failed reader.new ≡ false }
-    ensures bound { R.read_count reader.new ≤ R.read_count reader.old + 4294967296 }
 
     // A run that stops early has written a front of both lines of what it read.
     ensures begun { OnErr result (HasStoppedEarliest limits (R.remaining reader.old) (R.remaining reader.new) (W.contents writer.old) (W.contents writer.new)) }
+
+    ensures devices { LeavesDevices result (R.read_count reader.old) (R.read_count reader.new) (R.has_failed reader.new) (W.has_failed writer.new) }
 {
     let (summary, progress) = read_on(alloc, limits, Listing::Last, reader, writer)?;
     let mut lines = summary.last_line(alloc)?;

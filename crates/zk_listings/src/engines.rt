@@ -5,7 +5,7 @@ ghost use Rattle.zk_recordings.specs.Reading.{place_in};
 ghost use Rattle.zk_listings.specs.declared.listing.RunFault.TheVariants.{Write};
 ghost use Rattle.zk_listings.specs.Gathering.{HasTaken};
 ghost use Rattle.zk_listings.specs.declared.listing.Listing.TheVariants.{All, Last};
-ghost use Rattle.zk_listings.specs.Running.{IsSpent, OnRead, HasFoundWith, HasBegunLines, HasListed, HasReached, HasStopped};
+ghost use Rattle.zk_listings.specs.Running.{AreReady, LeavesDevices, OnRead, HasFoundWith, HasBegunLines, HasListed, HasReached, HasStopped};
 
 use crate::gather::NextRead;
 use crate::gathered::Gathered;
@@ -77,19 +77,11 @@ pub(crate) fn read_on<R: Source, W: Sink>(
     reader: &mut R,
     writer: &mut W,
 ) -> Result<(Summary, Progress), RunFault>
-    requires reader { R.has_failed reader.old ≡ false }
-    requires reads { R.read_count reader.old < 2 ^ 62 }
-    requires writer { W.has_failed writer.old ≡ false }
+    requires { AreReady (R.read_count reader.old) (R.has_failed reader.old) (W.has_failed writer.old) }
     ensures ok { IfOk result (HasFoundWith limits listing (R.remaining reader.old) (R.remaining reader.new) (W.contents writer.old) (W.contents writer.new)) }
     ensures read { OnRead result (HasReached limits listing (R.remaining reader.old) (R.remaining reader.new) (W.contents writer.old) (W.contents writer.new)) }
-    ensures spent { IsErrOf result RunFault.Read → IsSpent (R.has_failed reader.new) (R.read_count reader.old) (R.read_count reader.new) }
     ensures begun { OnErr result (HasBegunLines limits listing (R.remaining reader.old) (R.remaining reader.new) (W.contents writer.old) (W.contents writer.new)) }
-    ensures write { IsErrOf result RunFault.Write → W.has_failed writer.new ≡ true }
-    ensures alive { IfOk result (λ _. R.has_failed reader.new ≡ false) }
-    ensures memory { IsErrOf result RunFault.Memory → R.has_failed reader.new ≡ false }
-    ensures open { IfOk result (λ _. W.has_failed writer.new ≡ false) }
-    ensures spared { IsErrOf result RunFault.Memory → W.has_failed writer.new ≡ false }
-    ensures bound { R.read_count reader.new ≤ R.read_count reader.old + 4294967296 }
+    ensures devices { LeavesDevices result (R.read_count reader.old) (R.read_count reader.new) (R.has_failed reader.new) (W.has_failed writer.new) }
 {
     let mut progress = Progress::new(alloc, limits);
     let mut gathered = Gathered::new(alloc);
@@ -127,19 +119,11 @@ fn run<R: Source, W: Sink>(
     reader: &mut R,
     writer: &mut W,
 ) -> Result<Status, RunFault>
-    requires reader { R.has_failed reader.old ≡ false }
-    requires reads { R.read_count reader.old < 2 ^ 62 }
-    requires writer { W.has_failed writer.old ≡ false }
+    requires { AreReady (R.read_count reader.old) (R.has_failed reader.old) (W.has_failed writer.old) }
     ensures ok { IfOk result (HasListed limits listing (R.remaining reader.old) (R.remaining reader.new) (W.contents writer.old) (W.contents writer.new)) }
     ensures read { OnRead result (HasReached limits listing (R.remaining reader.old) (R.remaining reader.new) (W.contents writer.old) (W.contents writer.new)) }
-    ensures spent { IsErrOf result RunFault.Read → IsSpent (R.has_failed reader.new) (R.read_count reader.old) (R.read_count reader.new) }
-    ensures write { IsErrOf result RunFault.Write → W.has_failed writer.new ≡ true }
-    ensures alive { IfOk result (λ _. R.has_failed reader.new ≡ false) }
-    ensures memory { IsErrOf result RunFault.Memory → R.has_failed reader.new ≡ false }
-    ensures open { IfOk result (λ _. W.has_failed writer.new ≡ false) }
-    ensures spared { IsErrOf result RunFault.Memory → W.has_failed writer.new ≡ false }
-    ensures bound { R.read_count reader.new ≤ R.read_count reader.old + 4294967296 }
     ensures begun { OnErr result (HasStopped limits listing (R.remaining reader.old) (R.remaining reader.new) (W.contents writer.old) (W.contents writer.new)) }
+    ensures devices { LeavesDevices result (R.read_count reader.old) (R.read_count reader.new) (R.has_failed reader.new) (W.has_failed writer.new) }
 {
     let (summary, _progress) = read_on(alloc, limits, listing, reader, writer)?;
     let line = summary.last_line(alloc)?;
@@ -159,29 +143,18 @@ pub fn check_run<R: Source, W: Sink>(
     reader: &mut R,
     writer: &mut W,
 ) -> Result<Status, RunFault>
-    requires reader { R.has_failed reader.old ≡ false }
-    requires reads { R.read_count reader.old < 2 ^ 62 }
-    requires writer { W.has_failed writer.old ≡ false }
+    requires { AreReady (R.read_count reader.old) (R.has_failed reader.old) (W.has_failed writer.old) }
 
     // The last line is written of what was read: all there is, or what decides.
     ensures ok { IfOk result (HasListed limits Last (R.remaining reader.old) (R.remaining reader.new) (W.contents writer.old) (W.contents writer.new)) }
 
     // A failed read, or one too many, leaves nothing written.
     ensures read { OnRead result (HasReached limits Last (R.remaining reader.old) (R.remaining reader.new) (W.contents writer.old) (W.contents writer.new)) }
-    ensures spent { IsErrOf result RunFault.Read → IsSpent (R.has_failed reader.new) (R.read_count reader.old) (R.read_count reader.new) }
-
-    // A failed write, or one that takes nothing, is reported as that.
-    ensures write { IsErrOf result RunFault.Write → W.has_failed writer.new ≡ true }
-    ensures open { IfOk result (λ _. W.has_failed writer.new ≡ false) }
-    ensures spared { IsErrOf result RunFault.Memory → W.has_failed writer.new ≡ false }
-
-    // A failed read is never passed over, and no run reads more often than that.
-    ensures alive { IfOk result (λ _. R.has_failed reader.new ≡ false) }
-    ensures memory { IsErrOf result RunFault.Memory → R.has_failed reader.new ≡ false }
-    ensures bound { R.read_count reader.new ≤ R.read_count reader.old + 4294967296 }
 
     // A run that stops early has written a front of the last line of every listing of what it read.
     ensures begun { OnErr result (HasStopped limits Last (R.remaining reader.old) (R.remaining reader.new) (W.contents writer.old) (W.contents writer.new)) }
+
+    ensures devices { LeavesDevices result (R.read_count reader.old) (R.read_count reader.new) (R.has_failed reader.new) (W.has_failed writer.new) }
 {
     run(alloc, limits, Listing::Last, reader, writer)
 }
@@ -198,29 +171,18 @@ pub fn show_run<R: Source, W: Sink>(
     reader: &mut R,
     writer: &mut W,
 ) -> Result<Status, RunFault>
-    requires reader { R.has_failed reader.old ≡ false }
-    requires reads { R.read_count reader.old < 2 ^ 62 }
-    requires writer { W.has_failed writer.old ≡ false }
+    requires { AreReady (R.read_count reader.old) (R.has_failed reader.old) (W.has_failed writer.old) }
 
     // The listing is written of what was read: all there is, or what decides.
     ensures ok { IfOk result (HasListed limits All (R.remaining reader.old) (R.remaining reader.new) (W.contents writer.old) (W.contents writer.new)) }
 
     // After a failed read, or one too many, the line of each message that is whole in what was read is written.
     ensures read { OnRead result (HasReached limits All (R.remaining reader.old) (R.remaining reader.new) (W.contents writer.old) (W.contents writer.new)) }
-    ensures spent { IsErrOf result RunFault.Read → IsSpent (R.has_failed reader.new) (R.read_count reader.old) (R.read_count reader.new) }
-
-    // A failed write, or one that takes nothing, is reported as that.
-    ensures write { IsErrOf result RunFault.Write → W.has_failed writer.new ≡ true }
-    ensures open { IfOk result (λ _. W.has_failed writer.new ≡ false) }
-    ensures spared { IsErrOf result RunFault.Memory → W.has_failed writer.new ≡ false }
-
-    // A failed read is never passed over, and no run reads more often than that.
-    ensures alive { IfOk result (λ _. R.has_failed reader.new ≡ false) }
-    ensures memory { IsErrOf result RunFault.Memory → R.has_failed reader.new ≡ false }
-    ensures bound { R.read_count reader.new ≤ R.read_count reader.old + 4294967296 }
 
     // A run that stops early has written a front of every listing of what it read.
     ensures begun { OnErr result (HasStopped limits All (R.remaining reader.old) (R.remaining reader.new) (W.contents writer.old) (W.contents writer.new)) }
+
+    ensures devices { LeavesDevices result (R.read_count reader.old) (R.read_count reader.new) (R.has_failed reader.new) (W.has_failed writer.new) }
 {
     run(alloc, limits, Listing::All, reader, writer)
 }

@@ -328,17 +328,10 @@ module _ (s : ReaderState) (begun v : List ℕ) (b : ℕ) (x : List ℕ) (r : Re
     here : (place : Place) → p.place ≡ place → r ≡ cut_in place p.before part begun
     here place e = p.is ∙ ap (λ q. cut_in q p.before part begun) e
 
-    reads-here : (place : Place) → p.place ≡ place → ReadsOn t x (cut_in place p.before part begun) (b ∷ []) None → ReadsOn t x r (b ∷ []) None
-    reads-here place e reads = subst (λ q. ReadsOn t x q (b ∷ []) None) (sym (here place e)) reads
-
-    spells-here : (place : Place) → p.place ≡ place → Spells x (cut_in place p.before part begun)
-    spells-here place e = subst (Spells x) (here place e) i
-
-    has-here : (place : Place) → p.place ≡ place → HasHeadAt s place
-    has-here place e = subst (λ q. HasHeadAt s (place_of q)) (here place e) has
-
-    at-here : (place : Place) → p.place ≡ place → s.at ≡ behind place p.before
-    at-here place e = subst (λ q. s.at ≡ behind q p.before) e p.at
+    reads-here : (place : Place) → p.place ≡ place →
+        (s.at ≡ behind place p.before → HasHeadAt s place → Spells x (cut_in place p.before part begun) → ReadsOn t x (cut_in place p.before part begun) (b ∷ []) None) → ReadsOn t x r (b ∷ []) None
+    reads-here place e reads = subst (λ q. ReadsOn t x q (b ∷ []) None) (sym (here place e))
+        (reads (subst (λ q. s.at ≡ behind q p.before) e p.at) (subst (λ q. HasHeadAt s (place_of q)) (here place e) has) (subst (Spells x) (here place e) i))
 
   to-part : (part q : Part) → part ≡ q → AtPart s part begun r → AtPart s q begun r
   to-part part q e p = subst (λ z. AtPart s z begun r) e p
@@ -351,9 +344,7 @@ module _ (s : ReaderState) (begun v : List ℕ) (b : ℕ) (x : List ℕ) (r : Re
         ReadsOn t x r (b ∷ []) None
     by-letters e first second =
         let p = to-part part Letters e p' in
-        let j = spells-here Letters p AtLetters p.knows.0 in
-        let at' = at-here Letters p AtLetters p.knows.0 in
-        reads-here Letters p AtLetters p.knows.0 (elim (cases_Bool (bytes_eq v (letters Zkr1))) [
+        reads-here Letters p AtLetters p.knows.0 (λ at' headed j. elim (cases_Bool (bytes_eq v (letters Zkr1))) [
           | inl is-first ↦ let same = (bytes_eq-Decides v (letters Zkr1)).0 is-first in accept-first s p.before begun v b x j again p.knows.1 at' t same (first same)
           | inr not-first ↦ let same = (bytes_eq-Decides v (letters Zkr2)).0 (other-letters v (to-value part Letters e is).good not-first) in accept-second s p.before begun v b x j again p.knows.1 at' t same (second same)
         ])
@@ -361,53 +352,42 @@ module _ (s : ReaderState) (begun v : List ℕ) (b : ℕ) (x : List ℕ) (r : Re
     pub by-client : part ≡ ClientLimit → t ≡ then_at (record s { client = number v }) ServerLimit 4 → ReadsOn t x r (b ∷ []) None
     by-client e f =
         let p = to-part part ClientLimit e p' in
-        let k = p.knows.0 in
-        reads-here ClientLimit p (InHead Zkr2) k (accept-client s p.before begun v b x again (at-here ClientLimit p (InHead Zkr2) k) (has-here ClientLimit p (InHead Zkr2) k)
-        (spells-here ClientLimit p (InHead Zkr2) k) p.knows.1 (to-value part ClientLimit e is) t f)
+        reads-here ClientLimit p (InHead Zkr2) p.knows.0 (λ at' headed j. accept-client s p.before begun v b x again at' headed j p.knows.1 (to-value part ClientLimit e is) t f)
 
     pub by-server : part ≡ ServerLimit → t ≡ then_at (record s { server = number v }) Waiting 4 → ReadsOn t x r (b ∷ []) None
     by-server e f =
         let p = to-part part ServerLimit e p' in
-        let k = p.knows.0 in
-        reads-here ServerLimit p (InHead Zkr2) k (accept-server s p.before begun v b x again (at-here ServerLimit p (InHead Zkr2) k) (has-here ServerLimit p (InHead Zkr2) k)
-        (spells-here ServerLimit p (InHead Zkr2) k) p.knows.1 (to-value part ServerLimit e is) t f)
+        reads-here ServerLimit p (InHead Zkr2) p.knows.0 (λ at' headed j. accept-server s p.before begun v b x again at' headed j p.knows.1 (to-value part ServerLimit e is) t f)
 
     pub by-waiting : part ≡ Waiting → t ≡ then_at (record s { waiting = number v }) Profile 4 → ReadsOn t x r (b ∷ []) None
     by-waiting e f =
         let p = to-part part Waiting e p' in
-        let k = p.knows.0 in
-        reads-here Waiting p (InHead Zkr2) k (accept-waiting s p.before begun v b x again (at-here Waiting p (InHead Zkr2) k) (has-here Waiting p (InHead Zkr2) k)
-        (spells-here Waiting p (InHead Zkr2) k) p.knows.1 (to-value part Waiting e is) t f)
+        reads-here Waiting p (InHead Zkr2) p.knows.0 (λ at' headed j. accept-waiting s p.before begun v b x again at' headed j p.knows.1 (to-value part Waiting e is) t f)
 
     pub by-profile : part ≡ Profile → (o : Option Limits) → ((options : Limits) → chosen o options ≡ limits_or options s.client s.server s.waiting (profile_by (number v))) →
         t ≡ then_at (record s { limits = o }) SideByte 4 → ReadsOn t x r (b ∷ []) None
     by-profile e o limits_are f =
         let p = to-part part Profile e p' in
-        let k = p.knows.0 in
-        reads-here Profile p (InHead Zkr2) k (accept-profile s p.before begun v b x again (at-here Profile p (InHead Zkr2) k) (has-here Profile p (InHead Zkr2) k)
-        (spells-here Profile p (InHead Zkr2) k) p.knows.1 (to-value part Profile e is) o limits_are t f)
+        reads-here Profile p (InHead Zkr2) p.knows.0 (λ at' headed j. accept-profile s p.before begun v b x again at' headed j p.knows.1 (to-value part Profile e is) o limits_are t f)
 
     pub by-side : part ≡ SideByte → (side : Side) → v ≡ side_byte side ∷ [] →
         (s.format ≡ Zkr1 → t ≡ then_at (record s { side = side }) Size 1) → (s.format ≡ Zkr2 → t ≡ then_at (record s { side = side }) Time 1) → ReadsOn t x r (b ∷ []) None
     by-side e side byte first second =
         let p = to-part part SideByte e p' in
         let w = p.knows.0 in
-        reads-here SideByte p p.place refl (accept-side s p.place w.head w.pieces w.is begun v b x again (has-here SideByte p p.place refl) p.before p.at side p.knows.1 byte
-        (spells-here SideByte p p.place refl) (to-value part SideByte e is) t first second)
+        reads-here SideByte p p.place refl (λ at' headed j. accept-side s p.place w.head w.pieces w.is begun v b x again headed p.before at' side p.knows.1 byte j (to-value part SideByte e is) t first second)
 
     pub by-time : part ≡ Time → t ≡ then_at s Size 8 → ReadsOn t x r (b ∷ []) None
     by-time e f =
         let p = to-part part Time e p' in
         let w = p.knows.within in
-        reads-here Time p p.place refl (accept-time s p.place w.head w.pieces w.is begun v b x again (has-here Time p p.place refl) p.before p.at p.knows.second p.knows.values
-        (spells-here Time p p.place refl) (to-value part Time e is) t f)
+        reads-here Time p p.place refl (λ at' headed j. accept-time s p.place w.head w.pieces w.is begun v b x again headed p.before at' p.knows.second p.knows.values j (to-value part Time e is) t f)
 
     pub by-size : part ≡ Size → t ≡ record s { at = s.at + 4; size = number v; stage = Content 0 } → ReadsOn t x r (b ∷ []) None
     by-size e f =
         let p = to-part part Size e p' in
         let w = p.knows.within in
-        reads-here Size p p.place refl (accept-size s p.place w.head w.pieces w.is begun v b x again (has-here Size p p.place refl) p.before p.at p.knows.time p.knows.timed p.knows.values
-        (spells-here Size p p.place refl) (to-value part Size e is) t f)
+        reads-here Size p p.place refl (λ at' headed j. accept-size s p.place w.head w.pieces w.is begun v b x again headed p.before at' p.knows.time p.knows.timed p.knows.values j (to-value part Size e is) t f)
 
 pub first-byte : (bytes : List ℕ) → length bytes ≡ 8 → take 1 bytes ≡ get_or bytes 0 0 ∷ []
 first-byte [] eight = absurd (omega (arith, eight))

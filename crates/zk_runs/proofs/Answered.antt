@@ -1,5 +1,5 @@
 -- What a run that builds has read and written when it answers.
-use Rattle.std.proofs.Common.{◌≡◌, ℕ, List, [], ◌++◌, Option, Result, Ok, Err, IfOk, OnErr, refl, ap, ◌∙◌, sym, subst, append-nil, Bool}
+use Rattle.std.proofs.Common.{◌≡◌, ℕ, List, [], ◌++◌, Option, IfOk, OnErr, refl, ap, ◌∙◌, sym, subst, append-nil, Bool}
 use Rattle.std.specs.Io.KnownBytes.{Consumes, IsAtEnd}
 use Rattle.zk_talk.specs.declared.limits.Limits.{Limits}
 use Rattle.zk_talk.specs.Said.{SpeakerState}
@@ -30,14 +30,6 @@ covers-all (SayRefused at' fault) x unread lines end are = all_of end are
 stand-first : (x : List ℕ) (unread : Option (List ℕ)) (lines : List (List ℕ)) → IsAtEnd unread → StandIn x lines → StandFirst x unread lines
 stand-first x unread lines end (some rest each read) = fed_in rest each read
 stand-first x unread lines end (all are) = all_of end are
-
-pub if-ok-map : {T E : Type 0} (r : Result T E) (P Q : T → Type 0) → ((x : T) → P x → Q x) → IfOk r P → IfOk r Q
-if-ok-map (Ok x) P Q f p = f x p
-if-ok-map (Err e) P Q f p = tt
-
-pub on-err-map : {T E : Type 0} (r : Result T E) (P Q : Type 0) → (P → Q) → OnErr r P → OnErr r Q
-on-err-map (Ok x) P Q f p = tt
-on-err-map (Err e) P Q f p = f p
 
 module _ (limits : Limits) (unread mid : Option (List ℕ)) (x : List ℕ) (before now : Option (List ℕ)) (p : Consumes unread mid x) where
   -- what was read so far

@@ -25,6 +25,9 @@ pub took-unput : (limits : Limits) (lines : List (List ℕ)) (before was : Optio
 took-unput limits lines before was due none count ended speaker t = subst (λ now. Took limits lines before now count ended speaker) (known-none was due none) t
 
 module _ (limits : Limits) (x : List ℕ) (before was now : Option (List ℕ)) (due : List ℕ) where
+  begins-as : (b : BeginsIn limits x before (append_known was due)) → HasGrownIn before now (recording_of b.begins.messages) → BeginsIn limits x before now
+  begins-as b written = record { lines = b.lines; rest = b.rest; each = b.each; read = b.read; begins = record { messages = b.begins.messages; accepted = b.begins.accepted; written = written } }
+
   -- all of it
   module _ (w : Appends was now due) where
     pub taken-written : (begun : List ℕ) (count : ℕ) (ended : Bool) (speaker : SpeakerState) → HasTaken limits x before (append_known was due) begun count ended speaker →
@@ -38,15 +41,7 @@ module _ (limits : Limits) (x : List ℕ) (before was now : Option (List ℕ)) (
     }
 
     begins-written : BeginsIn limits x before (append_known was due) → BeginsIn limits x before now
-    begins-written b =
-        let g = b.begins.written in
-        record {
-          lines = b.lines;
-          rest = b.rest;
-          each = b.each;
-          read = b.read;
-          begins = record { messages = b.begins.messages; accepted = b.begins.accepted; written = (g.0, known-whole before was now due _ g.1 w) };
-        }
+    begins-written b = let g = b.begins.written in begins-as b (g.0, known-whole before was now due _ g.1 w)
 
     pub halts-written : (halt : Halt) (count : ℕ) → HaltsIn limits x before halt count (append_known was due) → HaltsIn limits x before halt count now
     halts-written (Refused built) count r = record {
@@ -84,17 +79,7 @@ module _ (limits : Limits) (x : List ℕ) (before was now : Option (List ℕ)) (
         (built-good limits t.lines t.took.messages ended t.took.knows.good) (known-part before was now due sent all s t.took.written w)
 
     begins-part : BeginsIn limits x before (append_known was due) → BeginsIn limits x before now
-    begins-part b = record {
-      lines = b.lines;
-      rest = b.rest;
-      each = b.each;
-      read = b.read;
-      begins = record {
-        messages = b.begins.messages;
-        accepted = b.begins.accepted;
-        written = known-front before was now due sent (recording_of b.begins.messages) s b.begins.written w;
-      };
-    }
+    begins-part b = begins-as b (known-front before was now due sent (recording_of b.begins.messages) s b.begins.written w)
 
     halts-part : (halt : Halt) (count : ℕ) → HaltsIn limits x before halt count (append_known was due) → BeginsIn limits x before now
     halts-part (Refused built) count r =
@@ -111,11 +96,3 @@ module _ (limits : Limits) (x : List ℕ) (before was now : Option (List ℕ)) (
         OnOk r (HasTaken limits x before (append_known was due) begun count ended speaker) → IfErr r (λ halt. HaltsIn limits x before halt count (append_known was due)) → BeginsIn limits x before now
     gathered-part (Ok u) begun count ended speaker ok err = taken-part begun count ended speaker ok
     gathered-part (Err halt) begun count ended speaker ok err = halts-part halt count err
-
-pub on-ok-map : {T E : Type 0} (r : Result T E) (P Q : Type 0) → (P → Q) → OnOk r P → OnOk r Q
-on-ok-map (Ok x) P Q f p = f p
-on-ok-map (Err e) P Q f p = tt
-
-pub if-err-map : {T E : Type 0} (r : Result T E) (P Q : E → Type 0) → ((e : E) → P e → Q e) → IfErr r P → IfErr r Q
-if-err-map (Ok x) P Q f p = tt
-if-err-map (Err e) P Q f p = f e p

@@ -15,10 +15,9 @@ use Rattle.zk_talk.specs.declared.message.Side.TheVariants.{Client, Server}
 use Rattle.zk_talk.specs.Held.{Message}
 use Rattle.zk_talk.specs.declared.message.MessageOf.TheVariants.{Client as FromClient, Server as FromServer}
 use Rattle.zk_talk.specs.declared.message.Ending.TheVariants.{Whole as whole}
-use Rattle.zk_talk.specs.History.{History, side_bytes, HaveSameBytes}
-use Rattle.zk_talk.specs.Conversation.{Conversation}
+use Rattle.zk_talk.specs.History.{side_bytes, HaveSameBytes}
 use Rattle.zk_talk.specs.Good.{Good, IsOrder}
-use Rattle.zk_talk.specs.Ending.{IsEnding, unanswered}
+use Rattle.zk_talk.specs.Ending.{unanswered}
 use Rattle.zk_talk.specs.Said.{AreSaid, AreSized, MaySay, said, side_of, payload_of, conversation_of}
 use Rattle.zk_talk.proofs.Small.{small_limits}
 use Rattle.zk_talk.proofs.Headline.{same_good}
@@ -38,7 +37,7 @@ use Rattle.zk_recordings.specs.Parts.{number, is_good, is_within}
 use Rattle.zk_recordings.specs.Recording.{IsPiece, side_byte, piece_history, Spells, history_of}
 use Rattle.zk_listings.specs.Outcome.{IsOutcome}
 use Rattle.zk_runs.specs.Building.{IsLine, with_feed, fed, AreLines, all_fed, recording_of, piece_of, due_ending, IsBuilt, with_ending}
-use Rattle.zk_runs.specs.Rebuilding.{whole_listing, one_a_piece, AreAlike, AreBuilt, BuildsJust}
+use Rattle.zk_runs.specs.Rebuilding.{WholeConversation, whole_listing, listing_of, one_a_piece, AreAlike, AreBuilt, BuildsJust}
 use Rattle.zk_runs.proofs.Builds.{run_once}
 
 -- ---- messages that were said
@@ -133,44 +132,44 @@ said_in_pieces messages = append-nil (flat_map piece_history (map piece_of messa
 
 -- ---- a conversation that ends whole
 
-module _ (limits : Limits) (h : History) (v : Conversation) (messages : List Message) (n : ℕ) (good : Good limits h v [] []) (order : IsOrder limits h v messages) (ending : IsEnding limits h (whole n)) where
-  are : AreSaid limits messages
-  are = (order_said limits h v messages good order).0
+module _ (w : WholeConversation) where
+  are : AreSaid w.limits w.messages
+  are = (order_said w.limits w.history w.conversation w.messages w.good w.order).0
 
-  count : n ≡ unanswered (conversation_of messages)
+  count : w.unanswered ≡ unanswered (conversation_of w.messages)
   count =
-      ending.2
-      ∙ ap unanswered (same_good limits (small_limits limits) h ending.0 v [] [] [] [] ending.1 good).0
-      ∙ ap unanswered (sym (order_said limits h v messages good order).3)
+      w.ending.2
+      ∙ ap unanswered (same_good w.limits (small_limits w.limits) w.history w.ending.0 w.conversation [] [] [] [] w.ending.1 w.good).0
+      ∙ ap unanswered (sym (order_said w.limits w.history w.conversation w.messages w.good w.order).3)
 
-  sized : AreSized messages
+  sized : AreSized w.messages
   sized =
-      let o = order_said limits h v messages good order in (
-        omega (arith, good.client_size, ap length o.1),
-        omega (arith, good.server_size, ap length o.2),
+      let o = order_said w.limits w.history w.conversation w.messages w.good w.order in (
+        omega (arith, w.good.client_size, ap length o.1),
+        omega (arith, w.good.server_size, ap length o.2),
       )
 
-  pub listing_built : AreBuilt limits (whole_listing messages n) messages Whole
-  listing_built = record { lines = lines limits messages are; are = are_lines limits messages are n count; is = is_built limits messages are }
+  pub listing_built : AreBuilt w.limits (listing_of w) w.messages Whole
+  listing_built = record { lines = lines w.limits w.messages are; are = are_lines w.limits w.messages are w.unanswered count; is = is_built w.limits w.messages are }
 
-  pub built_spelled : Spells (recording_of messages) (one_a_piece messages)
-  built_spelled = spelled limits messages are
+  pub built_spelled : Spells (recording_of w.messages) (one_a_piece w.messages)
+  built_spelled = spelled w.limits w.messages are
 
-  pub same_bytes : HaveSameBytes (history_of (one_a_piece messages)) h
+  pub same_bytes : HaveSameBytes (history_of (one_a_piece w.messages)) w.history
   same_bytes =
-      let o = order_said limits h v messages good order in (
-        ap (side_bytes Client) (said_in_pieces messages) ∙ o.1,
-        ap (side_bytes Server) (said_in_pieces messages) ∙ o.2,
+      let o = order_said w.limits w.history w.conversation w.messages w.good w.order in (
+        ap (side_bytes Client) (said_in_pieces w.messages) ∙ o.1,
+        ap (side_bytes Server) (said_in_pieces w.messages) ∙ o.2,
       )
 
-  pub comes_again : IsOutcome limits (one_a_piece messages) messages (Ended (whole n))
+  pub comes_again : IsOutcome w.limits (one_a_piece w.messages) w.messages (Ended (whole w.unanswered))
   comes_again =
-      let s = spoken limits messages are sized in
-      let g = subst (λ z. Good limits z (conversation_of messages) [] []) (sym (said_in_pieces messages)) s.0 in
-      let o = subst (λ z. IsOrder limits z (conversation_of messages) messages) (sym (said_in_pieces messages)) s.1 in
+      let s = spoken w.limits w.messages are sized in
+      let g = subst (λ z. Good w.limits z (conversation_of w.messages) [] []) (sym (said_in_pieces w.messages)) s.0 in
+      let o = subst (λ z. IsOrder w.limits z (conversation_of w.messages) w.messages) (sym (said_in_pieces w.messages)) s.1 in
       record {
-        comes_to = (refl, (conversation_of messages, g, count));
-        messages_are = (conversation_of messages, [], [], g, o);
+        comes_to = (refl, (conversation_of w.messages, g, count));
+        messages_are = (conversation_of w.messages, [], [], g, o);
       }
 
   whole_alike : (built : Built) → AreAlike Whole built → built ≡ Whole
@@ -178,7 +177,7 @@ module _ (limits : Limits) (h : History) (v : Conversation) (messages : List Mes
   whole_alike (LineRefused at fault) a = absurd a
   whole_alike (SayRefused at fault) a = absurd a
 
-  pub listing_run : BuildsJust limits (whole_listing messages n) messages Whole
+  pub listing_run : BuildsJust w.limits (listing_of w) w.messages Whole
   listing_run unread contents contents_now built has =
-      let r = run_once limits (whole_listing messages n) messages Whole listing_built unread contents contents_now built has in
+      let r = run_once w.limits (listing_of w) w.messages Whole listing_built unread contents contents_now built has in
       (whole_alike built r.0, r.1)

@@ -1,6 +1,6 @@
 //! `build_run`: the engine that makes a recording of lines.
 ghost use Rattle.std.specs.Prelude.{◌≡◌, ◌+◌, ◌^◌, ◌<◌, ◌≤◌, false, true, IfOk, OnErr, IsErrOf};
-ghost use Rattle.zk_listings.specs.Running.{IsSpent, OnRead};
+ghost use Rattle.zk_listings.specs.Running.{AreReady, LeavesDevices, OnRead};
 ghost use Rattle.zk_runs.specs.Building.{HasBuilt, HasBuiltSoFar, HasBegunBuilding};
 
 use crate::builder::Builder;
@@ -24,29 +24,18 @@ pub fn build_run<R: Source, W: Sink>(
     reader: &mut R,
     writer: &mut W,
 ) -> Result<Built, RunFault>
-    requires reader { R.has_failed reader.old ≡ false }
-    requires reads { R.read_count reader.old < 2 ^ 62 }
-    requires writer { W.has_failed writer.old ≡ false }
+    requires { AreReady (R.read_count reader.old) (R.has_failed reader.old) (W.has_failed writer.old) }
 
     // The recording is written of the lines that were read: all there are, or those before one that is refused.
     ensures ok { IfOk result (HasBuilt limits (R.remaining reader.old) (R.remaining reader.new) (W.contents writer.old) (W.contents writer.new)) }
 
     // After a failed read, or one too many, the piece of each line that is whole in what was read is written.
     ensures read { OnRead result (HasBuiltSoFar limits (R.remaining reader.old) (R.remaining reader.new) (W.contents writer.old) (W.contents writer.new)) }
-    ensures spent { IsErrOf result RunFault.Read → IsSpent (R.has_failed reader.new) (R.read_count reader.old) (R.read_count reader.new) }
-
-    // A failed write, or one that takes nothing, is reported as that.
-    ensures write { IsErrOf result RunFault.Write → W.has_failed writer.new ≡ true }
-    ensures open { IfOk result (λ _. W.has_failed writer.new ≡ false) }
-    ensures spared { IsErrOf result RunFault.Memory → W.has_failed writer.new ≡ false }
-
-    // A failed read is never passed over, and no run reads more often than that.
-    ensures alive { IfOk result (λ _. R.has_failed reader.new ≡ false) }
-    ensures memory { IsErrOf result RunFault.Memory → R.has_failed reader.new ≡ false }
-    ensures bound { R.read_count reader.new ≤ R.read_count reader.old + 4294967296 }
 
     // A run that stops early has written a front of the recording.
     ensures begun { OnErr result (HasBegunBuilding limits (R.remaining reader.old) (R.remaining reader.new) (W.contents writer.old) (W.contents writer.new)) }
+
+    ensures devices { LeavesDevices result (R.read_count reader.old) (R.read_count reader.new) (R.has_failed reader.new) (W.has_failed writer.new) }
 {
     let mut builder = Builder::new(alloc, limits)?;
     write_whole(writer, &ZKR1)?;

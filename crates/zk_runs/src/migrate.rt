@@ -5,7 +5,7 @@ ghost use Rattle.zk_runs.specs.Migrating as migrating;
 ghost use Rattle.zk_runs.specs.Migrating.{HasBegunMigrating, HasMigrated, HasMigratedSoFar, HasMigratedTo, MovesOn, MovesBy};
 ghost use Rattle.zk_recordings.specs.Reading.{IsAt, IsUndamaged, place_in};
 ghost use Rattle.zk_recordings.specs.Recording.{Recording, damage_of, head_bytes};
-ghost use Rattle.zk_listings.specs.Running.{IsSpent, OnRead};
+ghost use Rattle.zk_listings.specs.Running.{AreReady, LeavesDevices, OnRead};
 
 use std::alloc::{AllocError, Global};
 use std::fmt::Display;
@@ -236,29 +236,18 @@ pub fn migrate_run<R: Source, W: Sink>(
     reader: &mut R,
     writer: &mut W,
 ) -> Result<Migrated, RunFault>
-    requires reader { R.has_failed reader.old ≡ false }
-    requires reads { R.read_count reader.old < 2 ^ 62 }
-    requires writer { W.has_failed writer.old ≡ false }
+    requires { AreReady (R.read_count reader.old) (R.has_failed reader.old) (W.has_failed writer.old) }
 
     // What was read is migrated, all there is or what is damaged whatever follows, and its damage is returned.
     ensures ok { IfOk result (HasMigrated limits (R.remaining reader.old) (R.remaining reader.new) (W.contents writer.old) (W.contents writer.new)) }
 
     // After a failed read, or one too many, what was read is migrated as far as its pieces are whole.
     ensures read { OnRead result (HasMigratedSoFar limits (R.remaining reader.old) (R.remaining reader.new) (W.contents writer.old) (W.contents writer.new)) }
-    ensures spent { IsErrOf result RunFault.Read → IsSpent (R.has_failed reader.new) (R.read_count reader.old) (R.read_count reader.new) }
-
-    // A failed write, or one that takes nothing, is reported as that.
-    ensures write { IsErrOf result RunFault.Write → W.has_failed writer.new ≡ true }
-    ensures open { IfOk result (λ _. W.has_failed writer.new ≡ false) }
-    ensures spared { IsErrOf result RunFault.Memory → W.has_failed writer.new ≡ false }
-
-    // A failed read is never passed over, and no run reads more often than that.
-    ensures alive { IfOk result (λ _. R.has_failed reader.new ≡ false) }
-    ensures memory { IsErrOf result RunFault.Memory → R.has_failed reader.new ≡ false }
-    ensures bound { R.read_count reader.new ≤ R.read_count reader.old + 4294967296 }
 
     // A run that stops early has written a front of what the bytes that it read are migrated to.
     ensures begun { OnErr result (HasBegunMigrating limits (R.remaining reader.old) (R.remaining reader.new) (W.contents writer.old) (W.contents writer.new)) }
+
+    ensures devices { LeavesDevices result (R.read_count reader.old) (R.read_count reader.new) (R.has_failed reader.new) (W.has_failed writer.new) }
 {
     let mut migrator = Migrator::new(alloc);
     let mut buf = [0; BLOCK];

@@ -1,5 +1,6 @@
 //! `run_words`: the whole program, over a reader and two writers.
 ghost use Rattle.std.specs.Prelude.{◌≡◌, ◌+◌, ◌^◌, ◌<◌, ◌≤◌, false, IfOk, IfErr, OnErr};
+ghost use Rattle.zk_listings.specs.Running.{AreReady};
 ghost use Rattle.zk_runs.specs.Commands.{IsDone, IsFailed, Answers, Stops, IsDoneBySome, HasStoppedBySome};
 ghost use Rattle.zk_runs.specs.Exits.{exit_of, exit_of_built, exit_of_migrated, refusal_of};
 
@@ -96,9 +97,7 @@ fn obey<R: Source, W: Sink, F: Sink>(
     writer: &mut W,
     faults: &mut F,
 ) -> Result<u8, RunFault>
-    requires reader { R.has_failed reader.old ≡ false }
-    requires reads { R.read_count reader.old < 2 ^ 62 }
-    requires writer { W.has_failed writer.old ≡ false }
+    requires { AreReady (R.read_count reader.old) (R.has_failed reader.old) (W.has_failed writer.old) }
     ensures ok { IfOk result (IsDone chosen (R.remaining reader.old) (R.remaining reader.new) (W.contents writer.old) (W.contents writer.new)) }
     ensures small { IfOk result (λ exit. exit < 2) }
     ensures err { OnErr result (IsFailed chosen (R.remaining reader.old) (R.remaining reader.new) (W.contents writer.old) (W.contents writer.new)) }
@@ -129,9 +128,7 @@ pub fn run_settings<R: Source, W: Sink, F: Sink>(
     writer: &mut W,
     faults: &mut F,
 ) -> u8
-    requires reader { R.has_failed reader.old ≡ false }
-    requires reads { R.read_count reader.old < 2 ^ 62 }
-    requires writer { W.has_failed writer.old ≡ false }
+    requires { AreReady (R.read_count reader.old) (R.has_failed reader.old) (W.has_failed writer.old) }
     ensures known { result ≤ 3 }
 
     // The command that was chosen is done, under its limits: what was read is listed, or made a recording.
@@ -170,9 +167,7 @@ pub fn run_words<R: Source, W: Sink, F: Sink>(
     writer: &mut W,
     faults: &mut F,
 ) -> u8
-    requires reader { R.has_failed reader.old ≡ false }
-    requires reads { R.read_count reader.old < 2 ^ 62 }
-    requires writer { W.has_failed writer.old ≡ false }
+    requires { AreReady (R.read_count reader.old) (R.has_failed reader.old) (W.has_failed writer.old) }
     ensures known { result ≤ 3 }
 
     // Below 2, the words are a command line, and its command is done: what was read is listed, or made a recording.

@@ -1,48 +1,37 @@
 use Rattle.std.proofs.Common.{◌≡◌, ◌++◌, ◌∙◌, ap, subst}
 use Rattle.std.specs.Io.KnownBytes.{Appends}
-use Rattle.std.proofs.lemmas.Result.{err_from_is_err_and}
 use Rattle.zk_listings.specs.declared.listing.Listing.TheVariants.{Last}
 use Rattle.zk_listings.specs.Earliest.{before_lines, in_lines}
 use Rattle.zk_listings.specs.Lines.{last_line}
 use Rattle.zk_listings.specs.Outcome.{HasGrownIn}
+use Rattle.zk_listings.proofs.Exits.{on-err}
 use Rattle.zk_listings.proofs.Bytes.{Appends-then}
-use Rattle.zk_listings.proofs.Found.{grown-front, grown-further}
-use Rattle.zk_listings.proofs.Stopped.{stopped-in_messages, stopped-in_last_line}
+use Rattle.zk_listings.proofs.Found.{grown-further}
+use Rattle.zk_listings.proofs.Stopped.{stopped-in_messages, stopped-before_last_line}
 use Rattle.zk_listings.proofs.Tails.{found-with}
 use Rattle.zk_listings.proofs.earliest_run.check_earliest_run.Goals as goal
 
 pub returns-in_err-summary-clause-begun : goal.returns-in_err-summary-clause-begun
 returns-in_err-summary-clause-begun g c =
-    let p = err_from_is_err_and c.from_residual.result c.from_residual.ensures.1 in
     let b = c.in_err-summary.ensures.begun in
-    rw p.1 (before_lines (stopped-in_messages c.args.limits Last _ _ _ _ b.messages b.begun b.written))
+    on-err c.from_residual.result (before_lines (stopped-in_messages c.args.limits Last _ _ _ _ b.messages b.begun b.written))
 
 pub returns-in_err-lines-clause-begun : goal.returns-in_err-lines-clause-begun
-returns-in_err-lines-clause-begun g c =
-    let p = err_from_is_err_and c.from_residual-in_err-lines.result c.from_residual-in_err-lines.ensures.1 in
-    let f = c.in_ok-summary.ensures.ok.all in
-    rw p.1 (before_lines (stopped-in_last_line c.args.limits Last _ _ _ _ f.messages _ f.found (grown-front _ _ _ _ f.written)))
+returns-in_err-lines-clause-begun g c = on-err c.from_residual-in_err-lines.result (before_lines (stopped-before_last_line c.args.limits Last _ _ _ _ _ c.in_ok-summary.ensures.ok.all))
 
 pub returns-in_err-tail-clause-begun : goal.returns-in_err-tail-clause-begun
-returns-in_err-tail-clause-begun g c =
-    let p = err_from_is_err_and c.from_residual-in_err-tail.result c.from_residual-in_err-tail.ensures.1 in
-    let f = c.in_ok-summary.ensures.ok.all in
-    rw p.1 (before_lines (stopped-in_last_line c.args.limits Last _ _ _ _ f.messages _ f.found (grown-front _ _ _ _ f.written)))
+returns-in_err-tail-clause-begun g c = on-err c.from_residual-in_err-tail.result (before_lines (stopped-before_last_line c.args.limits Last _ _ _ _ _ c.in_ok-summary.ensures.ok.all))
 
 pub returns-in_err-extend_from_slice-clause-begun : goal.returns-in_err-extend_from_slice-clause-begun
-returns-in_err-extend_from_slice-clause-begun g c =
-    let p = err_from_is_err_and c.from_residual-in_err-extend_from_slice.result c.from_residual-in_err-extend_from_slice.ensures.1 in
-    let f = c.in_ok-summary.ensures.ok.all in
-    rw p.1 (before_lines (stopped-in_last_line c.args.limits Last _ _ _ _ f.messages _ f.found (grown-front _ _ _ _ f.written)))
+returns-in_err-extend_from_slice-clause-begun g c = on-err c.from_residual-in_err-extend_from_slice.result (before_lines (stopped-before_last_line c.args.limits Last _ _ _ _ _ c.in_ok-summary.ensures.ok.all))
 
 pub returns-in_err-write_whole-clause-begun : goal.returns-in_err-write_whole-clause-begun
 returns-in_err-write_whole-clause-begun g c =
-    let p = err_from_is_err_and c.from_residual-in_err-write_whole.result c.from_residual-in_err-write_whole.ensures.1 in
     let summary = c.in_ok-summary.summary in
     let f = c.in_ok-summary.ensures.ok in
     let tail = c.in_ok-tail.tail.items in
     let both : c.deref-2.result.now ≡ last_line summary ++ tail = c.deref-2.ensures.value ∙ c.in_ok-extend_from_slice.ensures.items ∙ ap (λ l. l ++ c.deref.result.now) c.in_ok-lines.ensures ∙ ap (λ l. last_line summary ++ l) c.deref.ensures.value in
-    rw p.1 (in_lines summary tail (found-with _ _ c.refused_body.ensures.tells c.args.limits Last _ _ _ _ summary tail f c.in_ok-tail.ensures)
+    on-err c.from_residual-in_err-write_whole.result (in_lines summary tail (found-with _ _ c.refused_body.ensures.tells c.args.limits Last _ _ _ _ summary tail f c.in_ok-tail.ensures)
     (grown-further _ _ _ _ _ f.all.written (subst (HasGrownIn (g.W.Sink.contents c.read_on.new.writer) (g.W.Sink.contents c.write_whole.new.writer)) both c.in_err-write_whole.ensures.err)))
 
 pub returns-clause-ok : goal.returns-clause-ok

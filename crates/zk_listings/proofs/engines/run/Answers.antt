@@ -1,31 +1,27 @@
 use Rattle.std.proofs.Common.{◌≡◌, ◌∙◌, subst}
 use Rattle.std.specs.Io.KnownBytes.{Appends}
-use Rattle.std.proofs.lemmas.Result.{err_from_is_err_and}
 use Rattle.zk_listings.specs.Lines.{last_line}
 use Rattle.zk_listings.specs.Outcome.{HasGrownIn}
+use Rattle.zk_listings.proofs.Exits.{on-err}
 use Rattle.zk_listings.proofs.Bytes.{Appends-then}
-use Rattle.zk_listings.proofs.Found.{grown-front, grown-further}
-use Rattle.zk_listings.proofs.Stopped.{stopped-in_messages, stopped-in_last_line}
+use Rattle.zk_listings.proofs.Found.{grown-further}
+use Rattle.zk_listings.proofs.Stopped.{stopped-in_messages, stopped-in_last_line, stopped-before_last_line}
 use Rattle.zk_listings.proofs.engines.run.Goals as goal
 
 pub returns-in_err-summary-clause-begun : goal.returns-in_err-summary-clause-begun
 returns-in_err-summary-clause-begun g c =
-    let p = err_from_is_err_and c.from_residual.result c.from_residual.ensures.1 in
     let b = c.in_err-summary.ensures.begun in
-    rw p.1 (stopped-in_messages c.args.limits c.args.listing _ _ _ _ b.messages b.begun b.written)
+    on-err c.from_residual.result (stopped-in_messages c.args.limits c.args.listing _ _ _ _ b.messages b.begun b.written)
 
 pub returns-in_err-line-clause-begun : goal.returns-in_err-line-clause-begun
 returns-in_err-line-clause-begun g c =
-    let p = err_from_is_err_and c.from_residual-in_err-line.result c.from_residual-in_err-line.ensures.1 in
-    let f = c.in_ok-summary.ensures.ok.all in
-    rw p.1 (stopped-in_last_line c.args.limits c.args.listing _ _ _ _ f.messages _ f.found (grown-front _ _ _ _ f.written))
+    on-err c.from_residual-in_err-line.result (stopped-before_last_line c.args.limits c.args.listing _ _ _ _ _ c.in_ok-summary.ensures.ok.all)
 
 pub returns-in_err-write_whole-clause-begun : goal.returns-in_err-write_whole-clause-begun
 returns-in_err-write_whole-clause-begun g c =
-    let p = err_from_is_err_and c.from_residual-in_err-write_whole.result c.from_residual-in_err-write_whole.ensures.1 in
     let f = c.in_ok-summary.ensures.ok.all in
     let line : c.deref.result.now ≡ last_line c.in_ok-summary.summary = c.deref.ensures.value ∙ c.in_ok-line.ensures in
-    rw p.1 (stopped-in_last_line c.args.limits c.args.listing _ _ _ _ f.messages _ f.found (grown-further _ _ _ _ _ f.written
+    on-err c.from_residual-in_err-write_whole.result (stopped-in_last_line c.args.limits c.args.listing _ _ _ _ f.messages _ f.found (grown-further _ _ _ _ _ f.written
     (subst (HasGrownIn (g.W.Sink.contents c.read_on.new.writer) (g.W.Sink.contents c.write_whole.new.writer)) line c.in_err-write_whole.ensures.err)))
 
 pub returns-clause-ok : goal.returns-clause-ok

@@ -1,18 +1,17 @@
 use Rattle.std.proofs.Common.{arith, ◌∙◌, [], false, true, refl, length-take, ap, ◌||◌, inl, inr}
-use Rattle.std.proofs.lemmas.Result.{err_from_is_err_and}
+use Rattle.std.proofs.lemmas.Result.{IfOk-weaker, on_err_weaker}
+use Rattle.zk_listings.proofs.Exits.{on-err, left-by-read}
 use Rattle.zk_listings.proofs.Bytes.{Appends-none, Consumes-none, Consumes-then, Consumes-kept}
-use Rattle.zk_runs.proofs.Answered.{if-ok-map, on-err-map, begun-head, built-so_far, begun-so_far, built-at_end, begun-at_end, built-answer, begun-answer}
+use Rattle.zk_runs.proofs.Answered.{begun-head, built-so_far, begun-so_far, built-at_end, begun-at_end, built-answer, begun-answer}
 use Rattle.zk_runs.proofs.build.build_run.Goals as goal
 
 pub returns-in_err-builder-clause-begun : goal.returns-in_err-builder-clause-begun
 returns-in_err-builder-clause-begun g c =
-    let p = err_from_is_err_and c.from_residual.result c.from_residual.ensures.1 in
-    rw p.1 (begun-head c.args.limits _ _ _ (0, Appends-none _))
+    on-err c.from_residual.result (begun-head c.args.limits _ _ _ (0, Appends-none _))
 
 pub returns-in_err-write_whole-clause-begun : goal.returns-in_err-write_whole-clause-begun
 returns-in_err-write_whole-clause-begun g c =
-    let p = err_from_is_err_and c.from_residual-in_err-write_whole.result c.from_residual-in_err-write_whole.ensures.1 in
-    rw p.1 (begun-head c.args.limits _ _ _ c.in_err-write_whole.ensures.err)
+    on-err c.from_residual-in_err-write_whole.result (begun-head c.args.limits _ _ _ c.in_err-write_whole.ensures.err)
 
 pub loop-turn-init : goal.loop-turn-init
 loop-turn-init g c = record {
@@ -29,8 +28,9 @@ returns-in_default-clause-read g c = λ _.
     let i = c.loop-turn.invariant.taken in
     built-so_far c.args.limits _ _ i.0 _ _ (Consumes-kept _ _ _ i.0 i.1 c.in_default.ensures.bytes) _ _ _ _ (i.2 _ c.in_ok-write_whole.ensures.ok)
 
-pub returns-in_default-clause-spent : goal.returns-in_default-clause-spent
-returns-in_default-clause-spent g c = λ _. inl (c.in_default.ensures.failed ∙ ap (λ b. b || true) c.loop-turn.invariant.live)
+pub returns-in_default-clause-devices : goal.returns-in_default-clause-devices
+returns-in_default-clause-devices g c =
+    left-by-read _ _ _ _ (inl (c.in_default.ensures.failed ∙ ap (λ b. b || true) c.loop-turn.invariant.live)) (omega (arith, c.in_default.ensures.counted, c.loop-turn.invariant.count, c.loop-turn-test.true))
 
 pub returns-in_default-clause-begun : goal.returns-in_default-clause-begun
 returns-in_default-clause-begun g c =
@@ -41,14 +41,14 @@ pub returns-then-count-eq0-clause-ok : goal.returns-then-count-eq0-clause-ok
 returns-then-count-eq0-clause-ok g c =
     let i = c.loop-turn.invariant.taken in
     let r = c.in-Ok.ensures.bytes in
-    if-ok-map c.finish.result _ _ (λ built all. built-at_end c.args.limits _ _ i.0 _ _ i.1 _ _ r.0 (rw c.if-count-eq0.true refl)
+    IfOk-weaker c.finish.result _ _ (λ built all. built-at_end c.args.limits _ _ i.0 _ _ i.1 _ _ r.0 (rw c.if-count-eq0.true refl)
     (r.1 c.if-count-eq0.true (omega (arith, c.read.auto.buf, c.loop-turn.invariant.block))) built (all c.args.limits i.0 _ (i.2 _ c.in_ok-write_whole.ensures.ok))) c.finish.ensures.built
 
 pub returns-then-count-eq0-clause-begun : goal.returns-then-count-eq0-clause-begun
 returns-then-count-eq0-clause-begun g c =
     let i = c.loop-turn.invariant.taken in
     let r = c.in-Ok.ensures.bytes in
-    on-err-map c.finish.result _ _ (λ all. begun-at_end c.args.limits _ _ i.0 _ _ i.1 _ _ r.0 (rw c.if-count-eq0.true refl)
+    on_err_weaker c.finish.result (λ all. begun-at_end c.args.limits _ _ i.0 _ _ i.1 _ _ r.0 (rw c.if-count-eq0.true refl)
     (r.1 c.if-count-eq0.true (omega (arith, c.read.auto.buf, c.loop-turn.invariant.block))) (all c.args.limits i.0 _ (i.2 _ c.in_ok-write_whole.ensures.ok))) c.finish.ensures.begun
 
 pub returns-in-Err-clause-ok : goal.returns-in-Err-clause-ok
@@ -68,7 +68,7 @@ loop-turn-preserved g c =
       block = c.read.auto.buf ∙ c.loop-turn.invariant.block;
       live = c.in-Ok.ensures.failed ∙ ap (λ b. b || false) c.loop-turn.invariant.live;
       writer_live = c.in_default-feed.ensures.live;
-      count = omega (arith, c.in-Ok.ensures.counted, c.loop-turn.invariant.count, c.requires.reads, c.loop-turn-test.true);
+      count = omega (arith, c.in-Ok.ensures.counted, c.loop-turn.invariant.count, c.requires.few, c.loop-turn-test.true);
       lines = omega (arith, c.in_default-feed.ensures.count, c.loop-turn.invariant.lines, c.read.auto.buf, c.loop-turn.invariant.block, length-take c.in-Ok.count c.read.new.buf);
       taken = (_, Consumes-then _ _ _ i.0 _ i.1 c.in-Ok.ensures.bytes.0, λ before written. c.in_default-feed.ensures.goes_on c.args.limits i.0 before (i.2 before written));
     }
@@ -78,8 +78,8 @@ returns-clause-read g c = λ _.
     let i = c.loop-turn.invariant.taken in
     built-so_far c.args.limits _ _ i.0 _ _ i.1 _ _ _ _ (i.2 _ c.in_ok-write_whole.ensures.ok)
 
-pub returns-clause-spent : goal.returns-clause-spent
-returns-clause-spent g c = λ _. inr (omega (arith, c.loop-turn.invariant.count, c.loop-turn-test.false))
+pub returns-clause-devices : goal.returns-clause-devices
+returns-clause-devices g c = left-by-read _ _ _ _ (inr (omega (arith, c.loop-turn.invariant.count, c.loop-turn-test.false))) (omega (arith, c.loop-turn.invariant.count, c.loop-turn.auto._turn-end))
 
 pub returns-clause-begun : goal.returns-clause-begun
 returns-clause-begun g c =

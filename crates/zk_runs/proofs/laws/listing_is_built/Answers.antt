@@ -2,19 +2,19 @@ use Rattle.zk_runs.proofs.Rebuilds.{listing_built, listing_run, built_spelled, s
 use Rattle.zk_runs.proofs.laws.listing_is_built.Goals as goal
 
 pub returns-clause-built : goal.returns-clause-built
-returns-clause-built c w = listing_built w.limits w.history w.conversation w.messages w.unanswered w.good w.order w.ending
+returns-clause-built c = listing_built
 
 pub returns-clause-run : goal.returns-clause-run
-returns-clause-run c w = listing_run w.limits w.history w.conversation w.messages w.unanswered w.good w.order w.ending
+returns-clause-run c = listing_run
 
 pub returns-clause-pieces : goal.returns-clause-pieces
-returns-clause-pieces c w = built_spelled w.limits w.history w.conversation w.messages w.unanswered w.good w.order w.ending
+returns-clause-pieces c = built_spelled
 
 pub returns-clause-said : goal.returns-clause-said
 returns-clause-said c = said_in_pieces
 
 pub returns-clause-bytes : goal.returns-clause-bytes
-returns-clause-bytes c w = same_bytes w.limits w.history w.conversation w.messages w.unanswered w.good w.order w.ending
+returns-clause-bytes c = same_bytes
 
 pub returns-clause-again : goal.returns-clause-again
-returns-clause-again c w = comes_again w.limits w.history w.conversation w.messages w.unanswered w.good w.order w.ending
+returns-clause-again c = comes_again

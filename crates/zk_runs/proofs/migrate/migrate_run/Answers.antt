@@ -1,9 +1,9 @@
 use Rattle.std.proofs.Common.{arith, ◌∙◌, [], false, true, refl, sym, length-take, ap, ◌||◌, inl, inr, subst, take}
 use Rattle.std.specs.Io.KnownBytes.{Appends}
-use Rattle.std.proofs.lemmas.Result.{err_from_is_err_and}
 use Rattle.zk_recordings.specs.Reading.{IsUndamaged, place_in}
 use Rattle.zk_listings.specs.Outcome.{HasGrownIn}
 use Rattle.zk_runs.specs.Migrating.{HasMovedBy, due_of, begun_in}
+use Rattle.zk_listings.proofs.Exits.{on-err, left-by-read}
 use Rattle.zk_listings.proofs.Bytes.{Consumes-none, Consumes-then, Consumes-kept}
 use Rattle.zk_listings.proofs.Decided.{broken-by}
 use Rattle.zk_runs.proofs.Paid.{migrated-so_far, migrated-at_end, migrated-damaged, begun-in, begun-so_far, begun-before, paid, paid-part, let-go, read-none}
@@ -26,8 +26,9 @@ returns-in_default-clause-read g c = λ _.
     let m = c.loop-turn.migrator in
     migrated-so_far c.args.limits _ _ i.0 _ _ (Consumes-kept _ _ _ i.0 i.1 c.in_default.ensures.bytes) m.headed (due_of m) (begun_in m) (ap (λ n. take n m.held.items) c.loop-turn.invariant.due) m.reader i.2 i.3
 
-pub returns-in_default-clause-spent : goal.returns-in_default-clause-spent
-returns-in_default-clause-spent g c = λ _. inl (c.in_default.ensures.failed ∙ ap (λ b. b || true) c.loop-turn.invariant.live)
+pub returns-in_default-clause-devices : goal.returns-in_default-clause-devices
+returns-in_default-clause-devices g c =
+    left-by-read _ _ _ _ (inl (c.in_default.ensures.failed ∙ ap (λ b. b || true) c.loop-turn.invariant.live)) (omega (arith, c.in_default.ensures.counted, c.loop-turn.invariant.count, c.loop-turn-test.true))
 
 pub returns-in_default-clause-begun : goal.returns-in_default-clause-begun
 returns-in_default-clause-begun g c =
@@ -45,17 +46,15 @@ returns-then-count-eq0-clause-ok g c =
 
 pub returns-in_err-found-clause-begun : goal.returns-in_err-found-clause-begun
 returns-in_err-found-clause-begun g c =
-    let p = err_from_is_err_and c.from_residual.result c.from_residual.ensures.1 in
     let i = c.loop-turn.invariant.moved in
     let m = c.loop-turn.migrator in
-    rw p.1 (begun-before c.args.limits _ _ i.0 _ m.headed (due_of m) (begun_in m) m.reader _ _ (Consumes-then _ _ _ i.0 _ i.1 c.in-Ok.ensures.bytes.0) i.2)
+    on-err c.from_residual.result (begun-before c.args.limits _ _ i.0 _ m.headed (due_of m) (begun_in m) m.reader _ _ (Consumes-then _ _ _ i.0 _ i.1 c.in-Ok.ensures.bytes.0) i.2)
 
 pub returns-in_err-write_whole-clause-begun : goal.returns-in_err-write_whole-clause-begun
 returns-in_err-write_whole-clause-begun g c =
-    let p = err_from_is_err_and c.from_residual-in_err-write_whole.result c.from_residual-in_err-write_whole.ensures.1 in
     let i = c.loop-turn.invariant.moved in
     let m = c.feed.new.self in
-    rw p.1 (begun-in c.args.limits _ _ _ _ _ (Consumes-then _ _ _ i.0 _ i.1 c.in-Ok.ensures.bytes.0)
+    on-err c.from_residual-in_err-write_whole.result (begun-in c.args.limits _ _ _ _ _ (Consumes-then _ _ _ i.0 _ i.1 c.in-Ok.ensures.bytes.0)
     (paid-part c.args.limits _ _ _ _ (due_of m) m.headed (begun_in m) m.reader c.in_ok-found.found (c.in_ok-found.ensures.goes_on i.0 _ _ i.2)
     (subst (HasGrownIn (g.W.Sink.contents c.loop-turn.writer) (g.W.Sink.contents c.write_whole.new.writer)) c.due.ensures c.in_err-write_whole.ensures.err)))
 
@@ -69,12 +68,11 @@ returns-in-Some-clause-ok g c =
 
 pub returns-in_err-let_go-clause-begun : goal.returns-in_err-let_go-clause-begun
 returns-in_err-let_go-clause-begun g c =
-    let p = err_from_is_err_and c.from_residual-in_err-let_go.result c.from_residual-in_err-let_go.ensures.1 in
     let i = c.loop-turn.invariant.moved in
     let m = c.feed.new.self in
     let t = subst (HasMovedBy c.args.limits _ m.headed (due_of m) (begun_in m) m.reader _ _) c.in_default-found.is (c.in_ok-found.ensures.goes_on i.0 _ _ i.2) in
     let w = subst (Appends (g.W.Sink.contents c.loop-turn.writer) (g.W.Sink.contents c.write_whole.new.writer)) c.due.ensures c.in_ok-write_whole.ensures.ok in
-    rw p.1 (begun-so_far c.args.limits _ _ _ _ _ (Consumes-then _ _ _ i.0 _ i.1 c.in-Ok.ensures.bytes.0) m.headed [] (begun_in m) refl m.reader
+    on-err c.from_residual-in_err-let_go.result (begun-so_far c.args.limits _ _ _ _ _ (Consumes-then _ _ _ i.0 _ i.1 c.in-Ok.ensures.bytes.0) m.headed [] (begun_in m) refl m.reader
     (paid c.args.limits _ _ _ _ (due_of m) m.headed (begun_in m) m.reader t w))
 
 pub loop-turn-preserved : goal.loop-turn-preserved
@@ -92,7 +90,7 @@ loop-turn-preserved g c =
       block = c.read.auto.buf ∙ c.loop-turn.invariant.block;
       live = c.in-Ok.ensures.failed ∙ ap (λ b. b || false) c.loop-turn.invariant.live;
       writer_live = c.in_ok-write_whole.ensures.failed;
-      count = omega (arith, c.in-Ok.ensures.counted, c.loop-turn.invariant.count, c.requires.reads, c.loop-turn-test.true);
+      count = omega (arith, c.in-Ok.ensures.counted, c.loop-turn.invariant.count, c.requires.few, c.loop-turn-test.true);
       place = omega (arith, ap place_in gone.reader, c.in_ok-found.ensures.place c.in_default-found.is, c.loop-turn.invariant.place, c.read.auto.buf, c.loop-turn.invariant.block, length-take c.in-Ok.count c.read.new.buf);
       due = gone.due;
       moved = (
@@ -109,8 +107,8 @@ returns-clause-read g c = λ _.
     let m = c.loop-turn.migrator in
     migrated-so_far c.args.limits _ _ i.0 _ _ i.1 m.headed (due_of m) (begun_in m) (ap (λ n. take n m.held.items) c.loop-turn.invariant.due) m.reader i.2 i.3
 
-pub returns-clause-spent : goal.returns-clause-spent
-returns-clause-spent g c = λ _. inr (omega (arith, c.loop-turn.invariant.count, c.loop-turn-test.false))
+pub returns-clause-devices : goal.returns-clause-devices
+returns-clause-devices g c = left-by-read _ _ _ _ (inr (omega (arith, c.loop-turn.invariant.count, c.loop-turn-test.false))) (omega (arith, c.loop-turn.invariant.count, c.loop-turn.auto._turn-end))
 
 pub returns-clause-begun : goal.returns-clause-begun
 returns-clause-begun g c =

@@ -1,8 +1,8 @@
 use Rattle.std.proofs.Common.{◌++◌, subst}
 use Rattle.std.specs.Io.KnownBytes.{Appends}
-use Rattle.std.proofs.lemmas.Result.{err_from_is_err_and}
+use Rattle.std.proofs.lemmas.Result.{err_from_is_err_and, on_ok_weaker, IfErr-weaker}
 use Rattle.zk_listings.specs.Outcome.{HasGrownIn}
-use Rattle.zk_runs.proofs.Gathered.{taken-unput, taken-written, halts-written, gathered-part, on-ok-map, if-err-map}
+use Rattle.zk_runs.proofs.Gathered.{taken-unput, taken-written, halts-written, gathered-part}
 use Rattle.zk_runs.proofs.Spared.{spared-result}
 use Rattle.zk_runs.proofs.builder.Builder.feed.Goals as goal
 
@@ -17,8 +17,8 @@ returns-in_err-write_whole-clause-halts g c =
     let start = taken-unput limits x before was _ c.new-due.ensures.items _ _ _ _ t in
     gathered-part limits (x ++ block) before was now due _ t.took.written (subst (HasGrownIn was now) c.deref.ensures.value c.in_err-write_whole.ensures.err)
     c.gather-gathered.result _ _ _ _
-    (on-ok-map c.gather-gathered.result _ _ (λ goes. goes limits x before was start) c.gather-gathered.ensures.goes_on)
-    (if-err-map c.gather-gathered.result _ _ (λ halt halts. halts limits x before was start) c.gather-gathered.ensures.halts))
+    (on_ok_weaker c.gather-gathered.result (λ goes. goes limits x before was start) c.gather-gathered.ensures.goes_on)
+    (IfErr-weaker c.gather-gathered.result _ _ (λ halt halts. halts limits x before was start) c.gather-gathered.ensures.halts))
 
 pub returns-clause-goes_on : goal.returns-clause-goes_on
 returns-clause-goes_on g c =
@@ -26,7 +26,7 @@ returns-clause-goes_on g c =
     let now = g.W.Sink.contents c.write_whole.new.writer in
     let due = c.gather-gathered.new.due.items in
     let w = subst (Appends was now) c.deref.ensures.value c.in_ok-write_whole.ensures.ok in
-    on-ok-map c.gather-gathered.result _ _ (λ goes limits x before t.
+    on_ok_weaker c.gather-gathered.result (λ goes limits x before t.
     taken-written limits (x ++ c.args.block.now) before was now due w _ _ _ _
     (goes limits x before was (taken-unput limits x before was _ c.new-due.ensures.items _ _ _ _ t))) c.gather-gathered.ensures.goes_on
 
@@ -36,7 +36,7 @@ returns-clause-halts g c =
     let now = g.W.Sink.contents c.write_whole.new.writer in
     let due = c.gather-gathered.new.due.items in
     let w = subst (Appends was now) c.deref.ensures.value c.in_ok-write_whole.ensures.ok in
-    if-err-map c.gather-gathered.result _ _ (λ halt halts limits x before t.
+    IfErr-weaker c.gather-gathered.result _ _ (λ halt halts limits x before t.
     halts-written limits (x ++ c.args.block.now) before was now due w halt _
     (halts limits x before was (taken-unput limits x before was _ c.new-due.ensures.items _ _ _ _ t))) c.gather-gathered.ensures.halts
 
