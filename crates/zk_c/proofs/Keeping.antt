@@ -1,6 +1,7 @@
 -- The frame that a side keeps is sent, and its payload is shorter than what is held.
-use Rattle.std.proofs.Common.{◌≡◌, ℕ, ◌≤◌, ◌++◌, List, length, [], refl, ap, sym, subst, ◌∙◌, arith}
-use Rattle.std.specs.Prelude.{pos}
+use Rattle.std.proofs.Common.{◌≡◌, ℕ, ◌≤◌, ◌<◌, ◌^◌, ◌++◌, List, length, [], Option, Some, None, ap, sym, subst, ◌∙◌, arith}
+use Rattle.std.specs.Prelude.{pos, MatchOption}
+use Rattle.std.specs.Borrow.{Bor}
 use Rattle.std.proofs.lemmas.List.{length-append}
 use Rattle.zk_asks.specs.Held.{ClientFrame}
 use Rattle.zk_asks.specs.Frames as asks
@@ -16,6 +17,8 @@ use Rattle.zk_talk.specs.Payloads.{client_payload, server_payload}
 use Rattle.zk_talk.specs.Viewed.{Shows}
 use Rattle.zk_talk.proofs.Viewing.{client_bytes, server_bytes}
 use Rattle.zk_c.specs.declared.answer.LineAnswer.{LineAnswer}
+use Rattle.zk_talk.specs.Held.{Message}
+use Rattle.zk_c.specs.Read.{HasFields}
 use Rattle.zk_c.specs.Answer.{no_line}
 use Rattle.zk_c.specs.Handle.{TellsText, IsPayload}
 
@@ -26,15 +29,13 @@ framed payload kept e =
     let long : length kept ≡ length (int_bytes (pos (length payload)) ++ payload) = ap length whole in
     omega (arith, long, length-append (int_bytes (pos (length payload))) payload)
 
-pub client_sent : (t : TalkState) (side : Side) (f : ClientFrame) → Shows t side (FromClient f) → asks.IsSent f × (length (asks.payload f) ≤ length (kept_on side t))
-unfolding client_payload
-client_sent t Client f shows = (shows.sent, framed (asks.payload f) t.client_kept shows.is)
-client_sent t Server f shows = absurd shows
-
-pub server_sent : (t : TalkState) (side : Side) (s : ServerFrame) → Shows t side (FromServer s) → answers.IsSent s × (length (answers.payload s) ≤ length (kept_on side t))
-unfolding server_payload
-server_sent t Client s shows = absurd shows
-server_sent t Server s shows = (shows.sent, framed (answers.payload s) t.server_kept shows.is)
+-- the fields of what is shown are there
+pub has_fields : (t : TalkState) (side : Side) (m : Message) → Shows t side m → length (kept_on side t) < 2 ^ 32 → HasFields m
+unfolding client_payload server_payload
+has_fields t Client (FromClient f) shows few = (shows.sent, omega (arith, framed (asks.payload f) t.client_kept shows.is, few))
+has_fields t Client (FromServer s) shows few = absurd shows
+has_fields t Server (FromClient f) shows few = absurd shows
+has_fields t Server (FromServer s) shows few = (shows.sent, omega (arith, framed (answers.payload s) t.server_kept shows.is, few))
 
 pub framed_some : (p kept : List ℕ) → kept ≡ frame p → kept ≡ [] → ⊥
 unfolding frame
@@ -45,7 +46,7 @@ framed_some p kept e none =
     omega (arith, long, empty, length-append (int_bytes (pos (length p))) p, length-int_bytes (pos (length p)))
 
 -- the text of what the kept frame carries is that of its message's payload
-pub payload_of : (t : TalkState) (side : Side) (p before after : List ℕ) (answer : LineAnswer) → kept_on side t ≡ frame p → TellsText p before after answer → IsPayload t side before after answer
+payload_of : (t : TalkState) (side : Side) (p before after : List ℕ) (answer : LineAnswer) → kept_on side t ≡ frame p → TellsText p before after answer → IsPayload t side before after answer
 payload_of t Client p before after answer is text = record {
   none = λ none. absurd (framed_some p t.client_kept is none);
   client = λ f shows. subst (λ (q : List ℕ). TellsText q before after answer) (client_bytes p f (sym is ∙ shows.is)) text;
@@ -66,14 +67,20 @@ unfolding server_payload
 server_some t s shows none = framed_some (answers.payload s) t.server_kept shows.is none
 
 -- where no frame is kept there is no payload
-pub no_payload : (t : TalkState) (side : Side) (room : List ℕ) (answer : LineAnswer) → kept_on side t ≡ [] → answer ≡ no_line 69 → IsPayload t side room room answer
-no_payload t Client room answer none told = record {
-  none = λ e. (told, refl);
+no_payload : (t : TalkState) (side : Side) (before after : List ℕ) (answer : LineAnswer) → kept_on side t ≡ [] → (answer ≡ no_line 69) × (after ≡ before) → IsPayload t side before after answer
+no_payload t Client before after answer none told = record {
+  none = λ e. told;
   client = λ f shows. absurd (client_some t f shows none);
   server = λ s shows. absurd shows;
 }
-no_payload t Server room answer none told = record {
-  none = λ e. (told, refl);
+no_payload t Server before after answer none told = record {
+  none = λ e. told;
   client = λ f shows. absurd shows;
   server = λ s shows. absurd (server_some t s shows none);
 }
+
+-- so the text of what the side keeps, if it keeps a frame, is that of its message's payload
+pub payload_told : (t : TalkState) (side : Side) (before after : List ℕ) (answer : LineAnswer) (kept : Option (Bor (List ℕ))) → MatchOption kept (kept_on side t ≡ []) (λ p. kept_on side t ≡ frame p.now) →
+    MatchOption kept ((answer ≡ no_line 69) × (after ≡ before)) (λ p. TellsText p.now before after answer) → IsPayload t side before after answer
+payload_told t side before after answer (Some p) is text = payload_of t side p.now before after answer is text
+payload_told t side before after answer None none told = no_payload t side before after answer none told

@@ -1,40 +1,53 @@
 -- What is told of a frame whose fields are written.
-use Rattle.std.proofs.Common.{◌≡◌, ℕ, ℤ, ◌-◌, ◌<◌, ◌^◌, List, length, refl, sym, ap, subst, ◌∙◌, arith}
+use Rattle.std.proofs.Common.{◌≡◌, ℕ, ℤ, ◌-◌, ◌<◌, List, length, refl, sym, ap, subst, ◌∙◌, arith, inl, inr}
 use Rattle.std.proofs.lemmas.Bool.Decides.{nat_tests}
-use Rattle.zk_asks.specs.Held.{ClientFrame}
-use Rattle.zk_answers.specs.Held.{ServerFrame}
+use Rattle.zk_talk.specs.Held.{Message}
 use Rattle.zk_records.specs.declared.profile.Profile.{Profile}
 use Rattle.zk_records.specs.declared.profile.Profile.TheVariants.{V34, V35}
 use Rattle.zk_records.specs.Codes.{profile_number}
 use Rattle.zk_fields.specs.declared.field.Field.{Field}
-use Rattle.zk_fields.specs.Frames.{AreWritten, client_fields, server_fields}
+use Rattle.zk_fields.specs.Frames.{AreWritten}
 use Rattle.zk_c.specs.declared.read_answer.ReadAnswer.{ReadAnswer}
-use Rattle.std.specs.Prelude.{pos, true, nat_lt, Option, Ok, Err}
+use Rattle.std.specs.Prelude.{pos, true, nat_lt, Option, Result, Ok, Err}
 use Rattle.zk_jute.specs.Reading.{Read, told}
+use Rattle.zk_jute.specs.Told.{IsSurelyTold}
+use Rattle.zk_jute.specs.declared.fault.Reason.{Reason}
+use Rattle.zk_c.specs.Answer.{message_head}
 use Rattle.zk_jute.specs.declared.fault.ItemFault.{ItemFault}
 use Rattle.zk_fields.specs.declared.opened.Opened.{Opened}
-use Rattle.zk_c.specs.Read.{client_read, server_read, refused_read, fields_before, head_of, number_of, int_there, long_there, TellsClient, TellsServer, TellsRefused}
+use Rattle.zk_c.specs.Read.{head_read, refused_read, fields_before, head_of, number_of, int_there, long_there, message_fields, TellsMessage, TellsRefused, IsReadFault, Reads}
 
 -- an answer that counts the fields that are written
-counted : {A : Type 0} (fields : A → List Field) (read : ℕ → A → ReadAnswer) (x : A) (before after : List Field) (count : ℕ) (answer : ReadAnswer) →
-    AreWritten (fields x) before after count → answer ≡ read count x → answer.count ≡ count → AreWritten (fields x) before after answer.count × (answer ≡ read answer.count x)
-counted fields read x before after count answer written told same =
-    (subst (AreWritten (fields x) before after) (sym same) written, subst (λ (n : ℕ). answer ≡ read n x) (sym same) told)
+pub tells_message : (m : Message) (before after : List Field) (count : ℕ) (answer : ReadAnswer) → AreWritten (message_fields m) before after count → answer ≡ head_read (length before) count (message_head m)
+    → TellsMessage m before after answer
+tells_message m before after count answer written told =
+    let same : answer.count ≡ count = ap (λ (a : ReadAnswer). a.count) told in
+    record {
+      written = subst (AreWritten (message_fields m) before after) (sym same) written;
+      told = subst (λ (n : ℕ). answer ≡ head_read (length before) n (message_head m)) (sym same) told;
+    }
 
-pub tells_client : (f : ClientFrame) (before after : List Field) (count : ℕ) (answer : ReadAnswer) → AreWritten (client_fields f) before after count → answer ≡ client_read (length before) count f → TellsClient f before after answer
-tells_client f before after count answer written told =
-    let c = counted client_fields (client_read (length before)) f before after count answer written told (ap (λ (a : ReadAnswer). a.count) told) in
-    record { written = c.0; told = c.1 }
+-- a fault is returned of a payload that is read as this
+pub refused_as : {IsFault : ℕ → Reason → Type 0} {IsOpened : Option Opened → Type 0} {payload : List ℕ} {before after : List Field} {answer : ReadAnswer} {fault : ItemFault} {opened : Option Opened} →
+    IsSurelyTold IsFault fault → IsOpened opened → TellsRefused opened payload fault before after answer → IsReadFault IsFault IsOpened payload before after answer
+refused_as {fault = fault} {opened = opened} told is_opened tells = record { fault = fault; is = told.0; ample = told.1; opened = opened; is_opened = is_opened; tells = tells }
 
-pub tells_server : (s : ServerFrame) (before after : List Field) (count : ℕ) (answer : ReadAnswer) → AreWritten (server_fields s) before after count → answer ≡ server_read (length before) count s → TellsServer s before after answer
-tells_server s before after count answer written told =
-    let c = counted server_fields (server_read (length before)) s before after count answer written told (ap (λ (a : ReadAnswer). a.count) told) in
-    record { written = c.0; told = c.1 }
+-- a payload that is read as a message is that one's alone
+pub only_one : {A : Type 0} (message : A → Message) {Is : A → Type 0} {before after : List Field} {answer : ReadAnswer} {x : A} →
+    ((y : A) → Is y → ◌≡◌ {A = Result A ItemFault} (Ok x) (Ok y)) → TellsMessage (message x) before after answer → (y : A) → Is y → TellsMessage (message y) before after answer
+only_one {A} message {before = before} {after = after} {answer = answer} {x = x} only tells y is =
+    let e = only y is in let same : x ≡ y = cc in subst (λ (z : A). TellsMessage (message z) before after answer) same tells
 
--- the fields of the one frame that a payload is
-pub reads_it : {F : Type 0} (Tells : F → Type 0) {frame other : F} {bytes payload : List ℕ} →
-    frame ≡ other → bytes ≡ payload → length bytes < 2 ^ 32 → (length payload < 2 ^ 32 → Tells frame) → Tells other
-reads_it Tells same is small tells = subst Tells same (tells (subst (λ (b : List ℕ). length b < 2 ^ 32) is small))
+pub read_ok : {A : Type 0} (message : A → Message) {Is : A → Type 0} {IsFault : ℕ → Reason → Type 0} {IsOpened : Option Opened → Type 0} {payload : List ℕ} {before after : List Field} {answer : ReadAnswer} {x : A} →
+    ((y : A) → Is y → ◌≡◌ {A = Result A ItemFault} (Ok x) (Ok y)) → Is x → TellsMessage (message x) before after answer → Reads message Is IsFault IsOpened payload before after answer
+read_ok message {x = x} only is tells = record { only = only_one message only tells; found = inl (x, is) }
+
+-- and one that has a fault is none's
+pub read_err : {A : Type 0} (message : A → Message) {Is : A → Type 0} {IsFault : ℕ → Reason → Type 0} {IsOpened : Option Opened → Type 0} {payload : List ℕ} {before after : List Field} {answer : ReadAnswer} {fault : ItemFault} {opened : Option Opened} →
+    ((y : A) → Is y → ◌≡◌ {A = Result A ItemFault} (Err fault) (Ok y)) → IsSurelyTold IsFault fault → IsOpened opened → TellsRefused opened payload fault before after answer → Reads message Is IsFault IsOpened payload before after answer
+read_err message only told is_opened tells = record { only = λ y is. let e = only y is in absurd (cc); found = inr (refused_as told is_opened tells) }
+
+-- ---- which profile
 
 pub profile_apart : (p q : Profile) → profile_number p ≡ profile_number q → p ≡ q
 profile_apart V34 V34 e = refl

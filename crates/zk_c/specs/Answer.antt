@@ -1,5 +1,5 @@
 -- What calls return, in numbers.
-use Rattle.std.specs.Prelude.{ℕ, ℤ, ◌-◌, pos, negsuc, false, Option, unwrap_or, Result, Ok, Err}
+use Rattle.std.specs.Prelude.{ℕ, ◌-◌, pos, negsuc, false, Option, unwrap_or, Result, Ok, Err}
 use Rattle.zk_records.specs.Codes.{op_number}
 use Rattle.zk_asks.specs.Rows.{op_of_ask}
 use Rattle.zk_asks.specs.Held.{ClientFrame}
@@ -17,6 +17,7 @@ use Rattle.zk_c.specs.declared.answer.FaultNumbers.{FaultNumbers}
 use Rattle.zk_c.specs.declared.answer.StepAnswer.{StepAnswer}
 use Rattle.zk_c.specs.declared.answer.EndingAnswer.{EndingAnswer}
 use Rattle.zk_c.specs.declared.answer.MessageAnswer.{MessageAnswer}
+use Rattle.zk_c.specs.declared.head.Head.{Head}
 use Rattle.zk_c.specs.declared.answer.LineAnswer.{LineAnswer}
 use Rattle.zk_c.specs.declared.counts.WaitingAnswer.{WaitingAnswer}
 use Rattle.zk_c.specs.declared.counts.HeldAnswer.{HeldAnswer}
@@ -55,15 +56,7 @@ ending_answer (Refused f) = record (no_ending 0) { kind = 3; fault = fault_numbe
 abbrev pub no_message : ℕ → MessageAnswer
 no_message status = record { status = status; kind = 0; xid = pos 0; operation = pos 0; size = 0; err = pos 0; zxid = pos 0; frame = 0; answers = 0 }
 
--- a message's kind, and the numbers of its header; the operation of a reply is its request's
-pub record Head : Type 0 where
-  pub kind : ℕ
-  pub xid : ℤ
-  pub operation : ℤ
-  pub err : ℤ
-  pub zxid : ℤ
-
--- of a message without such numbers
+-- the head of a message without numbers of a header; the operation of a reply is its request's
 abbrev pub bare_head : ℕ → Head
 bare_head kind = record { kind = kind; xid = pos 0; operation = pos 0; err = pos 0; zxid = pos 0 }
 

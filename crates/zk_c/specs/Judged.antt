@@ -29,6 +29,12 @@ pub record IsToldBy (Is : ℕ → Reason → Type 0) (answer : PayloadAnswer) : 
   pub ample : fault.reason ≢ NoMemory
   pub told : TellsFault fault answer
 
+-- the bytes are taken for a message exactly if they are the payload of one of these; else the first case that applies is reported
+pub record Judges {A : Type 0} (Is : A → Type 0) (IsFault : ℕ → Reason → Type 0) (answer : PayloadAnswer) : Type 0 where
+  pub found : answer.status ≡ 0 → (x : A) × Is x
+  pub only : (x : A) → Is x → answer ≡ payload_answer 0 0
+  pub fault : answer.status ≢ 0 → IsToldBy IsFault answer
+
 -- the bytes are the payload of this connect request
 pub record IsConnect (bytes : List ℕ) (f : ClientFrame) : Type 0 where
   pub first : IsFirst f

@@ -10,7 +10,11 @@ use Rattle.zk_records.specs.declared.op.Op.{Op}
 use Rattle.zk_records.specs.declared.profile.Profile.{Profile}
 use Rattle.zk_records.specs.Codes.{op_number, HasOp, IsNoOp}
 use Rattle.zk_asks.specs.Held.{ClientFrame}
+use Rattle.zk_asks.specs.Frames as asks
 use Rattle.zk_answers.specs.Held.{ServerFrame}
+use Rattle.zk_answers.specs.Frames as answers
+use Rattle.zk_talk.specs.Held.{Message}
+use Rattle.zk_talk.specs.declared.message.MessageOf.TheVariants.{Client as FromClient, Server as FromServer}
 use Rattle.zk_fields.specs.declared.field.Field.{Field}
 use Rattle.zk_fields.specs.declared.opened.Opened.{Opened}
 use Rattle.zk_fields.specs.declared.opened.Opened.TheVariants as opened
@@ -18,7 +22,8 @@ use Rattle.zk_fields.specs.Frames.{AreWritten, client_fields, server_fields}
 use Rattle.zk_fields.specs.Walks.{opened_fields}
 use Rattle.zk_c.specs.declared.read_answer.ReadAnswer.{ReadAnswer}
 use Rattle.zk_c.specs.Numbers.{reason_number}
-use Rattle.zk_c.specs.Answer.{Head, client_head, server_head}
+use Rattle.zk_c.specs.Answer.{message_head}
+use Rattle.zk_c.specs.declared.head.Head.{Head}
 use Rattle.zk_records.specs.declared.op.PartOp.{PartOp}
 use Rattle.zk_asks.specs.Faults.{IsFirstFault, IsAskFault}
 use Rattle.zk_answers.specs.Faults.{IsHead, IsHeadFault, IsConnectedFault, IsReplyFault, IsEventFault}
@@ -56,20 +61,25 @@ head_read room count head =
       zxid = head.zxid;
     }
 
-abbrev pub client_read : ℕ → ℕ → ClientFrame → ReadAnswer
-client_read room count f = head_read room count (client_head f)
+abbrev pub message_fields : Message → List Field
+message_fields (FromClient f) = client_fields f
+message_fields (FromServer s) = server_fields s
 
-abbrev pub server_read : ℕ → ℕ → ServerFrame → ReadAnswer
-server_read room count s = head_read room count (server_head s)
+-- it may be sent, and each place in its payload is a number of 32 bits
+abbrev pub HasFields : Message → Type 0
+HasFields (FromClient f) = asks.IsSent f × HasPlaces (asks.payload f)
+HasFields (FromServer s) = answers.IsSent s × HasPlaces (answers.payload s)
 
--- the frame's fields are written, as many as there is room for, and the answer counts them all
-pub record TellsClient (f : ClientFrame) (before after : List Field) (answer : ReadAnswer) : Type 0 where
-  pub written : AreWritten (client_fields f) before after answer.count
-  pub told : answer ≡ client_read (length before) answer.count f
+-- the message's fields are written, as many as there is room for, and the answer counts them all
+pub record TellsMessage (m : Message) (before after : List Field) (answer : ReadAnswer) : Type 0 where
+  pub written : AreWritten (message_fields m) before after answer.count
+  pub told : answer ≡ head_read (length before) answer.count (message_head m)
 
-pub record TellsServer (s : ServerFrame) (before after : List Field) (answer : ReadAnswer) : Type 0 where
-  pub written : AreWritten (server_fields s) before after answer.count
-  pub told : answer ≡ server_read (length before) answer.count s
+abbrev pub TellsClient : ClientFrame → List Field → List Field → ReadAnswer → Type 0
+TellsClient f = TellsMessage (FromClient f)
+
+abbrev pub TellsServer : ServerFrame → List Field → List Field → ReadAnswer → Type 0
+TellsServer s = TellsMessage (FromServer s)
 
 -- ---- no message: the numbers of its header, as far as they are there, and the fault
 
@@ -153,26 +163,26 @@ IsAskOf profile payload (Some o) = (op : Op) × (o ≡ opened.Ask op) × HasOp p
 abbrev pub MessageOrFault : {A : Type 0} → (A → Type 0) → (ℕ → Reason → Type 0) → (Option Opened → Type 0) → List ℕ → List Field → List Field → ReadAnswer → Type 0
 MessageOrFault {A} Is IsFault IsOpened payload before after answer = ((x : A) × Is x) ⊎ IsReadFault IsFault IsOpened payload before after answer
 
-abbrev pub ConnectOrFault : List ℕ → List Field → List Field → ReadAnswer → Type 0
-ConnectOrFault payload = MessageOrFault (IsConnect payload) (IsFirstFault payload) (Just opened.First) payload
-
-abbrev pub ReadsRequest : Profile → List ℕ → List Field → List Field → ReadAnswer → Type 0
-ReadsRequest profile payload before after answer = (f : ClientFrame) → IsRequest profile payload f → TellsClient f before after answer
-
-abbrev pub RequestOrFault : Profile → List ℕ → List Field → List Field → ReadAnswer → Type 0
-RequestOrFault profile payload = MessageOrFault (IsRequest profile payload) (IsAskFault profile payload) (IsAskOf profile payload) payload
-
-abbrev pub WelcomeOrFault : List ℕ → List Field → List Field → ReadAnswer → Type 0
-WelcomeOrFault payload = MessageOrFault (IsWelcome payload) (IsConnectedFault payload) (Just opened.Connected) payload
-
-abbrev pub ReadsReply : Op → List PartOp → List ℕ → List Field → List Field → ReadAnswer → Type 0
-ReadsReply op parts payload before after answer = (s : ServerFrame) → IsReply op parts payload s → TellsServer s before after answer
-
-abbrev pub ReplyOrFault : Op → List PartOp → List ℕ → List Field → List Field → ReadAnswer → Type 0
-ReplyOrFault op parts payload = MessageOrFault (IsReply op parts payload) (IsReplyFault op parts payload) (Just (opened.Reply op)) payload
-
 abbrev pub NoticeOrFault : List ℕ → List Field → List Field → ReadAnswer → Type 0
 NoticeOrFault payload = MessageOrFault (IsNotice payload) (IsEventFault payload) (Just opened.Event) payload
+
+-- if the payload is one of these messages', its fields are written; it is one's, or its first fault is returned
+pub record Reads {A : Type 0} (message : A → Message) (Is : A → Type 0) (IsFault : ℕ → Reason → Type 0) (IsOpened : Option Opened → Type 0)
+    (payload : List ℕ) (before after : List Field) (answer : ReadAnswer) : Type 0 where
+  pub only : (x : A) → Is x → TellsMessage (message x) before after answer
+  pub found : MessageOrFault Is IsFault IsOpened payload before after answer
+
+abbrev pub ReadsConnect : List ℕ → List Field → List Field → ReadAnswer → Type 0
+ReadsConnect payload = Reads FromClient (IsConnect payload) (IsFirstFault payload) (Just opened.First) payload
+
+abbrev pub ReadsRequest : Profile → List ℕ → List Field → List Field → ReadAnswer → Type 0
+ReadsRequest profile payload = Reads FromClient (IsRequest profile payload) (IsAskFault profile payload) (IsAskOf profile payload) payload
+
+abbrev pub ReadsWelcome : List ℕ → List Field → List Field → ReadAnswer → Type 0
+ReadsWelcome payload = Reads FromServer (IsWelcome payload) (IsConnectedFault payload) (Just opened.Connected) payload
+
+abbrev pub ReadsReply : Op → List PartOp → List ℕ → List Field → List Field → ReadAnswer → Type 0
+ReadsReply op parts payload = Reads FromServer (IsReply op parts payload) (IsReplyFault op parts payload) (Just (opened.Reply op)) payload
 
 -- so it is of a payload whose places are numbers, and whose header, where it has one, isn't an event's
 abbrev pub WhereReply : ℤ → List ℤ → List ℕ → (Op → List PartOp → Type 0) → Type 0

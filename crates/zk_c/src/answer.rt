@@ -1,16 +1,14 @@
 //! The structs that calls return to C.
-ghost use Rattle.std.specs.Prelude.{◌≡◌, ◌≢◌, pos};
+ghost use Rattle.std.specs.Prelude.{◌≡◌, ◌≢◌, pos, Some, None, MatchOption};
+ghost use Rattle.zk_talk.specs.Held.{Message};
 ghost use Rattle.zk_c.specs.Handle.{TellsText};
 ghost use Rattle.zk_c.specs.Numbers.{expected_of, got_of};
 ghost use Rattle.zk_c.specs.Answer.{no_fault, fault_numbers, no_step, step_answer, no_ending, ending_answer, no_message, message_answer, no_line};
 
-use crate::number::{ROOM, WELL, reason_number, side_number};
-use crate::read_answer::err_of;
-use zk_answers::ServerFrameOf;
-use zk_asks::ClientFrameOf;
+use crate::head::Head;
+use crate::number::{NO_MESSAGE, ROOM, WELL, reason_number, side_number};
 use zk_jute::Reason;
-use zk_records::op_number;
-use zk_talk::{Ending, Fault, MessageOf, MessageRef, Stepped};
+use zk_talk::{Ending, Fault, MessageRef, Stepped};
 
 /// Why a conversation is refused, and where; all 0 if it isn't.
 #[repr(C)]
@@ -253,36 +251,30 @@ impl MessageAnswer {
         }
     }
 
-    /// The message in numbers, with the size of its frame, the frame's number, and that of the frame that it answers.
+    /// The message that is shown, if one is, in numbers, with the size of its frame, the frame's number, and that of the
+    /// frame that it answers.
     #[inline(always)]
     pub fn of(
-        message: &MessageRef<'_>,
+        shown: Option<MessageRef<'_>>,
         size: u32,
         frames: u64,
         answered: Option<u64>,
     ) -> MessageAnswer
-        ensures { result ≡ message_answer size frames answered message.now }
+        ensures none { shown.entry ≡ None → result ≡ no_message 69 }
+        ensures some { (m : Message) → shown.entry ≡ Some m → result ≡ message_answer size frames answered m }
     {
-        let (kind, xid, operation, err, zxid) = match message {
-            MessageOf::Client(ClientFrameOf::Connect { .. }) => (1, 0, 0, 0, 0),
-            MessageOf::Client(ClientFrameOf::Ask { xid, ask }) => {
-                (2, *xid, op_number(ask.op()), 0, 0)
-            }
-            MessageOf::Server(ServerFrameOf::Connected { .. }) => (3, 0, 0, 0, 0),
-            MessageOf::Server(ServerFrameOf::Answered(reply)) => {
-                let err = err_of(&reply.outcome);
-                (4, reply.xid, op_number(reply.op()), err, reply.zxid)
-            }
-            MessageOf::Server(ServerFrameOf::Event { zxid, .. }) => (5, -1, 0, 0, *zxid),
+        let Some(message) = shown else {
+            return MessageAnswer::none(NO_MESSAGE);
         };
+        let head = Head::of(&message);
         MessageAnswer {
             status: WELL,
-            kind,
-            xid,
-            operation,
+            kind: head.kind,
+            xid: head.xid,
+            operation: head.operation,
             size,
-            err,
-            zxid,
+            err: head.err,
+            zxid: head.zxid,
             frame: frames.saturating_sub(1),
             answers: answered.unwrap_or(0),
         }
@@ -295,6 +287,16 @@ impl LineAnswer {
         ensures { result ≡ no_line status }
     {
         LineAnswer { status, length: 0 }
+    }
+
+    /// Writes `text` to the front of `out`, if there is one, and `out` is long enough.
+    pub fn of(text: Option<&[u8]>, out: &mut [u8]) -> LineAnswer
+        ensures { MatchOption text.entry ((result ≡ no_line 69) × (out.new ≡ out.old)) (λ t. TellsText t.now out.old out.new result) }
+    {
+        match text {
+            Some(text) => LineAnswer::put(text, out),
+            None => LineAnswer::none(NO_MESSAGE),
+        }
     }
 
     /// Writes `text` to the front of `out`, if that is long enough.

@@ -1,18 +1,20 @@
 //! `Conversation`: a talk, and a buffer for the lines of its messages.
-ghost use Rattle.std.specs.Prelude.{◌≡◌, [], IfOk};
+ghost use Rattle.std.specs.Prelude.{◌≡◌, [], Some, None, IfOk};
+ghost use Rattle.zk_talk.specs.Held.{Message};
 ghost use Rattle.zk_talk.specs.Stands.{kept_on};
 ghost use Rattle.zk_lines.specs.Lines.{line};
+ghost use Rattle.zk_c.specs.Answer.{no_line};
 ghost use Rattle.zk_c.specs.Handle.{HasBegun, IsRenewed, IsStep, IsPass, IsFinish, AnswersOn, IsView, IsLine, IsEndingLine, IsFields, IsPayload, IsWaiting, IsHeld, TellsText};
 
 use crate::answer::{LineAnswer, MessageAnswer};
 use crate::counts::{HeldAnswer, WaitingAnswer};
 use crate::number::{NO_MEMORY, NO_MESSAGE};
-use crate::read_answer::{ReadAnswer, read_client, read_server};
+use crate::read_answer::{ReadAnswer, read_shown};
 use std::alloc::{AllocError, Global};
 use std::marker::Model;
 use zk_fields::Field;
 use zk_lines::{ending_line, put_line_ref};
-use zk_talk::{Ending, Fault, Limits, MessageOf, MessageRef, Side, Stepped, Talk};
+use zk_talk::{Ending, Fault, Limits, MessageRef, Side, Stepped, Talk};
 
 /// The first room of a line, more than glibc's malloc keeps for itself of small blocks. Such a block would lie above those
 /// of the talk, and then nothing below it goes back to the system when the talk is freed.
@@ -34,15 +36,20 @@ fn make_room(text: &mut Vec<u8>) -> Result<(), AllocError>
     text.reserve(FIRST_ROOM)
 }
 
-/// Writes the line of `message` to `out`, if there is room for it. It is made in `text`, whose memory is kept.
-pub fn write_line(text: &mut Vec<u8>, message: &MessageRef<'_>, out: &mut [u8]) -> LineAnswer
-    ensures { TellsText (line message.now) out.old out.new result }
+/// Writes the line of the message that is shown to `out`, if one is, and there is room for it. It is made in `text`, whose
+/// memory is kept.
+pub fn write_line(text: &mut Vec<u8>, shown: Option<MessageRef<'_>>, out: &mut [u8]) -> LineAnswer
+    ensures none { shown.entry ≡ None → (result ≡ no_line 69) × (out.new ≡ out.old) }
+    ensures some { (m : Message) → shown.entry ≡ Some m → TellsText (line m) out.old out.new result }
 {
+    let Some(message) = shown else {
+        return LineAnswer::none(NO_MESSAGE);
+    };
     if text.capacity() == 0 && make_room(text).is_err() {
         return LineAnswer::none(NO_MEMORY);
     }
     text.clear();
-    let Ok(()) = put_line_ref(text, message) else {
+    let Ok(()) = put_line_ref(text, &message) else {
         return LineAnswer::none(NO_MEMORY);
     };
     LineAnswer::put(text, out)
@@ -131,13 +138,8 @@ impl Conversation {
     pub fn view(&self, side: Side) -> MessageAnswer
         ensures { IsView self.now side result }
     {
-        match self.talk.view(side) {
-            Some(message) => {
-                let (size, frames) = (self.talk.held(side), self.talk.frames(side));
-                MessageAnswer::of(&message, size, frames, self.answered(side))
-            }
-            None => MessageAnswer::none(NO_MESSAGE),
-        }
+        let (size, frames) = (self.talk.held(side), self.talk.frames(side));
+        MessageAnswer::of(self.talk.view(side), size, frames, self.answered(side))
     }
 
     /// Writes the line of the side's kept frame, if there is room for it.
@@ -145,10 +147,7 @@ impl Conversation {
         ensures same { self.new ≡ self.old }
         ensures line { IsLine self.old side out.old out.new result }
     {
-        let Some(message) = self.talk.view(side) else {
-            return LineAnswer::none(NO_MESSAGE);
-        };
-        write_line(&mut self.line, &message, out)
+        write_line(&mut self.line, self.talk.view(side), out)
     }
 
     /// Writes the fields of the side's kept frame, as far as there is room.
@@ -156,21 +155,14 @@ impl Conversation {
         ensures { IsFields self.now side room.old room.new result }
     {
         let _held = self.talk.held(side);
-        match self.talk.view(side) {
-            None => ReadAnswer::none(NO_MESSAGE),
-            Some(MessageOf::Client(frame)) => read_client(&frame, room),
-            Some(MessageOf::Server(frame)) => read_server(&frame, room),
-        }
+        read_shown(self.talk.view(side), room)
     }
 
     /// Writes the payload of the side's kept frame, if there is room for it.
     pub fn payload(&self, side: Side, out: &mut [u8]) -> LineAnswer
         ensures { IsPayload self.now side out.old out.new result }
     {
-        match self.talk.payload(side) {
-            None => LineAnswer::none(NO_MESSAGE),
-            Some(payload) => LineAnswer::put(payload, out),
-        }
+        LineAnswer::of(self.talk.payload(side), out)
     }
 
     /// Writes the line of the ending, if there is room for it.

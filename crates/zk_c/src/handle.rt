@@ -1,4 +1,30 @@
-//! `with_value!` and `fill!`: the body of a call over the handle that C keeps, of whichever type.
+//! `with_value!`, `fill!`, `take_out!`, `put_in!`: the body of a call over the handle that C keeps, of whichever type.
+
+/// Takes the box out of `$self`, a `$handle` with a `$pointer`, and leaves nothing. If it holds none, the call returns `None`.
+macro_rules! take_out {
+    ($self:ident, $alloc:ident, $handle:ident, $pointer:ident) => {{
+        let none = $handle {
+            held: $pointer::none(),
+            live: false,
+        };
+        let $handle { held, live } = std::mem::replace($self, none);
+        if !live {
+            return None;
+        }
+        Some(held.into_loose($alloc).into_box())
+    }};
+}
+
+/// Puts the box `$value` into `$self`, a `$handle` with a `$pointer`, which holds nothing.
+macro_rules! put_in {
+    ($self:ident, $value:ident, $handle:ident, $pointer:ident) => {{
+        let full = $handle {
+            held: $pointer::of($crate::loose::Loose::of($value)),
+            live: true,
+        };
+        let $handle { held: _, live: _ } = std::mem::replace($self, full);
+    }};
+}
 
 /// Takes the value that the handle holds, answers by it, and puts it back. If the handle holds none, the call returns
 /// `$none`. With `$side`, the number of a side, which in `$answer` is the `Side`, the call returns `$none::none` of a
@@ -42,4 +68,6 @@ macro_rules! fill {
 }
 
 pub(crate) use fill;
+pub(crate) use put_in;
+pub(crate) use take_out;
 pub(crate) use with_value;

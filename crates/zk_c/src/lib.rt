@@ -46,6 +46,7 @@ mod conversation;
 mod counts;
 mod cut;
 mod handle;
+mod head;
 mod listing;
 mod loose;
 mod number;

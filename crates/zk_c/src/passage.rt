@@ -6,11 +6,11 @@ ghost use Rattle.zk_c.specs.Passing.{Begins, IsRenewed, IsPassing, IsView, IsLin
 use crate::answer::{LineAnswer, MessageAnswer};
 use crate::conversation::write_line;
 use crate::number::NO_MESSAGE;
-use crate::read_answer::{ReadAnswer, read_client, read_server};
+use crate::read_answer::{ReadAnswer, read_shown};
 use std::alloc::{AllocError, Global};
 use std::marker::Model;
 use zk_fields::Field;
-use zk_talk::{Ending, Fault, Limits, MessageOf, Side};
+use zk_talk::{Ending, Fault, Limits, Side};
 use zk_through::{Passed, Through, Went};
 
 /// A conversation, of which what its profile lacks is left out.
@@ -126,13 +126,8 @@ impl Passage {
         if !self.is_newest(side) {
             return MessageAnswer::none(NO_MESSAGE);
         }
-        match self.through.view(side) {
-            Some(message) => {
-                let (size, frames) = (self.through.size(side), self.through.frames(side));
-                MessageAnswer::of(&message, size, frames, self.answered(side))
-            }
-            None => MessageAnswer::none(NO_MESSAGE),
-        }
+        let (size, frames) = (self.through.size(side), self.through.frames(side));
+        MessageAnswer::of(self.through.view(side), size, frames, self.answered(side))
     }
 
     /// Writes the line of that message, if there is room for it.
@@ -143,10 +138,7 @@ impl Passage {
         if !self.is_newest(side) {
             return LineAnswer::none(NO_MESSAGE);
         }
-        let Some(message) = self.through.view(side) else {
-            return LineAnswer::none(NO_MESSAGE);
-        };
-        write_line(&mut self.line, &message, out)
+        write_line(&mut self.line, self.through.view(side), out)
     }
 
     /// Writes the fields of that message, as far as there is room.
@@ -157,21 +149,14 @@ impl Passage {
             return ReadAnswer::none(NO_MESSAGE);
         }
         let _size = self.through.size(side);
-        match self.through.view(side) {
-            None => ReadAnswer::none(NO_MESSAGE),
-            Some(MessageOf::Client(frame)) => read_client(&frame, room),
-            Some(MessageOf::Server(frame)) => read_server(&frame, room),
-        }
+        read_shown(self.through.view(side), room)
     }
 
     /// Writes the payload of the frame that the side's last step left out or passed over, if there is room for it.
     pub fn payload(&self, side: Side, out: &mut [u8]) -> LineAnswer
         ensures { IsLeftOut self.now side out.old out.new result }
     {
-        match self.through.payload(side) {
-            None => LineAnswer::none(NO_MESSAGE),
-            Some(payload) => LineAnswer::put(payload, out),
-        }
+        LineAnswer::of(self.through.payload(side), out)
     }
 
     /// How the conversation so far ends.

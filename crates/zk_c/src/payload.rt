@@ -1,13 +1,12 @@
 //! `zk_judge_first` and its like: single payloads, judged without a handle.
 ghost use Rattle.std.specs.Prelude.{◌≡◌, ◌≢◌, ◌↔◌, IsTrue};
 ghost use Rattle.zk_records.specs.declared.profile.Profile.{Profile};
-ghost use Rattle.zk_asks.specs.Held.{ClientFrame};
 ghost use Rattle.zk_asks.specs.Faults.{IsFirstFault, IsAskFault};
 ghost use Rattle.zk_answers.specs.Held.{ServerFrame};
 ghost use Rattle.zk_answers.specs.Faults.{IsConnectedFault, IsReplyFault, IsEventFault};
 ghost use Rattle.zk_records.specs.Codes.{profile_number};
 ghost use Rattle.zk_c.specs.Asked.{AreNoneAsked, WhereAsked};
-ghost use Rattle.zk_c.specs.Judged.{payload_answer, TellsFault, IsToldBy, IsConnect, IsRequest, IsWelcome, IsReply, IsNotice, HasHead, HasNoHead, IsOfEvent, IsOfReply};
+ghost use Rattle.zk_c.specs.Judged.{payload_answer, TellsFault, IsToldBy, Judges, IsConnect, IsRequest, IsWelcome, IsReply, IsNotice, HasHead, HasNoHead, IsOfEvent, IsOfReply};
 
 use crate::asked::Numbered;
 use crate::number::{MISFIT, RANGE, WELL, reason_number};
@@ -45,19 +44,23 @@ impl PayloadAnswer {
     }
 }
 
+/// What is returned of a payload that was read so.
+macro_rules! judged {
+    ($read:expr) => {
+        match $read {
+            Ok(_frame) => PayloadAnswer::none(WELL),
+            Err(fault) => PayloadAnswer::refused(fault),
+        }
+    };
+}
+
 /// Judges whether the payload is that of a connect request.
 #[unsafe(no_mangle)]
 pub extern "C" fn zk_judge_first(bytes: &[u8]) -> PayloadAnswer
-    // It is taken for one exactly if it is one's.
-    ensures found { result.status ≡ 0 → (f : ClientFrame) × IsConnect bytes.now f }
-    ensures only { (f : ClientFrame) → IsConnect bytes.now f → result ≡ payload_answer 0 0 }
-    // Else the first case that applies is reported.
-    ensures fault { result.status ≢ 0 → IsToldBy (IsFirstFault bytes.now) result }
+    // It is taken for one exactly if it is one's, else the first case that applies is reported.
+    ensures { Judges (IsConnect bytes.now) (IsFirstFault bytes.now) result }
 {
-    match borrow_first(bytes) {
-        Ok(_frame) => PayloadAnswer::none(WELL),
-        Err(fault) => PayloadAnswer::refused(fault),
-    }
+    judged!(borrow_first(bytes))
 }
 
 /// Judges whether the payload is that of a request of a profile, 34 or 35.
@@ -65,34 +68,22 @@ pub extern "C" fn zk_judge_first(bytes: &[u8]) -> PayloadAnswer
 pub extern "C" fn zk_judge_request(profile: u32, bytes: &[u8]) -> PayloadAnswer
     // A number that is no profile's is refused.
     ensures range { ((p : Profile) → profile ≢ profile_number p) → result ≡ payload_answer 67 0 }
-    // It is taken for one exactly if it is one's.
-    ensures found { (p : Profile) → profile ≡ profile_number p → result.status ≡ 0 → (f : ClientFrame) × IsRequest p bytes.now f }
-    ensures only { (p : Profile) → profile ≡ profile_number p → (f : ClientFrame) → IsRequest p bytes.now f → result ≡ payload_answer 0 0 }
-    // Else the first case that applies is reported.
-    ensures fault { (p : Profile) → profile ≡ profile_number p → result.status ≢ 0 → IsToldBy (IsAskFault p bytes.now) result }
+    // It is taken for one exactly if it is one's, else the first case that applies is reported.
+    ensures judges { (p : Profile) → profile ≡ profile_number p → Judges (IsRequest p bytes.now) (IsAskFault p bytes.now) result }
 {
     let Some(profile) = Profile::of_number(profile) else {
         return PayloadAnswer::none(RANGE);
     };
-    match borrow_ask(profile, bytes) {
-        Ok(_frame) => PayloadAnswer::none(WELL),
-        Err(fault) => PayloadAnswer::refused(fault),
-    }
+    judged!(borrow_ask(profile, bytes))
 }
 
 /// Judges whether the payload is that of the reply to a connect request.
 #[unsafe(no_mangle)]
 pub extern "C" fn zk_judge_connected(bytes: &[u8]) -> PayloadAnswer
-    // It is taken for one exactly if it is one's.
-    ensures found { result.status ≡ 0 → (s : ServerFrame) × IsWelcome bytes.now s }
-    ensures only { (s : ServerFrame) → IsWelcome bytes.now s → result ≡ payload_answer 0 0 }
-    // Else the first case that applies is reported.
-    ensures fault { result.status ≢ 0 → IsToldBy (IsConnectedFault bytes.now) result }
+    // It is taken for one exactly if it is one's, else the first case that applies is reported.
+    ensures { Judges (IsWelcome bytes.now) (IsConnectedFault bytes.now) result }
 {
-    match borrow_connected(bytes) {
-        Ok(_frame) => PayloadAnswer::none(WELL),
-        Err(fault) => PayloadAnswer::refused(fault),
-    }
+    judged!(borrow_connected(bytes))
 }
 
 /// Whether the payload begins with the header of an event.
@@ -135,10 +126,7 @@ pub extern "C" fn zk_judge_reply(operation: i32, parts: &[i32], bytes: &[u8]) ->
     if is_of_event(bytes) {
         return PayloadAnswer::none(MISFIT);
     }
-    match borrow_reply(&asked, bytes) {
-        Ok(_frame) => PayloadAnswer::none(WELL),
-        Err(fault) => PayloadAnswer::refused(fault),
-    }
+    judged!(borrow_reply(&asked, bytes))
 }
 
 /// Judges whether the payload is that of an event.
@@ -155,8 +143,5 @@ pub extern "C" fn zk_judge_event(bytes: &[u8]) -> PayloadAnswer
     if is_of_reply(bytes) {
         return PayloadAnswer::none(MISFIT);
     }
-    match borrow_event(bytes) {
-        Ok(_frame) => PayloadAnswer::none(WELL),
-        Err(fault) => PayloadAnswer::refused(fault),
-    }
+    judged!(borrow_event(bytes))
 }

@@ -3,11 +3,10 @@ ghost use Rattle.std.specs.Prelude.{◌≡◌, ◌≤◌, ◌^◌, length};
 ghost use Rattle.zk_records.specs.declared.profile.Profile.{Profile};
 ghost use Rattle.zk_records.specs.declared.profile.Profile.TheVariants as profiles;
 ghost use Rattle.zk_records.specs.Codes.{profile_number, IsNoOp};
-ghost use Rattle.zk_asks.specs.Held.{ClientFrame};
 ghost use Rattle.zk_answers.specs.Held.{ServerFrame};
-ghost use Rattle.zk_c.specs.Asked.{parts_of, AreNoneAsked, WhereAsked};
-ghost use Rattle.zk_c.specs.Judged.{IsConnect, IsWelcome, IsNotice, HasHead, HasNoHead, IsOfEvent, IsOfReply};
-ghost use Rattle.zk_c.specs.Read.{HasPlaces, IsOp, no_read, IsUnknown, TellsNone, TellsUnknown, TellsClient, TellsServer, IsAskOf, ConnectOrFault, ReadsRequest, RequestOrFault, WelcomeOrFault, ReadsReply, ReplyOrFault, WhereReply, NoticeOrFault};
+ghost use Rattle.zk_c.specs.Asked.{AreNoneAsked, WhereAsked};
+ghost use Rattle.zk_c.specs.Judged.{IsNotice, HasHead, HasNoHead, IsOfEvent, IsOfReply};
+ghost use Rattle.zk_c.specs.Read.{HasPlaces, IsOp, no_read, IsUnknown, TellsNone, TellsUnknown, TellsServer, IsAskOf, ReadsConnect, ReadsRequest, ReadsWelcome, ReadsReply, WhereReply, NoticeOrFault};
 
 use crate::asked::Numbered;
 use crate::number::{MISFIT, RANGE};
@@ -18,23 +17,32 @@ use zk_asks::{borrow_ask, borrow_first};
 use zk_fields::{Field, Opened};
 use zk_records::{Profile, op_of};
 
+/// Writes the fields of the message that `$read` finds in the payload, by `$tell`; or, of a payload that is read as `$opened`,
+/// those before its fault. The call returns `RANGE` for a length of 4 GiB or more, and `MISFIT` if `$other` says so.
+macro_rules! read_payload {
+    ($payload:ident, $room:ident, $read:expr => $tell:ident, $opened:expr $(, unless $other:ident)?) => {{
+        if $payload.len() > u32::MAX as usize {
+            return ReadAnswer::none(RANGE);
+        }
+        $(if $other($payload) {
+            return ReadAnswer::none(MISFIT);
+        })?
+        match $read {
+            Ok(frame) => $tell(&frame, $room),
+            Err(fault) => read_fault($opened, $payload, fault, $room),
+        }
+    }};
+}
+
 /// Writes the fields of a connect request, as far as there is room.
 #[unsafe(no_mangle)]
 pub extern "C" fn zk_read_first(payload: &[u8], room: &mut [Field]) -> ReadAnswer
     // A length of 4 GiB or more is refused.
     ensures range { 2 ^ 32 ≤ length payload.now → TellsNone 67 room.old room.new result }
-    // If it is a connect request's, its fields are written.
-    ensures only { (f : ClientFrame) → HasPlaces payload.now → IsConnect payload.now f → TellsClient f room.old room.new result }
-    // It is one's, or the first case that applies is returned.
-    ensures found { HasPlaces payload.now → ConnectOrFault payload.now room.old room.new result }
+    // If it is a connect request's, its fields are written; it is one's, or the first case that applies is returned.
+    ensures reads { HasPlaces payload.now → ReadsConnect payload.now room.old room.new result }
 {
-    if payload.len() > u32::MAX as usize {
-        return ReadAnswer::none(RANGE);
-    }
-    match borrow_first(payload) {
-        Ok(frame) => read_client(&frame, room),
-        Err(fault) => read_fault(Some(Opened::First), payload, fault, room),
-    }
+    read_payload!(payload, room, borrow_first(payload) => read_client, Some(Opened::First))
 }
 
 /// A request of the operation whose number is in the payload's header; `None` if the profile has none of that number.
@@ -48,34 +56,18 @@ fn ask_of(profile: Profile, payload: &[u8]) -> Option<Opened>
     }
 }
 
-/// Writes the fields of a request of `profile`.
-fn request_in(profile: Profile, payload: &[u8], room: &mut [Field]) -> ReadAnswer
-    ensures only { HasPlaces payload.now → ReadsRequest profile payload.now room.old room.new result }
-    ensures found { HasPlaces payload.now → RequestOrFault profile payload.now room.old room.new result }
-{
-    match borrow_ask(profile, payload) {
-        Ok(frame) => read_client(&frame, room),
-        Err(fault) => read_fault(ask_of(profile, payload), payload, fault, room),
-    }
-}
-
 /// Writes the fields of a request of a profile, 34 or 35, as far as there is room.
 #[unsafe(no_mangle)]
 pub extern "C" fn zk_read_request(profile: u32, payload: &[u8], room: &mut [Field]) -> ReadAnswer
     // A number that is no profile's is refused, and a length of 4 GiB or more.
     ensures range { ((p : Profile) → profile ≡ profile_number p → 2 ^ 32 ≤ length payload.now) → TellsNone 67 room.old room.new result }
-    // If it is a request's, its fields are written.
-    ensures only { (p : Profile) → profile ≡ profile_number p → HasPlaces payload.now → ReadsRequest p payload.now room.old room.new result }
-    // It is one's, or the first case that applies is returned.
-    ensures found { (p : Profile) → profile ≡ profile_number p → HasPlaces payload.now → RequestOrFault p payload.now room.old room.new result }
+    // If it is a request's, its fields are written; it is one's, or the first case that applies is returned.
+    ensures reads { (p : Profile) → profile ≡ profile_number p → HasPlaces payload.now → ReadsRequest p payload.now room.old room.new result }
 {
     let Some(profile) = Profile::of_number(profile) else {
         return ReadAnswer::none(RANGE);
     };
-    if payload.len() > u32::MAX as usize {
-        return ReadAnswer::none(RANGE);
-    }
-    request_in(profile, payload, room)
+    read_payload!(payload, room, borrow_ask(profile, payload) => read_client, ask_of(profile, payload))
 }
 
 /// Writes the fields of the answer to a connect request, as far as there is room.
@@ -83,30 +75,10 @@ pub extern "C" fn zk_read_request(profile: u32, payload: &[u8], room: &mut [Fiel
 pub extern "C" fn zk_read_connected(payload: &[u8], room: &mut [Field]) -> ReadAnswer
     // A length of 4 GiB or more is refused.
     ensures range { 2 ^ 32 ≤ length payload.now → TellsNone 67 room.old room.new result }
-    // If it is such an answer's, its fields are written.
-    ensures only { (s : ServerFrame) → HasPlaces payload.now → IsWelcome payload.now s → TellsServer s room.old room.new result }
-    // It is one's, or the first case that applies is returned.
-    ensures found { HasPlaces payload.now → WelcomeOrFault payload.now room.old room.new result }
+    // If it is such an answer's, its fields are written; it is one's, or the first case that applies is returned.
+    ensures reads { HasPlaces payload.now → ReadsWelcome payload.now room.old room.new result }
 {
-    if payload.len() > u32::MAX as usize {
-        return ReadAnswer::none(RANGE);
-    }
-    match borrow_connected(payload) {
-        Ok(frame) => read_server(&frame, room),
-        Err(fault) => read_fault(Some(Opened::Connected), payload, fault, room),
-    }
-}
-
-/// Writes the fields of a reply to `asked`.
-fn reply_in(asked: &Numbered<'_>, payload: &[u8], room: &mut [Field]) -> ReadAnswer
-    requires { HasNoHead IsOfEvent payload.now }
-    ensures only { HasPlaces payload.now → ReadsReply asked.now.op (parts_of asked.now.numbers.now) payload.now room.old room.new result }
-    ensures found { HasPlaces payload.now → ReplyOrFault asked.now.op (parts_of asked.now.numbers.now) payload.now room.old room.new result }
-{
-    match borrow_reply(asked, payload) {
-        Ok(frame) => read_server(&frame, room),
-        Err(fault) => read_fault(Some(Opened::Reply(asked.op)), payload, fault, room),
-    }
+    read_payload!(payload, room, borrow_connected(payload) => read_server, Some(Opened::Connected))
 }
 
 /// What is read of a reply to a request that is none: of an operation with other parts, or of no operation.
@@ -144,21 +116,14 @@ pub extern "C" fn zk_read_reply(
     ensures other { IsNoOp profiles.V35 operation → HasPlaces payload.now → HasHead IsOfEvent payload.now → TellsNone 82 room.old room.new result }
     // Where no operation has the number, the header is read, and the place of the body is that of UnknownOp.
     ensures unknown { IsNoOp profiles.V35 operation → HasPlaces payload.now → HasNoHead IsOfEvent payload.now → TellsUnknown payload.now room.old room.new result }
-    // If it is a reply to what was asked, its fields are written.
-    ensures only { WhereReply operation parts.now payload.now (λ op ops. ReadsReply op ops payload.now room.old room.new result) }
-    // It is one, or the first case that applies is returned.
-    ensures found { WhereReply operation parts.now payload.now (λ op ops. ReplyOrFault op ops payload.now room.old room.new result) }
+    // If it is a reply to what was asked, its fields are written; it is one, or the first case that applies is returned.
+    ensures reads { WhereReply operation parts.now payload.now (λ op ops. ReadsReply op ops payload.now room.old room.new result) }
 {
     let Some(asked) = Numbered::of(operation, parts) else {
         return unasked(operation, payload);
     };
-    if payload.len() > u32::MAX as usize {
-        return ReadAnswer::none(RANGE);
-    }
-    if is_of_event(payload) {
-        return ReadAnswer::none(MISFIT);
-    }
-    reply_in(&asked, payload, room)
+    let opened = Some(Opened::Reply(asked.op));
+    read_payload!(payload, room, borrow_reply(&asked, payload) => read_server, opened, unless is_of_event)
 }
 
 /// Writes the fields of an event, as far as there is room.
@@ -173,14 +138,6 @@ pub extern "C" fn zk_read_event(payload: &[u8], room: &mut [Field]) -> ReadAnswe
     // It is one's, or the first case that applies is returned.
     ensures found { HasPlaces payload.now → HasNoHead IsOfReply payload.now → NoticeOrFault payload.now room.old room.new result }
 {
-    if payload.len() > u32::MAX as usize {
-        return ReadAnswer::none(RANGE);
-    }
-    if is_of_reply(payload) {
-        return ReadAnswer::none(MISFIT);
-    }
-    match borrow_event(payload) {
-        Ok(frame) => read_server(&frame, room),
-        Err(fault) => read_fault(Some(Opened::Event), payload, fault, room),
-    }
+    let opened = Some(Opened::Event);
+    read_payload!(payload, room, borrow_event(payload) => read_server, opened, unless is_of_reply)
 }

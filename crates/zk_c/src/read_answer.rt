@@ -1,17 +1,17 @@
 //! `ReadAnswer`: the message whose fields were written, in numbers.
-ghost use Rattle.std.specs.Prelude.{◌≡◌, ◌<◌, ◌^◌, pos, length};
-ghost use Rattle.zk_asks.specs.Frames as asks;
-ghost use Rattle.zk_answers.specs.Frames as answers;
-ghost use Rattle.zk_answers.specs.Frames.{err_of};
+ghost use Rattle.std.specs.Prelude.{◌≡◌, ◌<◌, ◌^◌, pos, length, Some, None};
+ghost use Rattle.zk_talk.specs.Held.{Message};
+ghost use Rattle.zk_talk.specs.declared.message.MessageOf.TheVariants.{Client as FromClient, Server as FromServer};
 ghost use Rattle.zk_fields.specs.Frames.{AreWritten};
-ghost use Rattle.zk_c.specs.Read.{no_read, refused_read, IsUnknown, room_status, client_read, server_read, ask_head, answer_head, int_there, long_there, fields_before, head_of, TellsRefused, TellsClient, TellsServer};
+ghost use Rattle.zk_c.specs.Read.{no_read, refused_read, IsUnknown, room_status, head_read, ask_head, answer_head, int_there, long_there, fields_before, head_of, TellsRefused, TellsNone, HasFields, TellsMessage, TellsClient, TellsServer};
 
-use crate::number::{ROOM, WELL, reason_number};
-use zk_answers::{OutcomeOf, OutcomeRef, ServerFrameOf, ServerRef, reply_head};
-use zk_asks::{ClientFrameOf, ClientRef};
+use crate::head::Head;
+use crate::number::{NO_MESSAGE, ROOM, WELL, reason_number};
+use zk_answers::{ServerRef, reply_head};
+use zk_asks::ClientRef;
 use zk_fields::{Field, Opened, client_fields, opened_fields, server_fields};
 use zk_jute::{ItemFault, Reason, int_at, long_at};
-use zk_records::op_number;
+use zk_talk::{MessageOf, MessageRef};
 
 /// What message a payload is, and how many fields it has.
 #[repr(C)]
@@ -34,18 +34,25 @@ pub struct ReadAnswer {
     pub zxid: i64,
 }
 
+/// The number that `$read` reads of `$payload` at `$place`; 0 if none is whole there.
+macro_rules! number_there {
+    ($read:ident, $payload:ident, $place:ident) => {{
+        if $place > $payload.len() {
+            return 0;
+        }
+        match $read($payload, $place) {
+            Ok((number, _)) => number,
+            Err(_) => 0,
+        }
+    }};
+}
+
 /// The int at `place`; 0 if none is whole there.
 #[tactic(auto, using(crate::proofs::Reading::there, crate::proofs::Reading::not_there, crate::proofs::Reading::no_int))]
 pub fn int_there(payload: &[u8], place: usize) -> i32
     ensures { result ≡ int_there payload.now place }
 {
-    if place > payload.len() {
-        return 0;
-    }
-    match int_at(payload, place) {
-        Ok((number, _)) => number,
-        Err(_) => 0,
-    }
+    number_there!(int_at, payload, place)
 }
 
 /// The long at `place`; 0 if none is whole there.
@@ -53,29 +60,13 @@ pub fn int_there(payload: &[u8], place: usize) -> i32
 fn long_there(payload: &[u8], place: usize) -> i64
     ensures { result ≡ long_there payload.now place }
 {
-    if place > payload.len() {
-        return 0;
-    }
-    match long_at(payload, place) {
-        Ok((number, _)) => number,
-        Err(_) => 0,
-    }
+    number_there!(long_at, payload, place)
 }
 
 fn room_status(room: usize, count: u32) -> u32
     ensures { result ≡ room_status room count }
 {
     if count as usize <= room { WELL } else { ROOM }
-}
-
-/// A reply's err.
-pub fn err_of(outcome: &OutcomeRef<'_>) -> i32
-    ensures { result ≡ err_of outcome.now }
-{
-    match outcome {
-        OutcomeOf::Done(_) => 0,
-        OutcomeOf::Failed(_, failure) => failure.number(),
-    }
 }
 
 impl ReadAnswer {
@@ -141,82 +132,52 @@ impl ReadAnswer {
         }
     }
 
-    fn client(room: usize, count: u32, frame: &ClientRef<'_>) -> ReadAnswer
-        ensures { result ≡ client_read room count frame.now }
+    /// The answer of a message with this head and `count` fields, where the room has `room` places.
+    fn of(room: usize, count: u32, head: Head) -> ReadAnswer
+        ensures { result ≡ head_read room count head }
     {
-        let none = ReadAnswer::none(room_status(room, count));
-        match frame {
-            ClientFrameOf::Connect { .. } => {
-                ReadAnswer {
-                    count,
-                    kind: 1,
-                    ..none
-                }
-            }
-            ClientFrameOf::Ask { xid, ask } => {
-                ReadAnswer {
-                    count,
-                    kind: 2,
-                    xid: *xid,
-                    operation: op_number(ask.op()),
-                    ..none
-                }
-            }
-        }
-    }
-
-    fn server(room: usize, count: u32, frame: &ServerRef<'_>) -> ReadAnswer
-        ensures { result ≡ server_read room count frame.now }
-    {
-        let none = ReadAnswer::none(room_status(room, count));
-        match frame {
-            ServerFrameOf::Connected { .. } => {
-                ReadAnswer {
-                    count,
-                    kind: 3,
-                    ..none
-                }
-            }
-            ServerFrameOf::Answered(reply) => {
-                ReadAnswer {
-                    count,
-                    kind: 4,
-                    xid: reply.xid,
-                    operation: op_number(reply.op()),
-                    err: err_of(&reply.outcome),
-                    zxid: reply.zxid,
-                    ..none
-                }
-            }
-            ServerFrameOf::Event { zxid, .. } => {
-                ReadAnswer {
-                    count,
-                    kind: 5,
-                    xid: -1,
-                    zxid: *zxid,
-                    ..none
-                }
-            }
+        ReadAnswer {
+            status: room_status(room, count),
+            place: 0,
+            count,
+            kind: head.kind,
+            xid: head.xid,
+            operation: head.operation,
+            err: head.err,
+            zxid: head.zxid,
         }
     }
 }
 
 /// The fields of a client's frame, as far as there is room.
 pub fn read_client(frame: &ClientRef<'_>, room: &mut [Field]) -> ReadAnswer
-    ensures { asks.IsSent frame.now → length (asks.payload frame.now) < 2 ^ 32 → TellsClient frame.now room.old room.new result }
+    ensures { HasFields (FromClient frame.now) → TellsClient frame.now room.old room.new result }
 {
     let places = room.len();
     let count = client_fields(frame, room);
-    ReadAnswer::client(places, count, frame)
+    ReadAnswer::of(places, count, Head::of_client(frame))
 }
 
 /// The fields of a server's frame, as far as there is room.
 pub fn read_server(frame: &ServerRef<'_>, room: &mut [Field]) -> ReadAnswer
-    ensures { answers.IsSent frame.now → length (answers.payload frame.now) < 2 ^ 32 → TellsServer frame.now room.old room.new result }
+    ensures { HasFields (FromServer frame.now) → TellsServer frame.now room.old room.new result }
 {
     let places = room.len();
     let count = server_fields(frame, room);
-    ReadAnswer::server(places, count, frame)
+    ReadAnswer::of(places, count, Head::of_server(frame))
+}
+
+/// The fields of the message that is shown, if one is, as far as there is room.
+#[inline(always)]
+pub fn read_shown(shown: Option<MessageRef<'_>>, room: &mut [Field]) -> ReadAnswer
+    ensures none { shown.entry ≡ None → TellsNone 69 room.old room.new result }
+    ensures some { (m : Message) → shown.entry ≡ Some m → HasFields m → TellsMessage m room.old room.new result }
+{
+    match shown {
+        Some(MessageOf::Client(frame)) => read_client(&frame, room),
+        Some(MessageOf::Server(frame)) => read_server(&frame, room),
+        None => ReadAnswer::none(NO_MESSAGE),
+    }
 }
 
 /// Writes the fields before `place` of a payload read as `opened`, as many as `room` has places for.

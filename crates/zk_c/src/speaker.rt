@@ -10,8 +10,7 @@ ghost use Rattle.zk_c.specs.Judged.{payload_answer};
 ghost use Rattle.zk_c.specs.Saying.{say_answer, SaysLine, SaysBytes, IsSilent, Renews};
 
 use crate::answer::LineAnswer;
-use crate::handle::{fill, with_value};
-use crate::loose::Loose;
+use crate::handle::{fill, put_in, take_out, with_value};
 use crate::number::{EMPTY, WELL};
 use crate::payload::PayloadAnswer;
 use crate::said::SayAnswer;
@@ -19,7 +18,6 @@ use crate::talk::limits_of;
 use crate::voice::Voice;
 use crate::voice_box::VoiceBox;
 use std::alloc::Global;
-use std::mem::replace;
 
 /// A speaker that C keeps, or none: all bytes 0.
 // It has no `Drop`, so that what it holds isn't lost unnoticed.
@@ -37,15 +35,7 @@ impl SpeakerHandle {
         ensures speaker { MatchOption result (self.old.held.value ≡ None) (λ b. self.old.held.value ≡ Some b.value) }
         ensures left { self.new.held.value ≡ None }
     {
-        let none = SpeakerHandle {
-            held: VoiceBox::none(),
-            live: false,
-        };
-        let SpeakerHandle { held, live } = replace(self, none);
-        if !live {
-            return None;
-        }
-        Some(held.into_loose(alloc).into_box())
+        take_out!(self, alloc, SpeakerHandle, VoiceBox)
     }
 
     /// Puts a speaker in, where there is none.
@@ -53,11 +43,7 @@ impl SpeakerHandle {
         requires { self.old.held.value ≡ None }
         ensures { self.new.held.value ≡ Some speaker.value }
     {
-        let full = SpeakerHandle {
-            held: VoiceBox::of(Loose::of(speaker)),
-            live: true,
-        };
-        let SpeakerHandle { held: _, live: _ } = replace(self, full);
+        put_in!(self, speaker, SpeakerHandle, VoiceBox);
     }
 }
 

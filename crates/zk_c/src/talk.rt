@@ -12,13 +12,11 @@ ghost use Rattle.zk_c.specs.Read.{no_read};
 use crate::answer::{EndingAnswer, LineAnswer, MessageAnswer, StepAnswer};
 use crate::conversation::Conversation;
 use crate::counts::{HeldAnswer, WaitingAnswer};
-use crate::handle::{fill, with_value};
-use crate::loose::Loose;
+use crate::handle::{fill, put_in, take_out, with_value};
 use crate::number::{EMPTY, WELL};
 use crate::read_answer::ReadAnswer;
 use crate::talk_box::TalkBox;
 use std::alloc::Global;
-use std::mem::replace;
 use zk_fields::Field;
 use zk_records::Profile;
 use zk_talk::Limits;
@@ -39,15 +37,7 @@ impl TalkHandle {
         ensures talk { MatchOption result (self.old.held.value ≡ None) (λ b. self.old.held.value ≡ Some b.value) }
         ensures left { self.new.held.value ≡ None }
     {
-        let none = TalkHandle {
-            held: TalkBox::none(),
-            live: false,
-        };
-        let TalkHandle { held, live } = replace(self, none);
-        if !live {
-            return None;
-        }
-        Some(held.into_loose(alloc).into_box())
+        take_out!(self, alloc, TalkHandle, TalkBox)
     }
 
     /// Puts a talk in, where there is none.
@@ -55,11 +45,7 @@ impl TalkHandle {
         requires { self.old.held.value ≡ None }
         ensures { self.new.held.value ≡ Some talk.value }
     {
-        let full = TalkHandle {
-            held: TalkBox::of(Loose::of(talk)),
-            live: true,
-        };
-        let TalkHandle { held: _, live: _ } = replace(self, full);
+        put_in!(self, talk, TalkHandle, TalkBox);
     }
 }
 

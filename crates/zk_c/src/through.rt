@@ -7,11 +7,10 @@ ghost use Rattle.zk_c.specs.Answer.{no_message, no_line, no_ending};
 ghost use Rattle.zk_c.specs.Handle.{AreNoLimits, TellsEnding};
 ghost use Rattle.zk_c.specs.Read.{no_read};
 ghost use Rattle.zk_c.specs.Passage.{PassageState};
-ghost use Rattle.zk_c.specs.Passing.{no_passed, IsMade, IsNew, IsJoined, Renews, TellsStep, IsView, IsLine, IsFields, IsLeftOut, IsFinish};
+ghost use Rattle.zk_c.specs.Passing.{no_passed, IsNew, IsJoined, Renews, TellsStep, IsView, IsLine, IsFields, IsLeftOut, IsFinish};
 
 use crate::answer::{EndingAnswer, LineAnswer, MessageAnswer};
-use crate::handle::{fill, with_value};
-use crate::loose::Loose;
+use crate::handle::{fill, put_in, take_out, with_value};
 use crate::number::{EMPTY, WELL};
 use crate::passage::Passage;
 use crate::passage_box::PassageBox;
@@ -19,7 +18,6 @@ use crate::passed::PassedAnswer;
 use crate::read_answer::ReadAnswer;
 use crate::talk::limits_of;
 use std::alloc::Global;
-use std::mem::replace;
 use zk_fields::Field;
 
 /// A passage that C keeps, or none: all bytes 0.
@@ -38,15 +36,7 @@ impl ThroughHandle {
         ensures passage { MatchOption result (self.old.held.value ≡ None) (λ b. self.old.held.value ≡ Some b.value) }
         ensures left { self.new.held.value ≡ None }
     {
-        let none = ThroughHandle {
-            held: PassageBox::none(),
-            live: false,
-        };
-        let ThroughHandle { held, live } = replace(self, none);
-        if !live {
-            return None;
-        }
-        Some(held.into_loose(alloc).into_box())
+        take_out!(self, alloc, ThroughHandle, PassageBox)
     }
 
     /// Puts a passage in, where there is none.
@@ -54,33 +44,8 @@ impl ThroughHandle {
         requires { self.old.held.value ≡ None }
         ensures { self.new.held.value ≡ Some passage.value }
     {
-        let full = ThroughHandle {
-            held: PassageBox::of(Loose::of(passage)),
-            live: true,
-        };
-        let ThroughHandle { held: _, live: _ } = replace(self, full);
+        put_in!(self, passage, ThroughHandle, PassageBox);
     }
-}
-
-/// Makes a passage with these limits, of a connection that is seen `late` or from its beginning on. Returns the status.
-fn make(
-    alloc: Global,
-    handle: &mut ThroughHandle,
-    client: u32,
-    server: u32,
-    waiting: u32,
-    profile: u32,
-    late: bool,
-) -> u32
-    ensures in_use { IsSome handle.old.held.value → result ≡ 66 }
-    ensures limits { handle.old.held.value ≡ None → AreNoLimits client server waiting profile → result ≡ 67 }
-    ensures range { result ≡ 67 → AreNoLimits client server waiting profile }
-    ensures status { handle.old.held.value ≡ None → (result ≡ 0) ⊎ (result ≡ 5) ⊎ (result ≡ 67) }
-    ensures made { result ≡ 0 → IsMade late client server waiting profile handle.new.held.value }
-    ensures same { result ≢ 0 → handle.new ≡ handle.old }
-{
-    fill!(handle, alloc, limits_of(client, server, waiting, profile)
-        => |limits| Passage::new(alloc, limits, late))
 }
 
 /// Makes a passage with these limits, of which nothing has come. Returns the status.
@@ -104,7 +69,8 @@ pub extern "C" fn zk_through_new(
     // Nothing is changed if it is refused.
     ensures same { result ≢ 0 → handle.new ≡ handle.old }
 {
-    make(alloc, handle, client, server, waiting, profile, false)
+    fill!(handle, alloc, limits_of(client, server, waiting, profile)
+        => |limits| Passage::new(alloc, limits, false))
 }
 
 /// Makes a passage with these limits, of a connection that is seen late. Returns the status.
@@ -128,7 +94,8 @@ pub extern "C" fn zk_talk_join(
     // Nothing is changed if it is refused.
     ensures same { result ≢ 0 → handle.new ≡ handle.old }
 {
-    make(alloc, handle, client, server, waiting, profile, true)
+    fill!(handle, alloc, limits_of(client, server, waiting, profile)
+        => |limits| Passage::new(alloc, limits, true))
 }
 
 /// Begins the passage anew with the same limits. Returns the status.

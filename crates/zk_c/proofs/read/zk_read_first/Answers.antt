@@ -1,22 +1,12 @@
-use Rattle.std.proofs.Common.{◌≡◌, inl, inr, refl}
-use Rattle.zk_c.specs.Read.{TellsClient}
-use Rattle.std.specs.Prelude.{Some}
-use Rattle.zk_fields.specs.declared.opened.Opened.TheVariants as opened
-use Rattle.zk_c.proofs.Reading.{reads_it}
+use Rattle.std.proofs.Common.{refl, subst}
+use Rattle.zk_talk.specs.declared.message.MessageOf.TheVariants.{Client}
+use Rattle.zk_c.specs.Read.{HasPlaces}
+use Rattle.zk_c.proofs.Reading.{read_ok, read_err}
 use Rattle.zk_c.proofs.read.zk_read_first.Goals as goal
 
-pub returns-in-Ok-clause-only : goal.returns-in-Ok-clause-only
-returns-in-Ok-clause-only c = λ f small is.
-    let read = c.in-Ok.ensures.only f is.first is.sent is.is in
-    let same : c.in-Ok.frame ≡ f = cc in
-    reads_it (λ g. TellsClient g c.args.room.now c.read_client.new.room c.read_client.result) same c.in-Ok.ensures.found.2 small (c.read_client.ensures c.in-Ok.ensures.found.1)
+pub returns-in-Ok-clause-reads : goal.returns-in-Ok-clause-reads
+returns-in-Ok-clause-reads c = λ small. let found = c.in-Ok.ensures.found in
+    read_ok Client (λ x is. c.in-Ok.ensures.only x is.first is.sent is.is) (record { first = found.0; sent = found.1; is = found.2 }) (c.read_client.ensures (found.1, subst HasPlaces found.2 small))
 
-pub returns-in-Ok-clause-found : goal.returns-in-Ok-clause-found
-returns-in-Ok-clause-found c = λ small.
-    let found = c.in-Ok.ensures.found in
-    inl (c.in-Ok.frame, record { first = found.0; sent = found.1; is = found.2 })
-
-pub returns-in-Err-clause-found : goal.returns-in-Err-clause-found
-returns-in-Err-clause-found c = λ small.
-    let told = c.in-Err.ensures.fault in
-    inr (record { fault = c.in-Err.fault; is = told.0; ample = told.1; opened = Some opened.First; is_opened = refl; tells = c.read_fault.ensures small })
+pub returns-in-Err-clause-reads : goal.returns-in-Err-clause-reads
+returns-in-Err-clause-reads c = λ small. read_err Client (λ x is. c.in-Err.ensures.only x is.first is.sent is.is) c.in-Err.ensures.fault refl (c.read_fault.ensures small)

@@ -1,28 +1,24 @@
-use Rattle.std.proofs.Common.{ℤ, w32, List, subst, sym, refl}
-use Rattle.std.specs.Prelude.{◌⊎◌}
+use Rattle.std.proofs.Common.{w32, subst, sym, refl}
 use Rattle.std.proofs.lemmas.Int.{to_z-of_z}
+use Rattle.std.proofs.lemmas.Bool.{false≢true}
 use Rattle.zk_records.specs.declared.profile.Profile.TheVariants as profiles
 use Rattle.zk_records.specs.Codes.{IsNoOp}
-use Rattle.zk_records.specs.declared.op.Op.{Op}
-use Rattle.zk_records.specs.declared.op.PartOp.{PartOp}
-use Rattle.zk_answers.specs.Held.{ServerFrame}
-use Rattle.zk_answers.specs.Faults.{IsReplyFault}
-use Rattle.zk_fields.specs.declared.opened.Opened.TheVariants as opened
-use Rattle.zk_c.specs.Asked.{parts_of, AreAsked}
-use Rattle.zk_c.specs.Judged.{IsReply}
-use Rattle.zk_c.specs.Read.{IsOp, IsReadFault, Just}
-use Rattle.zk_c.proofs.Parts.{one_asked}
+use Rattle.zk_talk.specs.declared.message.MessageOf.TheVariants.{Server}
+use Rattle.zk_c.specs.Read.{HasPlaces, IsOp}
+use Rattle.zk_c.proofs.Parts.{where_asked}
+use Rattle.zk_c.proofs.Reading.{read_ok, read_err}
 use Rattle.zk_c.proofs.read.zk_read_reply.Goals as goal
 
-pub returns-clause-only : goal.returns-clause-only
-returns-clause-only c = λ op ops are small not s is.
-    let same = one_asked c.args.operation c.args.parts.now op c.in-Some.asked.op ops (parts_of c.in-Some.asked.numbers.now) are (subst (λ (n : ℤ). AreAsked n c.args.parts.now c.in-Some.asked.op (parts_of c.in-Some.asked.numbers.now)) (to_z-of_z w32 c.args.operation c.ranges.operation) c.in-Some.ensures) in
-    c.reply_in.ensures.only small s (subst (λ (p : Op × List PartOp). IsReply p.0 p.1 c.args.payload.now s) (λ i. (same.0 i, same.1 i)) is)
+pub borrow_reply-requires : goal.borrow_reply-requires
+borrow_reply-requires c = λ header rest h e. false≢true (c.if-is_of_event.ensures.1 (header, rest, h, e))
 
-pub returns-clause-found : goal.returns-clause-found
-returns-clause-found c = λ op ops are small not.
-    let same = one_asked c.args.operation c.args.parts.now c.in-Some.asked.op op (parts_of c.in-Some.asked.numbers.now) ops (subst (λ (n : ℤ). AreAsked n c.args.parts.now c.in-Some.asked.op (parts_of c.in-Some.asked.numbers.now)) (to_z-of_z w32 c.args.operation c.ranges.operation) c.in-Some.ensures) are in
-    subst (λ (p : Op × List PartOp). ((s : ServerFrame) × IsReply p.0 p.1 c.args.payload.now s) ⊎ IsReadFault (IsReplyFault p.0 p.1 c.args.payload.now) (Just (opened.Reply p.0)) c.args.payload.now c.args.room.now c.reply_in.new.room c.reply_in.result) (λ i. (same.0 i, same.1 i)) (c.reply_in.ensures.found small)
+pub returns-in-Ok-clause-reads : goal.returns-in-Ok-clause-reads
+returns-in-Ok-clause-reads c = let found = c.in-Ok.ensures.found in where_asked _ (to_z-of_z w32 c.args.operation c.ranges.operation) c.in-Some.ensures (λ small not.
+    read_ok Server (λ x is. c.in-Ok.ensures.only x is.reply is.sent is.is) (record { reply = found.0; sent = found.1; is = found.2 }) (c.read_server.ensures (found.1, subst HasPlaces found.2 small)))
+
+pub returns-in-Err-clause-reads : goal.returns-in-Err-clause-reads
+returns-in-Err-clause-reads c = where_asked _ (to_z-of_z w32 c.args.operation c.ranges.operation) c.in-Some.ensures (λ small not.
+    read_err Server (λ x is. c.in-Err.ensures.only x is.reply is.sent is.is) c.in-Err.ensures.fault refl (c.read_fault.ensures small))
 
 pub returns-in_default-clause-range : goal.returns-in_default-clause-range
 returns-in_default-clause-range c = λ none known. (c.unasked.ensures.range (subst IsOp (sym (to_z-of_z w32 c.args.operation c.ranges.operation)) known), refl)
@@ -32,8 +28,3 @@ returns-in_default-clause-other c = λ no small head. (c.unasked.ensures.event (
 
 pub returns-in_default-clause-unknown : goal.returns-in_default-clause-unknown
 returns-in_default-clause-unknown c = λ no small none. (c.unasked.ensures.unknown (subst (IsNoOp profiles.V35) (sym (to_z-of_z w32 c.args.operation c.ranges.operation)) no) small none, refl)
-
-pub returns-clause-unknown : goal.returns-clause-unknown
-returns-clause-unknown c = λ no small none.
-    let asked = subst (λ (n : ℤ). AreAsked n c.args.parts.now c.in-Some.asked.op (parts_of c.in-Some.asked.numbers.now)) (to_z-of_z w32 c.args.operation c.ranges.operation) c.in-Some.ensures in
-    absurd (no c.in-Some.asked.op tt asked.is)

@@ -1,14 +1,16 @@
-use Rattle.std.proofs.Common.{sym, ◌∙◌, subst}
+use Rattle.std.proofs.Common.{subst, sym, ◌∙◌}
 use Rattle.zk_records.specs.declared.profile.Profile.{Profile}
-use Rattle.zk_c.specs.Judged.{IsRequest}
-use Rattle.zk_c.specs.Read.{RequestOrFault}
-use Rattle.zk_c.proofs.Reading.{profile_apart}
+use Rattle.zk_talk.specs.declared.message.MessageOf.TheVariants.{Client}
+use Rattle.zk_c.specs.Read.{HasPlaces, ReadsRequest}
+use Rattle.zk_c.proofs.Reading.{read_ok, read_err, profile_apart}
 use Rattle.zk_c.proofs.read.zk_read_request.Goals as goal
 
-pub returns-clause-only : goal.returns-clause-only
-returns-clause-only c = λ p number small f is.
-    c.request_in.ensures.only small f (subst (λ (q : Profile). IsRequest q c.args.payload.now f) (profile_apart p c.in-Some.profile (sym number ∙ c.in-Some.ensures)) is)
+pub returns-in-Ok-clause-reads : goal.returns-in-Ok-clause-reads
+returns-in-Ok-clause-reads c = λ p number small. let found = c.in-Ok.ensures.found in
+    subst (λ (q : Profile). ReadsRequest q c.args.payload.now c.args.room.now c.read_client.new.room c.read_client.result) (profile_apart c.in-Some.profile p (sym c.in-Some.ensures ∙ number))
+    (read_ok Client (λ x is. c.in-Ok.ensures.only x is.later is.of is.sent is.is) (record { later = found.0; of = found.1; sent = found.2; is = found.3 }) (c.read_client.ensures (found.2, subst HasPlaces found.3 small)))
 
-pub returns-clause-found : goal.returns-clause-found
-returns-clause-found c = λ p number small.
-    subst (λ (q : Profile). RequestOrFault q c.args.payload.now c.args.room.now c.request_in.new.room c.request_in.result) (profile_apart c.in-Some.profile p (sym c.in-Some.ensures ∙ number)) (c.request_in.ensures.found small)
+pub returns-in-Err-clause-reads : goal.returns-in-Err-clause-reads
+returns-in-Err-clause-reads c = λ p number small.
+    subst (λ (q : Profile). ReadsRequest q c.args.payload.now c.args.room.now c.read_fault.new.room c.read_fault.result) (profile_apart c.in-Some.profile p (sym c.in-Some.ensures ∙ number))
+    (read_err Client (λ x is. c.in-Err.ensures.only x is.later is.of is.sent is.is) c.in-Err.ensures.fault c.ask_of.ensures (c.read_fault.ensures small))
