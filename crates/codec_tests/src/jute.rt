@@ -46,10 +46,7 @@ fn ends(rt: HostRuntime) -> Result<(), Fail> {
     assert_eq!(rt; scan::<TextRef>(TWO, 4)?, 10);
     assert_eq!(rt; TextRef::end::<ItemFault>(TWO, 4)?, 10);
     let short = ItemFault::at(4, Reason::Short);
-    assert_eq!(rt;
-        TextRef::end::<ItemFault>(&TWO[..9], 4).err(),
-        Some(short)
-    );
+    assert_eq!(rt; TextRef::end::<ItemFault>(&TWO[..9], 4).err(), Some(short));
     assert_eq!(rt; TextRef::end::<Undecided>(TWO, 4).ok(), Some(10));
     assert_eq!(rt; TextRef::end::<Undecided>(&TWO[..9], 4).ok(), None);
     Ok(())

@@ -5,9 +5,7 @@ use std::alloc::{AllocError, Global};
 use std::fmt::Debug;
 use std::process::Abort;
 use std::test::Fail;
-use zk_jute::{
-    Blob, ItemFault, List, Spell, Text, Wire, laws, read_flagged, reason_name,
-};
+use zk_jute::{Blob, ItemFault, List, Spell, Text, Wire, laws, read_flagged, reason_name};
 use zk_records::{
     Acl, AclBody, AuthAsk, CheckAsk, ChildrenBody, ConnectRequest, ConnectResponse, CreateAsk,
     CreateBody, DataBody, DeleteAsk, Id, MultiHeader, PathAsk, ReplyHeader, RequestHeader,

@@ -73,12 +73,12 @@ fn goes(rt: &impl Abort, alloc: Global, waiting: u32, rows: &str) -> Result<(), 
     kept
 }
 
-/// getEphemerals of ZooKeeper 3.6 (103) of `/a` under xid 1, its reply, and an exists request between them.
+/// A request that no profile has (9999), of `/a` under xid 1, its reply, and an exists request between them.
 const LEFT_OUT: &str = "\
 C 0000000e00000001 = Ok(Passed { used: 8, went: Within }) waiting 0 out (false, false)
-C 00000067000000022f61ff = Ok(Passed { used: 10, went: Asked(Turn { xid: 1, number: 103, frame: 1 }) }) waiting 1 out (true, false)
+C 0000270f000000022f61ff = Ok(Passed { used: 10, went: Asked(Turn { xid: 1, number: 9999, frame: 1 }) }) waiting 1 out (true, false)
 C 0000000f0000000200000003000000022f6101 = Ok(Passed { used: 19, went: Message }) waiting 2 out (false, false)
-S 000000140000000100000000000000050000000000000000 = Ok(Passed { used: 24, went: Answered(Turn { xid: 1, number: 103, frame: 1 }) }) waiting 1 out (false, true)
+S 000000140000000100000000000000050000000000000000 = Ok(Passed { used: 24, went: Answered(Turn { xid: 1, number: 9999, frame: 1 }) }) waiting 1 out (false, true)
 S 00000010000000020000000000000005ffffff9b = Ok(Passed { used: 20, went: Message }) waiting 0 out (false, false)";
 
 #[test]
@@ -86,17 +86,17 @@ fn pair_is_left_out(rt: HostRuntime) -> Result<(), Fail> {
     goes(&rt, rt.alloc(), 65_536, LEFT_OUT)
 }
 
-/// The reply to the exists request before that to getEphemerals, which was asked first.
+/// The reply to the exists request before that to the one that is left out, which was asked first.
 const BEFORE_ITS_TURN: &str = "\
-C 0000000e0000000100000067000000022f61 = Ok(Passed { used: 18, went: Asked(Turn { xid: 1, number: 103, frame: 1 }) })
+C 0000000e000000010000270f000000022f61 = Ok(Passed { used: 18, went: Asked(Turn { xid: 1, number: 9999, frame: 1 }) })
 C 0000000f0000000200000003000000022f6101 = Ok(Passed { used: 19, went: Message })
 S 00000010000000020000000000000005ffffff9b = Err(Fault { side: Server, frame: 1, offset: 61, place: 0, reason: XidOrder { expected: 1, got: 2 } })
 C 00 = Err(Fault { side: Server, frame: 1, offset: 61, place: 0, reason: XidOrder { expected: 1, got: 2 } })";
 
-/// The reply to getEphemerals before that to the exists request, which was asked first.
+/// The reply to the one that is left out before that to the exists request, which was asked first.
 const BEFORE_ANOTHERS: &str = "\
 C 0000000f0000000100000003000000022f6101 = Ok(Passed { used: 19, went: Message })
-C 0000000e0000000200000067000000022f61 = Ok(Passed { used: 18, went: Asked(Turn { xid: 2, number: 103, frame: 2 }) })
+C 0000000e000000020000270f000000022f61 = Ok(Passed { used: 18, went: Asked(Turn { xid: 2, number: 9999, frame: 2 }) })
 S 000000140000000200000000000000050000000000000000 = Err(Fault { side: Server, frame: 1, offset: 65, place: 0, reason: XidOrder { expected: 1, got: 2 } })";
 
 /// No request waits.
@@ -113,7 +113,7 @@ fn replies_keep_their_turns(rt: HostRuntime) -> Result<(), Fail> {
 
 /// An exists request without its boolean, after a request that is left out: its frame and offset are the stream's.
 const SHORT: &str = "\
-C 0000000e0000000100000067000000022f61 = Ok(Passed { used: 18, went: Asked(Turn { xid: 1, number: 103, frame: 1 }) })
+C 0000000e000000010000270f000000022f61 = Ok(Passed { used: 18, went: Asked(Turn { xid: 1, number: 9999, frame: 1 }) })
 C 0000000e0000000200000003000000022f61 = Err(Fault { side: Client, frame: 2, offset: 85, place: 14, reason: Short })";
 
 #[test]
@@ -123,9 +123,9 @@ fn fault_is_at_the_streams_frame(rt: HostRuntime) -> Result<(), Fail> {
 
 /// A request that is left out takes the room of one.
 const FULL: &str = "\
-C 0000000e0000000100000067000000022f61 = Ok(Passed { used: 18, went: Asked(Turn { xid: 1, number: 103, frame: 1 }) }) waiting 1
+C 0000000e000000010000270f000000022f61 = Ok(Passed { used: 18, went: Asked(Turn { xid: 1, number: 9999, frame: 1 }) }) waiting 1
 C 0000000f0000000200000003000000022f6101 = Ok(Passed { used: 0, went: Full }) waiting 1 out (false, false)
-S 000000140000000100000000000000050000000000000000 = Ok(Passed { used: 24, went: Answered(Turn { xid: 1, number: 103, frame: 1 }) }) waiting 0
+S 000000140000000100000000000000050000000000000000 = Ok(Passed { used: 24, went: Answered(Turn { xid: 1, number: 9999, frame: 1 }) }) waiting 0
 C 0000000f0000000200000003000000022f6101 = Ok(Passed { used: 19, went: Message }) waiting 1";
 
 #[test]
@@ -137,12 +137,12 @@ fn full_is_no_fault(rt: HostRuntime) -> Result<(), Fail> {
 /// unanswered too.
 const ENDS: &str = "\
 C 0000000e00000001 = Ok(Passed { used: 8, went: Within }) waiting 0 out (false, false) ends Cut { side: Client, frame: 1, got: 8 }
-C 00000067000000022f61 = Ok(Passed { used: 10, went: Asked(Turn { xid: 1, number: 103, frame: 1 }) }) waiting 1 out (true, false) ends Whole { unanswered: 1 }
+C 0000270f000000022f61 = Ok(Passed { used: 10, went: Asked(Turn { xid: 1, number: 9999, frame: 1 }) }) waiting 1 out (true, false) ends Whole { unanswered: 1 }
 C 0000000f0000000200000003000000022f6101 = Ok(Passed { used: 19, went: Message }) waiting 2 out (false, false) ends Whole { unanswered: 2 }
 S 00000014 = Ok(Passed { used: 4, went: Within }) waiting 2 out (false, false) ends Cut { side: Server, frame: 1, got: 4 }
 C 00 = Ok(Passed { used: 1, went: Within }) waiting 2 out (false, false) ends Cut { side: Client, frame: 3, got: 1 }
 C 000008fffffffe0000000b = Ok(Passed { used: 11, went: Message }) waiting 3 out (false, false) ends Cut { side: Server, frame: 1, got: 4 }
-S 0000000100000000000000050000000000000000 = Ok(Passed { used: 20, went: Answered(Turn { xid: 1, number: 103, frame: 1 }) }) waiting 2 out (false, true) ends Whole { unanswered: 2 }
+S 0000000100000000000000050000000000000000 = Ok(Passed { used: 20, went: Answered(Turn { xid: 1, number: 9999, frame: 1 }) }) waiting 2 out (false, true) ends Whole { unanswered: 2 }
 S 00000010000000070000000000000005ffffff9b = Err(Fault { side: Server, frame: 2, offset: 85, place: 0, reason: XidOrder { expected: 2, got: 7 } }) waiting 2 out (false, false) ends Refused(Fault { side: Server, frame: 2, offset: 85, place: 0, reason: XidOrder { expected: 2, got: 7 } })";
 
 #[test]
@@ -150,22 +150,22 @@ fn ending_counts_what_is_left_out(rt: HostRuntime) -> Result<(), Fail> {
     goes(&rt, rt.alloc(), 65_536, ENDS)
 }
 
-/// setWatches2 of ZooKeeper 3.6 (105) twice, with a setWatches between them, and an exists request: each lane has its own
-/// order.
+/// A request that no profile has (9998) under -8, twice, with a setWatches between them, and an exists request: each lane
+/// has its own order.
 const WATCHES: &str = "\
-C 00000024fffffff80000006900000000000000050000000000000000000000000000000000000000 = Ok(Passed { used: 40, went: Asked(Turn { xid: -8, number: 105, frame: 1 }) }) waiting 1 out (true, false)
+C 00000024fffffff80000270e00000000000000050000000000000000000000000000000000000000 = Ok(Passed { used: 40, went: Asked(Turn { xid: -8, number: 9998, frame: 1 }) }) waiting 1 out (true, false)
 C 0000000f0000000100000003000000022f6101 = Ok(Passed { used: 19, went: Message }) waiting 2 out (false, false)
 C 0000001cfffffff8000000650000000000000005000000000000000000000000 = Ok(Passed { used: 32, went: Message }) waiting 3 out (false, false)
-C 00000024fffffff80000006900000000000000050000000000000000000000000000000000000000 = Ok(Passed { used: 40, went: Asked(Turn { xid: -8, number: 105, frame: 4 }) }) waiting 4 out (true, false)
+C 00000024fffffff80000270e00000000000000050000000000000000000000000000000000000000 = Ok(Passed { used: 40, went: Asked(Turn { xid: -8, number: 9998, frame: 4 }) }) waiting 4 out (true, false)
 S 00000010000000010000000000000005ffffff9b = Ok(Passed { used: 20, went: Message }) waiting 3 out (true, false)
-S 00000010fffffff8000000000000000500000000 = Ok(Passed { used: 20, went: Answered(Turn { xid: -8, number: 105, frame: 1 }) }) waiting 2 out (true, true)
+S 00000010fffffff8000000000000000500000000 = Ok(Passed { used: 20, went: Answered(Turn { xid: -8, number: 9998, frame: 1 }) }) waiting 2 out (true, true)
 S 00000010fffffff8000000000000000500000000 = Ok(Passed { used: 20, went: Message }) waiting 1 out (true, false)
-S 00000010fffffff8000000000000000500000000 = Ok(Passed { used: 20, went: Answered(Turn { xid: -8, number: 105, frame: 4 }) }) waiting 0 out (true, true) ends Whole { unanswered: 0 }
+S 00000010fffffff8000000000000000500000000 = Ok(Passed { used: 20, went: Answered(Turn { xid: -8, number: 9998, frame: 4 }) }) waiting 0 out (true, true) ends Whole { unanswered: 0 }
 S 00000010fffffff8000000000000000500000000 = Err(Fault { side: Server, frame: 5, offset: 141, place: 0, reason: Unasked })";
 
 /// An operation that the profile lacks, under a ping's xid.
 const LACKING_PING: &str = "\
-C 00000008fffffffe00000069 = Err(Fault { side: Client, frame: 1, offset: 61, place: 4, reason: UnknownOp })";
+C 00000008fffffffe0000270e = Err(Fault { side: Client, frame: 1, offset: 61, place: 4, reason: UnknownOp })";
 
 #[test]
 fn lanes_keep_their_own_turns(rt: HostRuntime) -> Result<(), Fail> {
@@ -178,14 +178,14 @@ fn lanes_keep_their_own_turns(rt: HostRuntime) -> Result<(), Fail> {
 /// Room for a weight of 3: a multi of two checks weighs 3, all else 1. A frame that is malformed is refused for its own
 /// reason.
 const WEIGHED: &str = "\
-C 0000000e0000000100000067000000022f61 = Ok(Passed { used: 18, went: Asked(Turn { xid: 1, number: 103, frame: 1 }) }) waiting 1
+C 0000000e000000010000270f000000022f61 = Ok(Passed { used: 18, went: Asked(Turn { xid: 1, number: 9999, frame: 1 }) }) waiting 1
 C 00000037000000020000000e0000000d00ffffffff000000022f61000000000000000d00ffffffff000000022f6100000000ffffffff01ffffffff = Ok(Passed { used: 0, went: Full }) waiting 1 out (false, false)
-S 000000140000000100000000000000050000000000000000 = Ok(Passed { used: 24, went: Answered(Turn { xid: 1, number: 103, frame: 1 }) }) waiting 0
+S 000000140000000100000000000000050000000000000000 = Ok(Passed { used: 24, went: Answered(Turn { xid: 1, number: 9999, frame: 1 }) }) waiting 0
 C 00000037000000020000000e0000000d00ffffffff000000022f61000000000000000d00ffffffff000000022f6100000000ffffffff01ffffffff = Ok(Passed { used: 59, went: Message }) waiting 3
 C 00000008fffffffe0000000b = Ok(Passed { used: 0, went: Full }) waiting 3
 C 0000001cfffffff8000000650000000000000005000000000000000000000000 = Ok(Passed { used: 0, went: Full }) waiting 3
 C 00000015fffffffc0000006400000000000000016100000000 = Ok(Passed { used: 0, went: Full }) waiting 3
-C 00000024fffffff80000006900000000000000050000000000000000000000000000000000000000 = Ok(Passed { used: 0, went: Full }) waiting 3
+C 00000024fffffff80000270e00000000000000050000000000000000000000000000000000000000 = Ok(Passed { used: 0, went: Full }) waiting 3
 C 0000000e0000000300000003000000022f61 = Err(Fault { side: Client, frame: 3, offset: 144, place: 14, reason: Short })";
 
 /// A multi that alone weighs more than may wait is never taken.
@@ -200,12 +200,12 @@ fn full_is_weighed_as_the_talk_weighs(rt: HostRuntime) -> Result<(), Fail> {
 }
 
 /// The number of the client's frame that the server's newest frame answers, after each of these frames. The client's are
-/// getEphemerals (1), exists (2), a ping (3), setWatches2 (4), setWatches (5), an auth (6), and exists again (7, 8).
+/// 9999 (1), exists (2), a ping (3), 9998 under -8 (4), setWatches (5), an auth (6), and exists again (7, 8).
 const ANSWERS: &str = "\
-C 0000000e0000000100000067000000022f61 = Some(0)
+C 0000000e000000010000270f000000022f61 = Some(0)
 C 0000000f0000000200000003000000022f6101 = Some(0)
 C 00000008fffffffe0000000b = Some(0)
-C 00000024fffffff80000006900000000000000050000000000000000000000000000000000000000 = Some(0)
+C 00000024fffffff80000270e00000000000000050000000000000000000000000000000000000000 = Some(0)
 C 0000001cfffffff8000000650000000000000005000000000000000000000000 = Some(0)
 C 0000001dfffffffc000000640000000000000006646967657374 = Some(0)
 C 00000003613a62 = Some(0)
@@ -268,11 +268,11 @@ fn replies_answer_frames(rt: HostRuntime) -> Result<(), Fail> {
     answered
 }
 
-/// Seen late are exists under xid 7, getEphemerals (103) under 8 and a ping. What was asked before are 5, 6 and pings; an
+/// Seen late are exists under xid 7, 9999 under 8 and a ping. What was asked before are 5, 6 and pings; an
 /// event answers nothing. The first reply to what is seen is the last by whose xid another can be told.
 const LATE: &str = "\
 C 0000000f0000000700000003000000022f6101 = Ok(Passed { used: 19, went: Message }) waiting 1 out (false, false)
-C 0000000e0000000800000067000000022f61 = Ok(Passed { used: 18, went: Asked(Turn { xid: 8, number: 103, frame: 2 }) }) waiting 2 out (true, false)
+C 0000000e000000080000270f000000022f61 = Ok(Passed { used: 18, went: Asked(Turn { xid: 8, number: 9999, frame: 2 }) }) waiting 2 out (true, false)
 S 00000010000000050000000000000005ffffff9b = Ok(Passed { used: 20, went: Unseen { xid: 5, zxid: 5, err: -101 } }) waiting 2 out (true, true) ends Whole { unanswered: 2 }
 S 0000001effffffffffffffffffffffff000000000000000300000003000000022f61 = Ok(Passed { used: 34, went: Message }) waiting 2 out (true, false)
 S 00000010fffffffe000000000000000500000000 = Ok(Passed { used: 20, went: Unseen { xid: -2, zxid: 5, err: 0 } }) waiting 2 out (true, true)
@@ -281,7 +281,7 @@ S 00000010fffffffe000000000000000500000000 = Ok(Passed { used: 20, went: Message
 S 00000010fffffffe000000000000000500000000 = Ok(Passed { used: 20, went: Unseen { xid: -2, zxid: 5, err: 0 } }) waiting 2 out (false, true)
 S 000000140000000600000001000000060000000000000000 = Ok(Passed { used: 24, went: Unseen { xid: 6, zxid: 4294967302, err: 0 } }) waiting 2 out (false, true)
 S 00000010000000070000000000000005ffffff9b = Ok(Passed { used: 20, went: Message }) waiting 1 out (false, false)
-S 000000140000000800000000000000070000000000000000 = Ok(Passed { used: 24, went: Answered(Turn { xid: 8, number: 103, frame: 2 }) }) waiting 0 out (false, true)
+S 000000140000000800000000000000070000000000000000 = Ok(Passed { used: 24, went: Answered(Turn { xid: 8, number: 9999, frame: 2 }) }) waiting 0 out (false, true)
 S 00000010000000060000000000000005ffffff9b = Err(Fault { side: Server, frame: 9, offset: 226, place: 0, reason: Unasked }) waiting 0";
 
 /// A reply to what is seen, before its turn; also to one that is left out.
@@ -291,7 +291,7 @@ C 0000000f0000000800000003000000022f6101 = Ok(Passed { used: 19, went: Message }
 S 00000010000000080000000000000005ffffff9b = Err(Fault { side: Server, frame: 1, offset: 44, place: 0, reason: XidOrder { expected: 7, got: 8 } }) waiting 2";
 
 const LATE_BEFORE_ANOTHERS: &str = "\
-C 0000000e0000000700000067000000022f61 = Ok(Passed { used: 18, went: Asked(Turn { xid: 7, number: 103, frame: 1 }) })
+C 0000000e000000070000270f000000022f61 = Ok(Passed { used: 18, went: Asked(Turn { xid: 7, number: 9999, frame: 1 }) })
 C 0000000f0000000800000003000000022f6101 = Ok(Passed { used: 19, went: Message })
 S 00000010000000080000000000000005ffffff9b = Err(Fault { side: Server, frame: 1, offset: 44, place: 0, reason: XidOrder { expected: 7, got: 8 } }) waiting 2";
 
