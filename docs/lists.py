@@ -105,8 +105,8 @@ def plugin_profiles(_):
     rows = []
     for release, number in source.profiles().items():
         more = [each.name for each in source.operations() if each.release == release and release != "3.4"]
-        told = f" ({', '.join(more)})" if more else ""
-        rows.append(f'{{"{release}", "ZooKeeper {release}{told}", ZK_PROFILE_{number}}},')
+        names = f" ({', '.join(more)})" if more else ""
+        rows.append(f'{{"{release}", "ZooKeeper {release}{names}", ZK_PROFILE_{number}}},')
     return ["static const enum_val_t profiles[] = {", *wrapped([*rows, "{NULL, NULL, 0},"], 120), "};"]
 
 

@@ -89,8 +89,9 @@ def numbers(kind):
 
 def releases():
     """The first release whose profile has the operation of each variant."""
-    return some([(variant, f"{major}.{minor}") for major, minor, rows in re.findall(
-        r"\bV(\d)(\d):([^:;]*)", table("op_rows")) for variant in re.findall(r"(\w+) -?\d", rows)], "profiles of operations")
+    groups = re.findall(r"\bV(\d)(\d):([^:;]*)", table("op_rows"))
+    return some([(variant, f"{major}.{minor}") for major, minor, rows in groups
+                 for variant in re.findall(r"(\w+) -?\d", rows)], "profiles of operations")
 
 
 def profiles():

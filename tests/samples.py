@@ -32,11 +32,11 @@ def messages():
     for row in formats.table("Op"):
         if row.name != "multi":
             xid = XIDS.get(row.number, 1)
-            header, told = f"{xid % 2**32:08x}", f"xid {xid} operation {row.number}"
+            header, shown = f"{xid % 2**32:08x}", f"xid {xid} operation {row.number}"
             digits, rows = sample(formats.items(row.request), 8)
-            yield f"request {PROFILE}", f"{header} {row.number % 2**32:08x} {digits}", f"REQUEST {told}", rows
+            yield f"request {PROFILE}", f"{header} {row.number % 2**32:08x} {digits}", f"REQUEST {shown}", rows
             digits, rows = sample(formats.items(row.reply), 16)
-            yield f"reply {row.number}", f"{header} {5:016x} {0:08x} {digits}", f"REPLY {told} zxid 5", rows
+            yield f"reply {row.number}", f"{header} {5:016x} {0:08x} {digits}", f"REPLY {shown} zxid 5", rows
 
 
 OPERATIONS = tuple(messages())
