@@ -82,8 +82,9 @@ impl Ends for bool {
 }
 
 impl Ends for Text {
+    #[inline(always)]
     fn find<V: Verdict>(payload: &[u8], place: usize) -> Result<usize, V> {
-        TextRef::find(payload, place)
+        V::behind(text_at(payload, place))
     }
 }
 
@@ -256,7 +257,7 @@ impl<'a> Ends for TextRef<'a> {
         ensures exact { Judges V.tells result (items_at ustring.layout payload.now place) }
         ensures within { IfOk result (λ end. end ≤ length payload.now) }
     {
-        V::behind(text_at(payload, place))
+        Text::find(payload, place)
     }
 
     fn find_all<V: Verdict>(payload: &[u8], count: usize, place: usize) -> Result<usize, V>

@@ -4,7 +4,7 @@ use Rattle.zk_jute.specs.Reading.{text_at}
 use Rattle.std.proofs.Common.{◌∷◌, []}
 use Rattle.std.specs.Prelude.{option_copied}
 use Rattle.zk_jute.proofs.Judged.{one_judged}
-use Rattle.zk_jute.proofs.ends.TextRefEnds.find.Goals as goal
+use Rattle.zk_jute.proofs.ends.TextEnds.find.Goals as goal
 
 pub returns-clause-exact : goal.returns-clause-exact
 returns-clause-exact g c =
