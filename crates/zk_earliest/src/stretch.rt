@@ -7,10 +7,10 @@ ghost use Rattle.zk_earliest.specs.Earliest.{Spells, IsEarliest};
 ghost use Rattle.zk_earliest.specs.Stops.{Reaches, then_among};
 
 use crate::sizes::Sizes;
-use zk_jute::Form;
+use zk_jute::Ends;
 
 /// A kind of value of which the first impossible byte can be found.
-pub(crate) trait Stretch: Form {
+pub(crate) trait Stretch: Ends {
     /// The lengths of its values.
     ghost sizes: { Sizes };
 

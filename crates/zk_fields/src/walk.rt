@@ -14,7 +14,7 @@ use crate::list::{show_count, show_null};
 use crate::name::*;
 use crate::show::Show;
 use std::marker::PhantomData;
-use zk_jute::{BlobRef, Element, Ends, Form, ItemFault, Reason, Series, TextRef, View, int_at};
+use zk_jute::{BlobRef, Element, Ends, ItemFault, Reason, Series, TextRef, View, int_at};
 use zk_records::{AclRef, IdRef, Stat, borrowed, fields_of};
 
 /// What the fields came to, and the place after them; `None` if the next item isn't whole there.
@@ -49,7 +49,7 @@ pub(crate) trait Walk<'a>: Sized {
 }
 
 /// One item.
-pub(crate) trait Item: Form + Show {
+pub(crate) trait Item: Ends + Show {
     ghost alone: { (name : ℕ) (x : Self) → Self.entries name x ≡ named name (Self.wired.items x) };
 }
 
@@ -74,7 +74,7 @@ impl<'a> Item for BlobRef<'a> {
 }
 
 /// Writes the field of one item, if it is whole there.
-fn walk_item<'a, T: Item + Ends + View<'a>>(
+fn walk_item<'a, T: Item + View<'a>>(
     payload: &'a [u8],
     place: usize,
     name: u16,

@@ -7,7 +7,6 @@ ghost use Rattle.zk_jute.specs.Told.{StandsAt, HasSureFault};
 ghost use Rattle.zk_jute.specs.Standing.{OneStands};
 ghost use Rattle.zk_jute.specs.Values.{text_items, blob_items, list_items};
 
-use crate::ends::Ends;
 use crate::fault::ItemFault;
 use crate::series::TextList;
 use crate::value::{BlobRef, TextRef};
@@ -19,10 +18,7 @@ use crate::view::View;
 ///
 /// The first fault from the left, its place counted from the beginning of `src`.
 #[inline(always)]
-pub fn read_ref<'a, T: View<'a> + Ends>(
-    src: &'a [u8],
-    place: usize,
-) -> Result<(T, usize), ItemFault>
+pub fn read_ref<'a, T: View<'a>>(src: &'a [u8], place: usize) -> Result<(T, usize), ItemFault>
     requires { place ≤ length src.now }
     ensures found { IfOk result (λ x. IsValueOf T.wired.layout (T.wired.items x.0) × StandsAt (T.wired.items x.0) src.now place x.1) }
     ensures fault { IfErr result (HasSureFault (IsValueOf T.wired.layout) src.now place) }
@@ -34,7 +30,7 @@ pub fn read_ref<'a, T: View<'a> + Ends>(
 
 /// The place after the value at `place` of `src`; else the first fault from the left, its place counted from the
 /// beginning of `src`. Decides as `Wire::read` does, and allocates nothing: `T` is a borrowed type.
-pub fn scan<'a, T: View<'a> + Ends>(src: &'a [u8], place: usize) -> Result<usize, ItemFault>
+pub fn scan<'a, T: View<'a>>(src: &'a [u8], place: usize) -> Result<usize, ItemFault>
     requires { place ≤ length src.now }
     ensures found { IfOk result (λ end. (x : T) × HaveBytes (T.wired.items x) × StandsAt (T.wired.items x) src.now place end) }
     ensures fault { IfErr result (HasSureFault (IsValueOf T.wired.layout) src.now place) }

@@ -6,10 +6,9 @@ ghost use Rattle.zk_jute.specs.Told.{HasSureFault};
 ghost use Rattle.zk_jute.specs.Verdict.{Says, Judges, IsValueAt};
 ghost use Rattle.zk_jute.specs.Shown.{Stretch};
 ghost use Rattle.zk_jute.specs.Values.{text_items};
-ghost use Rattle.zk_jute.specs.Wired.{ustring, buffer, vector};
+ghost use Rattle.zk_jute.specs.Wired.{Wired, int, long, boolean, ustring, buffer, vector, ◌and◌};
 ghost use Rattle.zk_jute.specs.Ends.{IsUtf8Between, TextsIfUtf8, IsRunOfLowSize};
 
-use crate::form::Form;
 use crate::number::{bool_at, int_at, long_at};
 use crate::run::{run_at, size_at, text_at};
 use crate::series::{Element, Series};
@@ -20,8 +19,11 @@ use crate::verdict::Verdict;
 /// How many bytes of a list's texts get one look: about as many, in whole texts.
 const LOOK: usize = 1024;
 
-/// A form of values whose ends are found without making the values.
-pub trait Ends: Form {
+/// A type whose values are items, be their texts, blobs and lists owned or borrowed. Their ends are found without making them.
+pub trait Ends: Sized + Drop {
+    /// Its layout, the items of each value, and their laws.
+    ghost wired: { Wired Self };
+
     /// The step of `end` that each impl writes: the fields, one after the other.
     fn find<V: Verdict>(payload: &[u8], place: usize) -> Result<usize, V>
         requires { place ≤ length payload.now }
@@ -61,6 +63,8 @@ pub trait Ends: Form {
 }
 
 impl Ends for i32 {
+    ghost wired = { int };
+
     #[inline(always)]
     fn find<V: Verdict>(payload: &[u8], place: usize) -> Result<usize, V> {
         V::behind(int_at(payload, place))
@@ -68,6 +72,8 @@ impl Ends for i32 {
 }
 
 impl Ends for i64 {
+    ghost wired = { long };
+
     #[inline(always)]
     fn find<V: Verdict>(payload: &[u8], place: usize) -> Result<usize, V> {
         V::behind(long_at(payload, place))
@@ -75,6 +81,8 @@ impl Ends for i64 {
 }
 
 impl Ends for bool {
+    ghost wired = { boolean };
+
     #[inline(always)]
     fn find<V: Verdict>(payload: &[u8], place: usize) -> Result<usize, V> {
         V::behind(bool_at(payload, place))
@@ -82,6 +90,8 @@ impl Ends for bool {
 }
 
 impl Ends for Text {
+    ghost wired = { ustring };
+
     #[inline(always)]
     fn find<V: Verdict>(payload: &[u8], place: usize) -> Result<usize, V> {
         V::behind(text_at(payload, place))
@@ -89,6 +99,8 @@ impl Ends for Text {
 }
 
 impl<'a> Ends for BlobRef<'a> {
+    ghost wired = { buffer };
+
     fn find<V: Verdict>(payload: &[u8], place: usize) -> Result<usize, V>
         requires { place ≤ length payload.now }
         ensures exact { Judges V.tells result (items_at buffer.layout payload.now place) }
@@ -99,12 +111,16 @@ impl<'a> Ends for BlobRef<'a> {
 }
 
 impl Ends for Blob {
+    ghost wired = { buffer };
+
     fn find<V: Verdict>(payload: &[u8], place: usize) -> Result<usize, V> {
         BlobRef::find(payload, place)
     }
 }
 
 impl<A: Ends, B: Ends> Ends for (A, B) {
+    ghost wired = { A.wired and B.wired };
+
     fn find<V: Verdict>(payload: &[u8], place: usize) -> Result<usize, V> {
         let middle = A::find::<V>(payload, place)?;
         B::find::<V>(payload, middle)
@@ -252,6 +268,8 @@ fn all_texts_end(payload: &[u8], count: usize, place: usize) -> Option<usize>
 }
 
 impl<'a> Ends for TextRef<'a> {
+    ghost wired = { ustring };
+
     fn find<V: Verdict>(payload: &[u8], place: usize) -> Result<usize, V>
         requires { place ≤ length payload.now }
         ensures exact { Judges V.tells result (items_at ustring.layout payload.now place) }
@@ -292,7 +310,9 @@ fn list_end<T: Ends, V: Verdict>(payload: &[u8], place: usize) -> Result<usize, 
     }
 }
 
-impl<'a, R: Element + Ends> Ends for Series<'a, R> {
+impl<'a, R: Element> Ends for Series<'a, R> {
+    ghost wired = { vector R.wired };
+
     fn find<V: Verdict>(payload: &[u8], place: usize) -> Result<usize, V>
         requires { place ≤ length payload.now }
         ensures exact { Judges V.tells result (items_at (vector R.wired).layout payload.now place) }
@@ -303,6 +323,8 @@ impl<'a, R: Element + Ends> Ends for Series<'a, R> {
 }
 
 impl<T: Ends> Ends for List<T> {
+    ghost wired = { vector T.wired };
+
     fn find<V: Verdict>(payload: &[u8], place: usize) -> Result<usize, V> {
         list_end::<T, V>(payload, place)
     }

@@ -8,6 +8,7 @@
 //!   is what it returns of a fault: an `ItemFault`, or `Undecided`, which costs nothing.
 //! - `View::view` borrows the texts, blobs and lists of a value from a payload where the value is known to be.
 //! - `Wire::read` judges a value and copies it; `read_ref` judges one and borrows it.
+//! - A `Record` is judged, borrowed and copied as the nested pairs of its fields.
 //! - `Spell::write` writes a value; `Spell::size_within` counts its bytes.
 //! - A payload that is refused has an `ItemFault`: the first byte that no value has there, and the reason.
 //!
@@ -30,6 +31,10 @@
 //! the contracts. The steps promise what reading as a function on lists gives. `end` and `read` promise what is in the
 //! bytes (found, only, fault), since a person relies on that.
 //!
+//! **A record is its fields in order.** A `Record` says which nested pairs they are, its `Row`, and is made of one. It is
+//! judged, borrowed and copied as its row is, by one text for all records. It is written from references to its fields,
+//! since a row of references has a lifetime that `Record` can't name; `Written` says that the items are those of the row.
+//!
 //! **What is known to be in a payload is not judged again.** `Ends` alone judges, and all types, owned or borrowed. A
 //! view and a copy have no fault; their condition is that the value is there. So the bytes that are left for an int, a
 //! long or a length are not counted, nor the characters of a text looked at. What a frame shows, the iterator over a
@@ -39,7 +44,7 @@
 //! there is its invariant, so `count` is exact. `Sequence` is that list for all: for the elements of a vector that isn't
 //! null (`Series`), and for a multi's parts and its results, whose layouts differ.
 //!
-//! **What is known of a type is one ghost member**, the `wired` of its `Form`: its layout, its items, that these are of
+//! **What is known of a type is one ghost member**, the `wired` of its `Ends`: its layout, its items, that these are of
 //! the layout, and that values of equal items are equal. All else is proved once, over layouts.
 //!
 //! **A value is written once, to any output.** `put` gives its bytes to an `Output`: a `Vec`, or a count. So `write`
@@ -52,13 +57,13 @@ mod ascii;
 mod at;
 mod ends;
 mod fault;
-mod form;
 mod left;
 mod list;
 mod number;
 mod output;
 mod pair;
 mod payload;
+mod record;
 mod run;
 mod sequence;
 mod series;
@@ -72,11 +77,11 @@ mod wire;
 pub use at::{known_at, read_ref, scan};
 pub use ends::Ends;
 pub use fault::{ItemFault, Reason, reason_name};
-pub use form::Form;
 pub use left::{Left, Lent};
 pub use number::{bool_at, int_at, long_at};
 pub use output::Output;
 pub use payload::{known_flagged, read_flagged, scan_flagged};
+pub use record::{Record, Written};
 pub use sequence::{KnownIn, Member, Members, Sequence};
 pub use series::{Element, Series, TextList, known_list};
 pub use value::{

@@ -11,7 +11,6 @@ ghost use Rattle.zk_jute.specs.Flagged.{flag_items, flagged, IsFlaggedFault, One
 use crate::at::read_ref;
 use crate::ends::Ends;
 use crate::fault::{ItemFault, Reason};
-use crate::form::Form;
 use crate::output::Output;
 use crate::view::View;
 use crate::wire::{Spell, Wire};
@@ -30,7 +29,7 @@ impl Spell for Option<bool> {
 
 /// The value that was read at the beginning of `payload`, and the boolean after it, if there is one.
 #[tactic(auto, using(crate::proofs::Flagged::refusals))]
-fn with_flag<T: Form>(
+fn with_flag<T: Ends>(
     payload: &[u8],
     read: Result<(T, usize), ItemFault>,
 ) -> Result<(T, Option<bool>), ItemFault>
@@ -70,9 +69,7 @@ pub fn read_flagged<T: Wire>(alloc: Global, payload: &[u8]) -> Result<(T, Option
 }
 
 /// The value that `payload` is, and the boolean after it, borrowed; errors as those of `read_flagged` but `NoMemory`.
-pub fn scan_flagged<'a, T: View<'a> + Ends>(
-    payload: &'a [u8],
-) -> Result<(T, Option<bool>), ItemFault>
+pub fn scan_flagged<'a, T: View<'a>>(payload: &'a [u8]) -> Result<(T, Option<bool>), ItemFault>
     // What is read is the whole payload.
     ensures found { IfOk result (λ x. HaveBytes (flagged T.wired x.0 x.1) × (payload.now ≡ bytes_of (flagged T.wired x.0 x.1))) }
     // What has the form is read.

@@ -9,14 +9,14 @@ ghost use Rattle.zk_jute.specs.Values.{text_items, list_items};
 ghost use Rattle.zk_jute.specs.Shown.{ListIsThere, IsNull, count_of, elements_of, list_at, text_value, text_is_value};
 
 use crate::at::known_at;
-use crate::form::Form;
+use crate::ends::Ends;
 use crate::run::known_size;
 use crate::sequence::{KnownIn, Member, Members, Sequence};
 use crate::value::{Nullable, TextRef};
 use crate::view::View;
 
-/// An element of a borrowed list: a member of one layout, its `Form`'s.
-pub trait Element: Form + Member {
+/// An element of a borrowed list: a member that has one layout, that of its `Ends`.
+pub trait Element: Ends + Member {
     ghost is_value: { (src : List ℕ) (place : ℕ) → items_at Self.wired.layout src place ≡ read_map Self.wired.items (Self.value src place) };
 
     ghost is_wired: { Self.items ≡ Self.wired.items };

@@ -2,13 +2,13 @@
 ghost use Rattle.std.specs.Prelude.{◌≡◌, ◌≤◌, length, Ok, IsOk};
 ghost use Rattle.zk_jute.specs.Reading.{items_at};
 
-use crate::form::Form;
+use crate::ends::Ends;
 use crate::number::{bool_of, int_of, long_of};
 use crate::run::{known_run, known_text};
 use crate::value::{BlobRef, BytesRef, CharsRef, TextRef};
 
 /// A value that is borrowed from a payload. What is known to be there is not judged again.
-pub trait View<'a>: Form {
+pub trait View<'a>: Ends {
     /// The value at `place` of `src`, and the place after it: the fields, one after the other.
     fn view(src: &'a [u8], place: usize) -> (Self, usize)
         requires place { place ≤ length src.now }

@@ -3,6 +3,7 @@ pub mod Made
 pub mod Codes
 pub mod Names
 pub mod Records
+pub mod Ordered
 pub mod Held
 pub mod Shown
 pub mod Owned

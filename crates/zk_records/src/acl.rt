@@ -7,12 +7,10 @@ ghost use Rattle.zk_records.specs.Held as held;
 ghost use Rattle.zk_records.specs.Records.{id, acl, id_of, acl_of};
 ghost use Rattle.zk_records.specs.Shown.{acl_value, acl_is_value};
 
-use crate::fields::{copied, ends, held, pairs, view};
+use crate::fields::{of, pairs};
 use crate::fields_of;
-use std::alloc::{AllocError, Global};
 use zk_jute::{
-    Element, Ends, Form, KnownIn, Member, Output, Series, Spell, Text, TextRef, Verdict, View,
-    Wire, known_at,
+    Element, Ends, KnownIn, Member, Output, Record, Series, Spell, Text, TextRef, Written, known_at,
 };
 
 /// Someone under a scheme of authentication: `Id`.
@@ -38,29 +36,20 @@ impl Spell for Id {
     }
 }
 
-impl<T: Form> Form for IdOf<T> {
-    ghost wired = { id_of T.wired };
+impl<T: Ends> Record for IdOf<T> {
+    type Row = (T, T);
+
+    ghost record = { id_of T.wired };
+
+    fn of(row: Self::Row) -> Self {
+        fields_of!(Id, of, row, IdOf)
+    }
+
+    ghost in_order = { refl };
 }
 
-impl<'a, T: View<'a>> View<'a> for IdOf<T> {
-    fn view(src: &'a [u8], place: usize) -> (Self, usize) {
-        fields_of!(Id, view, src, place, IdOf)
-    }
-}
-
-impl<T: Ends> Ends for IdOf<T> {
-    #[inline(always)]
-    fn find<V: Verdict>(payload: &[u8], place: usize) -> Result<usize, V> {
-        fields_of!(Id, ends, payload, place)
-    }
-}
-
-impl Wire for Id {
-    ghost written = { refl };
-
-    fn copied(alloc: Global, src: &[u8], place: usize) -> Result<(Self, usize), AllocError> {
-        fields_of!(Id, copied, alloc, src, place, IdOf)
-    }
+impl Written for Id {
+    ghost same = { refl };
 }
 
 /// Someone's rights: `ACL`.
@@ -86,29 +75,20 @@ impl Spell for Acl {
     }
 }
 
-impl<W: Form> Form for AclOf<W> {
-    ghost wired = { acl_of W.wired };
+impl<W: Ends> Record for AclOf<W> {
+    type Row = (i32, W);
+
+    ghost record = { acl_of W.wired };
+
+    fn of(row: Self::Row) -> Self {
+        fields_of!(Acl, of, row, AclOf)
+    }
+
+    ghost in_order = { refl };
 }
 
-impl<'a, W: View<'a>> View<'a> for AclOf<W> {
-    fn view(src: &'a [u8], place: usize) -> (Self, usize) {
-        fields_of!(Acl, view, src, place, AclOf)
-    }
-}
-
-impl<W: Ends> Ends for AclOf<W> {
-    #[inline(always)]
-    fn find<V: Verdict>(payload: &[u8], place: usize) -> Result<usize, V> {
-        fields_of!(Acl, ends, payload, place)
-    }
-}
-
-impl Wire for Acl {
-    ghost written = { refl };
-
-    fn copied(alloc: Global, src: &[u8], place: usize) -> Result<(Self, usize), AllocError> {
-        fields_of!(Acl, copied, alloc, src, place, AclOf)
-    }
+impl Written for Acl {
+    ghost same = { refl };
 }
 
 impl<'a> Member for AclRef<'a> {

@@ -6,10 +6,9 @@ ghost use Rattle.std.specs.Prelude.{◌≡◌, refl};
 ghost use Rattle.zk_records.specs.Records.{create_ask, delete_ask, set_data_ask, set_acl_ask, check_ask, create_ask_of, delete_ask_of, set_data_ask_of, set_acl_ask_of, check_ask_of};
 
 use crate::acl::{Acl, AclList};
-use crate::fields::{copied, ends, held, pairs, view};
+use crate::fields::{of, pairs};
 use crate::fields_of;
-use std::alloc::{AllocError, Global};
-use zk_jute::{Blob, BlobRef, Ends, Form, List, Output, Spell, Text, TextRef, Verdict, View, Wire};
+use zk_jute::{Blob, BlobRef, Ends, List, Output, Record, Spell, Text, TextRef, Written};
 
 /// Creates a node: `CreateRequest`.
 #[derive(Debug, Drop)]
@@ -38,30 +37,20 @@ impl Spell for CreateAsk {
     }
 }
 
-impl<T: Form, B: Form, A: Form> Form for CreateAskOf<T, B, A> {
-    ghost wired = { create_ask_of T.wired B.wired A.wired };
+impl<T: Ends, B: Ends, A: Ends> Record for CreateAskOf<T, B, A> {
+    type Row = (T, (B, (A, i32)));
+
+    ghost record = { create_ask_of T.wired B.wired A.wired };
+
+    fn of(row: Self::Row) -> Self {
+        fields_of!(CreateAsk, of, row, CreateAskOf)
+    }
+
+    ghost in_order = { refl };
 }
 
-impl<'a, T: View<'a>, B: View<'a>, A: View<'a>> View<'a> for CreateAskOf<T, B, A> {
-    #[inline(always)]
-    fn view(src: &'a [u8], place: usize) -> (Self, usize) {
-        fields_of!(CreateAsk, view, src, place, CreateAskOf)
-    }
-}
-
-impl<T: Ends, B: Ends, A: Ends> Ends for CreateAskOf<T, B, A> {
-    #[inline(always)]
-    fn find<V: Verdict>(payload: &[u8], place: usize) -> Result<usize, V> {
-        fields_of!(CreateAsk, ends, payload, place)
-    }
-}
-
-impl Wire for CreateAsk {
-    ghost written = { refl };
-
-    fn copied(alloc: Global, src: &[u8], place: usize) -> Result<(Self, usize), AllocError> {
-        fields_of!(CreateAsk, copied, alloc, src, place, CreateAskOf)
-    }
+impl Written for CreateAsk {
+    ghost same = { refl };
 }
 
 /// Deletes a node: `DeleteRequest`.
@@ -87,30 +76,20 @@ impl Spell for DeleteAsk {
     }
 }
 
-impl<T: Form> Form for DeleteAskOf<T> {
-    ghost wired = { delete_ask_of T.wired };
+impl<T: Ends> Record for DeleteAskOf<T> {
+    type Row = (T, i32);
+
+    ghost record = { delete_ask_of T.wired };
+
+    fn of(row: Self::Row) -> Self {
+        fields_of!(DeleteAsk, of, row, DeleteAskOf)
+    }
+
+    ghost in_order = { refl };
 }
 
-impl<'a, T: View<'a>> View<'a> for DeleteAskOf<T> {
-    #[inline(always)]
-    fn view(src: &'a [u8], place: usize) -> (Self, usize) {
-        fields_of!(DeleteAsk, view, src, place, DeleteAskOf)
-    }
-}
-
-impl<T: Ends> Ends for DeleteAskOf<T> {
-    #[inline(always)]
-    fn find<V: Verdict>(payload: &[u8], place: usize) -> Result<usize, V> {
-        fields_of!(DeleteAsk, ends, payload, place)
-    }
-}
-
-impl Wire for DeleteAsk {
-    ghost written = { refl };
-
-    fn copied(alloc: Global, src: &[u8], place: usize) -> Result<(Self, usize), AllocError> {
-        fields_of!(DeleteAsk, copied, alloc, src, place, DeleteAskOf)
-    }
+impl Written for DeleteAsk {
+    ghost same = { refl };
 }
 
 /// Sets a node's data: `SetDataRequest`.
@@ -138,30 +117,20 @@ impl Spell for SetDataAsk {
     }
 }
 
-impl<T: Form, B: Form> Form for SetDataAskOf<T, B> {
-    ghost wired = { set_data_ask_of T.wired B.wired };
+impl<T: Ends, B: Ends> Record for SetDataAskOf<T, B> {
+    type Row = (T, (B, i32));
+
+    ghost record = { set_data_ask_of T.wired B.wired };
+
+    fn of(row: Self::Row) -> Self {
+        fields_of!(SetDataAsk, of, row, SetDataAskOf)
+    }
+
+    ghost in_order = { refl };
 }
 
-impl<'a, T: View<'a>, B: View<'a>> View<'a> for SetDataAskOf<T, B> {
-    #[inline(always)]
-    fn view(src: &'a [u8], place: usize) -> (Self, usize) {
-        fields_of!(SetDataAsk, view, src, place, SetDataAskOf)
-    }
-}
-
-impl<T: Ends, B: Ends> Ends for SetDataAskOf<T, B> {
-    #[inline(always)]
-    fn find<V: Verdict>(payload: &[u8], place: usize) -> Result<usize, V> {
-        fields_of!(SetDataAsk, ends, payload, place)
-    }
-}
-
-impl Wire for SetDataAsk {
-    ghost written = { refl };
-
-    fn copied(alloc: Global, src: &[u8], place: usize) -> Result<(Self, usize), AllocError> {
-        fields_of!(SetDataAsk, copied, alloc, src, place, SetDataAskOf)
-    }
+impl Written for SetDataAsk {
+    ghost same = { refl };
 }
 
 /// Sets a node's access list: `SetACLRequest`.
@@ -189,30 +158,20 @@ impl Spell for SetAclAsk {
     }
 }
 
-impl<T: Form, A: Form> Form for SetAclAskOf<T, A> {
-    ghost wired = { set_acl_ask_of T.wired A.wired };
+impl<T: Ends, A: Ends> Record for SetAclAskOf<T, A> {
+    type Row = (T, (A, i32));
+
+    ghost record = { set_acl_ask_of T.wired A.wired };
+
+    fn of(row: Self::Row) -> Self {
+        fields_of!(SetAclAsk, of, row, SetAclAskOf)
+    }
+
+    ghost in_order = { refl };
 }
 
-impl<'a, T: View<'a>, A: View<'a>> View<'a> for SetAclAskOf<T, A> {
-    #[inline(always)]
-    fn view(src: &'a [u8], place: usize) -> (Self, usize) {
-        fields_of!(SetAclAsk, view, src, place, SetAclAskOf)
-    }
-}
-
-impl<T: Ends, A: Ends> Ends for SetAclAskOf<T, A> {
-    #[inline(always)]
-    fn find<V: Verdict>(payload: &[u8], place: usize) -> Result<usize, V> {
-        fields_of!(SetAclAsk, ends, payload, place)
-    }
-}
-
-impl Wire for SetAclAsk {
-    ghost written = { refl };
-
-    fn copied(alloc: Global, src: &[u8], place: usize) -> Result<(Self, usize), AllocError> {
-        fields_of!(SetAclAsk, copied, alloc, src, place, SetAclAskOf)
-    }
+impl Written for SetAclAsk {
+    ghost same = { refl };
 }
 
 /// Checks a node's version, within a multi: `CheckVersionRequest`.
@@ -238,28 +197,18 @@ impl Spell for CheckAsk {
     }
 }
 
-impl<T: Form> Form for CheckAskOf<T> {
-    ghost wired = { check_ask_of T.wired };
+impl<T: Ends> Record for CheckAskOf<T> {
+    type Row = (T, i32);
+
+    ghost record = { check_ask_of T.wired };
+
+    fn of(row: Self::Row) -> Self {
+        fields_of!(CheckAsk, of, row, CheckAskOf)
+    }
+
+    ghost in_order = { refl };
 }
 
-impl<'a, T: View<'a>> View<'a> for CheckAskOf<T> {
-    #[inline(always)]
-    fn view(src: &'a [u8], place: usize) -> (Self, usize) {
-        fields_of!(CheckAsk, view, src, place, CheckAskOf)
-    }
-}
-
-impl<T: Ends> Ends for CheckAskOf<T> {
-    #[inline(always)]
-    fn find<V: Verdict>(payload: &[u8], place: usize) -> Result<usize, V> {
-        fields_of!(CheckAsk, ends, payload, place)
-    }
-}
-
-impl Wire for CheckAsk {
-    ghost written = { refl };
-
-    fn copied(alloc: Global, src: &[u8], place: usize) -> Result<(Self, usize), AllocError> {
-        fields_of!(CheckAsk, copied, alloc, src, place, CheckAskOf)
-    }
+impl Written for CheckAsk {
+    ghost same = { refl };
 }

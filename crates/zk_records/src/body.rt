@@ -5,13 +5,10 @@ ghost use Rattle.std.specs.Prelude.{◌≡◌, refl};
 ghost use Rattle.zk_records.specs.Records.{data_body, acl_body, children_body, create_body, data_body_of, acl_body_of, children_body_of, create_body_of};
 
 use crate::acl::{Acl, AclList};
-use crate::fields::{copied, ends, held, pairs, view};
+use crate::fields::{of, pairs};
 use crate::fields_of;
 use crate::stat::Stat;
-use std::alloc::{AllocError, Global};
-use zk_jute::{
-    Blob, BlobRef, Ends, Form, List, Output, Spell, Text, TextList, TextRef, Verdict, View, Wire,
-};
+use zk_jute::{Blob, BlobRef, Ends, List, Output, Record, Spell, Text, TextList, TextRef, Written};
 
 /// A node's data, and its `Stat`: `GetDataResponse`.
 #[derive(Debug, Drop)]
@@ -36,30 +33,20 @@ impl Spell for DataBody {
     }
 }
 
-impl<B: Form> Form for DataBodyOf<B> {
-    ghost wired = { data_body_of B.wired };
+impl<B: Ends> Record for DataBodyOf<B> {
+    type Row = (B, Stat);
+
+    ghost record = { data_body_of B.wired };
+
+    fn of(row: Self::Row) -> Self {
+        fields_of!(DataBody, of, row, DataBodyOf)
+    }
+
+    ghost in_order = { refl };
 }
 
-impl<'a, B: View<'a>> View<'a> for DataBodyOf<B> {
-    #[inline(always)]
-    fn view(src: &'a [u8], place: usize) -> (Self, usize) {
-        fields_of!(DataBody, view, src, place, DataBodyOf)
-    }
-}
-
-impl<B: Ends> Ends for DataBodyOf<B> {
-    #[inline(always)]
-    fn find<V: Verdict>(payload: &[u8], place: usize) -> Result<usize, V> {
-        fields_of!(DataBody, ends, payload, place)
-    }
-}
-
-impl Wire for DataBody {
-    ghost written = { refl };
-
-    fn copied(alloc: Global, src: &[u8], place: usize) -> Result<(Self, usize), AllocError> {
-        fields_of!(DataBody, copied, alloc, src, place, DataBodyOf)
-    }
+impl Written for DataBody {
+    ghost same = { refl };
 }
 
 /// A node's access list, and its `Stat`: `GetACLResponse`.
@@ -85,30 +72,20 @@ impl Spell for AclBody {
     }
 }
 
-impl<A: Form> Form for AclBodyOf<A> {
-    ghost wired = { acl_body_of A.wired };
+impl<A: Ends> Record for AclBodyOf<A> {
+    type Row = (A, Stat);
+
+    ghost record = { acl_body_of A.wired };
+
+    fn of(row: Self::Row) -> Self {
+        fields_of!(AclBody, of, row, AclBodyOf)
+    }
+
+    ghost in_order = { refl };
 }
 
-impl<'a, A: View<'a>> View<'a> for AclBodyOf<A> {
-    #[inline(always)]
-    fn view(src: &'a [u8], place: usize) -> (Self, usize) {
-        fields_of!(AclBody, view, src, place, AclBodyOf)
-    }
-}
-
-impl<A: Ends> Ends for AclBodyOf<A> {
-    #[inline(always)]
-    fn find<V: Verdict>(payload: &[u8], place: usize) -> Result<usize, V> {
-        fields_of!(AclBody, ends, payload, place)
-    }
-}
-
-impl Wire for AclBody {
-    ghost written = { refl };
-
-    fn copied(alloc: Global, src: &[u8], place: usize) -> Result<(Self, usize), AllocError> {
-        fields_of!(AclBody, copied, alloc, src, place, AclBodyOf)
-    }
+impl Written for AclBody {
+    ghost same = { refl };
 }
 
 /// The names of a node's children, and its `Stat`: `GetChildren2Response`.
@@ -134,30 +111,20 @@ impl Spell for ChildrenBody {
     }
 }
 
-impl<L: Form> Form for ChildrenBodyOf<L> {
-    ghost wired = { children_body_of L.wired };
+impl<L: Ends> Record for ChildrenBodyOf<L> {
+    type Row = (L, Stat);
+
+    ghost record = { children_body_of L.wired };
+
+    fn of(row: Self::Row) -> Self {
+        fields_of!(ChildrenBody, of, row, ChildrenBodyOf)
+    }
+
+    ghost in_order = { refl };
 }
 
-impl<'a, L: View<'a>> View<'a> for ChildrenBodyOf<L> {
-    #[inline(always)]
-    fn view(src: &'a [u8], place: usize) -> (Self, usize) {
-        fields_of!(ChildrenBody, view, src, place, ChildrenBodyOf)
-    }
-}
-
-impl<L: Ends> Ends for ChildrenBodyOf<L> {
-    #[inline(always)]
-    fn find<V: Verdict>(payload: &[u8], place: usize) -> Result<usize, V> {
-        fields_of!(ChildrenBody, ends, payload, place)
-    }
-}
-
-impl Wire for ChildrenBody {
-    ghost written = { refl };
-
-    fn copied(alloc: Global, src: &[u8], place: usize) -> Result<(Self, usize), AllocError> {
-        fields_of!(ChildrenBody, copied, alloc, src, place, ChildrenBodyOf)
-    }
+impl Written for ChildrenBody {
+    ghost same = { refl };
 }
 
 /// A new node's path, and its `Stat`: `Create2Response`.
@@ -183,28 +150,18 @@ impl Spell for CreateBody {
     }
 }
 
-impl<T: Form> Form for CreateBodyOf<T> {
-    ghost wired = { create_body_of T.wired };
+impl<T: Ends> Record for CreateBodyOf<T> {
+    type Row = (T, Stat);
+
+    ghost record = { create_body_of T.wired };
+
+    fn of(row: Self::Row) -> Self {
+        fields_of!(CreateBody, of, row, CreateBodyOf)
+    }
+
+    ghost in_order = { refl };
 }
 
-impl<'a, T: View<'a>> View<'a> for CreateBodyOf<T> {
-    #[inline(always)]
-    fn view(src: &'a [u8], place: usize) -> (Self, usize) {
-        fields_of!(CreateBody, view, src, place, CreateBodyOf)
-    }
-}
-
-impl<T: Ends> Ends for CreateBodyOf<T> {
-    #[inline(always)]
-    fn find<V: Verdict>(payload: &[u8], place: usize) -> Result<usize, V> {
-        fields_of!(CreateBody, ends, payload, place)
-    }
-}
-
-impl Wire for CreateBody {
-    ghost written = { refl };
-
-    fn copied(alloc: Global, src: &[u8], place: usize) -> Result<(Self, usize), AllocError> {
-        fields_of!(CreateBody, copied, alloc, src, place, CreateBodyOf)
-    }
+impl Written for CreateBody {
+    ghost same = { refl };
 }

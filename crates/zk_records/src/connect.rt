@@ -2,10 +2,9 @@
 ghost use Rattle.std.specs.Prelude.{◌≡◌, refl};
 ghost use Rattle.zk_records.specs.Records.{connect_request, connect_response, connect_request_of, connect_response_of};
 
-use crate::fields::{copied, ends, held, pairs, view};
+use crate::fields::{of, pairs};
 use crate::fields_of;
-use std::alloc::{AllocError, Global};
-use zk_jute::{Blob, BlobRef, Ends, Form, Output, Spell, Verdict, View, Wire};
+use zk_jute::{Blob, BlobRef, Ends, Output, Record, Spell, Written};
 
 /// What a client asks a session with: `ConnectRequest`.
 #[derive(Debug, Drop)]
@@ -36,29 +35,20 @@ impl Spell for ConnectRequest {
     }
 }
 
-impl<B: Form> Form for ConnectRequestOf<B> {
-    ghost wired = { connect_request_of B.wired };
+impl<B: Ends> Record for ConnectRequestOf<B> {
+    type Row = (i32, (i64, (i32, (i64, B))));
+
+    ghost record = { connect_request_of B.wired };
+
+    fn of(row: Self::Row) -> Self {
+        fields_of!(ConnectRequest, of, row, ConnectRequestOf)
+    }
+
+    ghost in_order = { refl };
 }
 
-impl<'a, B: View<'a>> View<'a> for ConnectRequestOf<B> {
-    fn view(src: &'a [u8], place: usize) -> (Self, usize) {
-        fields_of!(ConnectRequest, view, src, place, ConnectRequestOf)
-    }
-}
-
-impl<B: Ends> Ends for ConnectRequestOf<B> {
-    #[inline(always)]
-    fn find<V: Verdict>(payload: &[u8], place: usize) -> Result<usize, V> {
-        fields_of!(ConnectRequest, ends, payload, place)
-    }
-}
-
-impl Wire for ConnectRequest {
-    ghost written = { refl };
-
-    fn copied(alloc: Global, src: &[u8], place: usize) -> Result<(Self, usize), AllocError> {
-        fields_of!(ConnectRequest, copied, alloc, src, place, ConnectRequestOf)
-    }
+impl Written for ConnectRequest {
+    ghost same = { refl };
 }
 
 /// What a server grants a session with: `ConnectResponse`.
@@ -88,34 +78,18 @@ impl Spell for ConnectResponse {
     }
 }
 
-impl<B: Form> Form for ConnectResponseOf<B> {
-    ghost wired = { connect_response_of B.wired };
+impl<B: Ends> Record for ConnectResponseOf<B> {
+    type Row = (i32, (i32, (i64, B)));
+
+    ghost record = { connect_response_of B.wired };
+
+    fn of(row: Self::Row) -> Self {
+        fields_of!(ConnectResponse, of, row, ConnectResponseOf)
+    }
+
+    ghost in_order = { refl };
 }
 
-impl<'a, B: View<'a>> View<'a> for ConnectResponseOf<B> {
-    fn view(src: &'a [u8], place: usize) -> (Self, usize) {
-        fields_of!(ConnectResponse, view, src, place, ConnectResponseOf)
-    }
-}
-
-impl<B: Ends> Ends for ConnectResponseOf<B> {
-    #[inline(always)]
-    fn find<V: Verdict>(payload: &[u8], place: usize) -> Result<usize, V> {
-        fields_of!(ConnectResponse, ends, payload, place)
-    }
-}
-
-impl Wire for ConnectResponse {
-    ghost written = { refl };
-
-    fn copied(alloc: Global, src: &[u8], place: usize) -> Result<(Self, usize), AllocError> {
-        fields_of!(
-            ConnectResponse,
-            copied,
-            alloc,
-            src,
-            place,
-            ConnectResponseOf
-        )
-    }
+impl Written for ConnectResponse {
+    ghost same = { refl };
 }

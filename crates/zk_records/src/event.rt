@@ -2,10 +2,9 @@
 ghost use Rattle.std.specs.Prelude.{◌≡◌, refl};
 ghost use Rattle.zk_records.specs.Records.{watcher_event, watcher_event_of};
 
-use crate::fields::{copied, ends, held, pairs, view};
+use crate::fields::{of, pairs};
 use crate::fields_of;
-use std::alloc::{AllocError, Global};
-use zk_jute::{Ends, Form, Output, Spell, Text, TextRef, Verdict, View, Wire};
+use zk_jute::{Ends, Output, Record, Spell, Text, TextRef, Written};
 
 /// A change that a watch saw: `WatcherEvent`.
 #[derive(Debug, Drop)]
@@ -32,27 +31,18 @@ impl Spell for WatcherEvent {
     }
 }
 
-impl<T: Form> Form for WatcherEventOf<T> {
-    ghost wired = { watcher_event_of T.wired };
+impl<T: Ends> Record for WatcherEventOf<T> {
+    type Row = (i32, (i32, T));
+
+    ghost record = { watcher_event_of T.wired };
+
+    fn of(row: Self::Row) -> Self {
+        fields_of!(WatcherEvent, of, row, WatcherEventOf)
+    }
+
+    ghost in_order = { refl };
 }
 
-impl<'a, T: View<'a>> View<'a> for WatcherEventOf<T> {
-    fn view(src: &'a [u8], place: usize) -> (Self, usize) {
-        fields_of!(WatcherEvent, view, src, place, WatcherEventOf)
-    }
-}
-
-impl<T: Ends> Ends for WatcherEventOf<T> {
-    #[inline(always)]
-    fn find<V: Verdict>(payload: &[u8], place: usize) -> Result<usize, V> {
-        fields_of!(WatcherEvent, ends, payload, place)
-    }
-}
-
-impl Wire for WatcherEvent {
-    ghost written = { refl };
-
-    fn copied(alloc: Global, src: &[u8], place: usize) -> Result<(Self, usize), AllocError> {
-        fields_of!(WatcherEvent, copied, alloc, src, place, WatcherEventOf)
-    }
+impl Written for WatcherEvent {
+    ghost same = { refl };
 }

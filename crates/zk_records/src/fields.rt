@@ -81,11 +81,9 @@ macro_rules! borrowed {
     ($number:ident) => { $crate::owned!($number) };
 }
 
-/// `pairs!(self: a A int, b B text, c C blob)` is `(&self.a, (&self.b, &self.c))`, `pairs!(let: ..)` the pattern
-/// `(a, (b, c))`, and `pairs!(type: ..)` the type `(i32, (T, B))`, by the parameters of the record's type.
+/// `pairs!(self: a A int, b B text, c C blob)` is `(&self.a, (&self.b, &self.c))`, and `pairs!(let: ..)` the pattern
+/// `(a, (b, c))`.
 macro_rules! pairs {
-    (type: $last:ident $name:ident $kind:ident) => { held!($kind) };
-    (type: $first:ident $name:ident $kind:ident, $($rest:tt)+) => { (held!($kind), pairs!(type: $($rest)+)) };
     (let: $last:ident $name:ident $kind:ident) => { $last };
     (let: $first:ident $name:ident $kind:ident, $($rest:tt)+) => { ($first, pairs!(let: $($rest)+)) };
     ($record:ident: $last:ident $name:ident $kind:ident) => { &$record.$last };
@@ -94,42 +92,12 @@ macro_rules! pairs {
     };
 }
 
-/// The type of a field by its kind: a number's, `Stat`, or the parameter of the record's type.
-macro_rules! held {
-    (int) => { i32 };
-    (long) => { i64 };
-    (boolean) => { bool };
-    (stat) => { Stat };
-    (text) => { T };
-    (blob) => { B };
-    (texts) => { L };
-    (rights) => { A };
-    (id) => { W };
-}
-
-/// The body of `view` for the record `R`: `fields_of!(R, view, src, place, R)`.
-macro_rules! view {
-    ($src:ident, $place:ident, $record:ident: $($field:ident $name:ident $kind:ident),+) => {{
-        let (pairs!(let: $($field $name $kind),+), place) = View::view($src, $place);
-        ($record { $($field),+ }, place)
+/// The body of `of` for the record `R`: `fields_of!(R, of, row, R)`.
+macro_rules! of {
+    ($row:ident, $record:ident: $($field:ident $name:ident $kind:ident),+) => {{
+        let pairs!(let: $($field $name $kind),+) = $row;
+        $record { $($field),+ }
     }};
-}
-
-/// The body of `copied`: `fields_of!(R, copied, alloc, src, place, R)`.
-macro_rules! copied {
-    ($alloc:ident, $src:ident, $place:ident, $record:ident: $($field:ident $name:ident $kind:ident),+) => {
-        match Wire::copied($alloc, $src, $place) {
-            Ok((pairs!(let: $($field $name $kind),+), place)) => Ok(($record { $($field),+ }, place)),
-            Err(error) => Err(error),
-        }
-    };
-}
-
-/// The body of `find`: `fields_of!(R, ends, payload, place)`.
-macro_rules! ends {
-    ($payload:ident, $place:ident: $($fields:tt)+) => {
-        <pairs!(type: $($fields)+) as Ends>::find::<V>($payload, $place)
-    };
 }
 
 /// The body of `own`: `fields_of!(R, own, self, alloc, R)`.
@@ -139,9 +107,6 @@ macro_rules! own {
     };
 }
 
-pub(crate) use copied;
-pub(crate) use ends;
-pub(crate) use held;
+pub(crate) use of;
 pub(crate) use own;
 pub(crate) use pairs;
-pub(crate) use view;

@@ -4,10 +4,9 @@
 ghost use Rattle.std.specs.Prelude.{◌≡◌, refl};
 ghost use Rattle.zk_records.specs.Records.{request_header, reply_header, multi_header};
 
-use crate::fields::{copied, ends, held, pairs, view};
+use crate::fields::{of, pairs};
 use crate::fields_of;
-use std::alloc::{AllocError, Global};
-use zk_jute::{Ends, Form, Output, Spell, Verdict, View, Wire};
+use zk_jute::{Output, Record, Spell, Written};
 
 /// The header of each request: `RequestHeader`, 8 bytes.
 #[derive(Debug, Drop)]
@@ -26,30 +25,20 @@ impl Spell for RequestHeader {
     }
 }
 
-impl Form for RequestHeader {
-    ghost wired = { request_header };
+impl Record for RequestHeader {
+    type Row = (i32, i32);
+
+    ghost record = { request_header };
+
+    fn of(row: Self::Row) -> Self {
+        fields_of!(RequestHeader, of, row, RequestHeader)
+    }
+
+    ghost in_order = { refl };
 }
 
-impl<'a> View<'a> for RequestHeader {
-    #[inline(always)]
-    fn view(src: &'a [u8], place: usize) -> (Self, usize) {
-        fields_of!(RequestHeader, view, src, place, RequestHeader)
-    }
-}
-
-impl Ends for RequestHeader {
-    #[inline(always)]
-    fn find<V: Verdict>(payload: &[u8], place: usize) -> Result<usize, V> {
-        fields_of!(RequestHeader, ends, payload, place)
-    }
-}
-
-impl Wire for RequestHeader {
-    ghost written = { refl };
-
-    fn copied(alloc: Global, src: &[u8], place: usize) -> Result<(Self, usize), AllocError> {
-        fields_of!(RequestHeader, copied, alloc, src, place, RequestHeader)
-    }
+impl Written for RequestHeader {
+    ghost same = { refl };
 }
 
 /// The header of each reply and event: `ReplyHeader`, 16 bytes.
@@ -71,30 +60,20 @@ impl Spell for ReplyHeader {
     }
 }
 
-impl Form for ReplyHeader {
-    ghost wired = { reply_header };
+impl Record for ReplyHeader {
+    type Row = (i32, (i64, i32));
+
+    ghost record = { reply_header };
+
+    fn of(row: Self::Row) -> Self {
+        fields_of!(ReplyHeader, of, row, ReplyHeader)
+    }
+
+    ghost in_order = { refl };
 }
 
-impl<'a> View<'a> for ReplyHeader {
-    #[inline(always)]
-    fn view(src: &'a [u8], place: usize) -> (Self, usize) {
-        fields_of!(ReplyHeader, view, src, place, ReplyHeader)
-    }
-}
-
-impl Ends for ReplyHeader {
-    #[inline(always)]
-    fn find<V: Verdict>(payload: &[u8], place: usize) -> Result<usize, V> {
-        fields_of!(ReplyHeader, ends, payload, place)
-    }
-}
-
-impl Wire for ReplyHeader {
-    ghost written = { refl };
-
-    fn copied(alloc: Global, src: &[u8], place: usize) -> Result<(Self, usize), AllocError> {
-        fields_of!(ReplyHeader, copied, alloc, src, place, ReplyHeader)
-    }
+impl Written for ReplyHeader {
+    ghost same = { refl };
 }
 
 /// The header of each part of a multi, and after the last part: `MultiHeader`, 9 bytes.
@@ -116,28 +95,18 @@ impl Spell for MultiHeader {
     }
 }
 
-impl Form for MultiHeader {
-    ghost wired = { multi_header };
+impl Record for MultiHeader {
+    type Row = (i32, (bool, i32));
+
+    ghost record = { multi_header };
+
+    fn of(row: Self::Row) -> Self {
+        fields_of!(MultiHeader, of, row, MultiHeader)
+    }
+
+    ghost in_order = { refl };
 }
 
-impl<'a> View<'a> for MultiHeader {
-    #[inline(always)]
-    fn view(src: &'a [u8], place: usize) -> (Self, usize) {
-        fields_of!(MultiHeader, view, src, place, MultiHeader)
-    }
-}
-
-impl Ends for MultiHeader {
-    #[inline(always)]
-    fn find<V: Verdict>(payload: &[u8], place: usize) -> Result<usize, V> {
-        fields_of!(MultiHeader, ends, payload, place)
-    }
-}
-
-impl Wire for MultiHeader {
-    ghost written = { refl };
-
-    fn copied(alloc: Global, src: &[u8], place: usize) -> Result<(Self, usize), AllocError> {
-        fields_of!(MultiHeader, copied, alloc, src, place, MultiHeader)
-    }
+impl Written for MultiHeader {
+    ghost same = { refl };
 }

@@ -21,9 +21,10 @@
 //!
 //! # Choices
 //!
-//! **Records are nested pairs inside, and structs outside.** A pair's parser and writer are proved once, so a record
-//! needs no proof file. Beside its struct, code has its fields in one place, each with its kind: `fields_of!`. Macros of
-//! this crate, `zk_lines`, `zk_fields` and `zk_earliest` go over them. `specs/Records.antt` has them in definitions.
+//! **Records are nested pairs inside, and structs outside.** A pair's judge, view, copy and writer are proved once, so a
+//! record needs no proof file: it is a `Record`, with the types of its fields in order, whose layout is compared with the
+//! definition in `specs/Records.antt`. Code has its fields' names in one place, each with its kind: `fields_of!`. Macros
+//! of this crate, `zk_lines`, `zk_fields` and `zk_earliest` go over them.
 //!
 //! **`Own::own` copies a borrowed value.** Owned and borrowed are two types in code and one in contracts, which the
 //! trait can't know; so a ghost member, `same`, names the copy's value. The trait is in this crate because a list of

@@ -5,10 +5,9 @@
 ghost use Rattle.std.specs.Prelude.{◌≡◌, refl};
 ghost use Rattle.zk_records.specs.Records.{watch_ask, path_ask, watch_ask_of, path_ask_of};
 
-use crate::fields::{copied, ends, held, pairs, view};
+use crate::fields::{of, pairs};
 use crate::fields_of;
-use std::alloc::{AllocError, Global};
-use zk_jute::{Ends, Form, Output, Spell, Text, TextRef, Verdict, View, Wire};
+use zk_jute::{Ends, Output, Record, Spell, Text, TextRef, Written};
 
 /// Looks at a node, and may set a watch: `ExistsRequest`, `GetDataRequest`, `GetChildrenRequest` and
 /// `GetChildren2Request`.
@@ -34,30 +33,20 @@ impl Spell for WatchAsk {
     }
 }
 
-impl<T: Form> Form for WatchAskOf<T> {
-    ghost wired = { watch_ask_of T.wired };
+impl<T: Ends> Record for WatchAskOf<T> {
+    type Row = (T, bool);
+
+    ghost record = { watch_ask_of T.wired };
+
+    fn of(row: Self::Row) -> Self {
+        fields_of!(WatchAsk, of, row, WatchAskOf)
+    }
+
+    ghost in_order = { refl };
 }
 
-impl<'a, T: View<'a>> View<'a> for WatchAskOf<T> {
-    #[inline(always)]
-    fn view(src: &'a [u8], place: usize) -> (Self, usize) {
-        fields_of!(WatchAsk, view, src, place, WatchAskOf)
-    }
-}
-
-impl<T: Ends> Ends for WatchAskOf<T> {
-    #[inline(always)]
-    fn find<V: Verdict>(payload: &[u8], place: usize) -> Result<usize, V> {
-        fields_of!(WatchAsk, ends, payload, place)
-    }
-}
-
-impl Wire for WatchAsk {
-    ghost written = { refl };
-
-    fn copied(alloc: Global, src: &[u8], place: usize) -> Result<(Self, usize), AllocError> {
-        fields_of!(WatchAsk, copied, alloc, src, place, WatchAskOf)
-    }
+impl Written for WatchAsk {
+    ghost same = { refl };
 }
 
 /// A path alone: `GetACLRequest` and `SyncRequest`.
@@ -81,28 +70,18 @@ impl Spell for PathAsk {
     }
 }
 
-impl<T: Form> Form for PathAskOf<T> {
-    ghost wired = { path_ask_of T.wired };
+impl<T: Ends> Record for PathAskOf<T> {
+    type Row = T;
+
+    ghost record = { path_ask_of T.wired };
+
+    fn of(row: Self::Row) -> Self {
+        fields_of!(PathAsk, of, row, PathAskOf)
+    }
+
+    ghost in_order = { refl };
 }
 
-impl<'a, T: View<'a>> View<'a> for PathAskOf<T> {
-    #[inline(always)]
-    fn view(src: &'a [u8], place: usize) -> (Self, usize) {
-        fields_of!(PathAsk, view, src, place, PathAskOf)
-    }
-}
-
-impl<T: Ends> Ends for PathAskOf<T> {
-    #[inline(always)]
-    fn find<V: Verdict>(payload: &[u8], place: usize) -> Result<usize, V> {
-        fields_of!(PathAsk, ends, payload, place)
-    }
-}
-
-impl Wire for PathAsk {
-    ghost written = { refl };
-
-    fn copied(alloc: Global, src: &[u8], place: usize) -> Result<(Self, usize), AllocError> {
-        fields_of!(PathAsk, copied, alloc, src, place, PathAskOf)
-    }
+impl Written for PathAsk {
+    ghost same = { refl };
 }

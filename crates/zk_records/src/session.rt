@@ -2,12 +2,9 @@
 ghost use Rattle.std.specs.Prelude.{◌≡◌, refl};
 ghost use Rattle.zk_records.specs.Records.{auth_ask, set_watches_ask, auth_ask_of, set_watches_ask_of};
 
-use crate::fields::{copied, ends, held, pairs, view};
+use crate::fields::{of, pairs};
 use crate::fields_of;
-use std::alloc::{AllocError, Global};
-use zk_jute::{
-    Blob, BlobRef, Ends, Form, List, Output, Spell, Text, TextList, TextRef, Verdict, View, Wire,
-};
+use zk_jute::{Blob, BlobRef, Ends, List, Output, Record, Spell, Text, TextList, TextRef, Written};
 
 /// Authenticates the client: `AuthPacket`.
 #[derive(Debug, Drop)]
@@ -34,29 +31,20 @@ impl Spell for AuthAsk {
     }
 }
 
-impl<T: Form, B: Form> Form for AuthAskOf<T, B> {
-    ghost wired = { auth_ask_of T.wired B.wired };
+impl<T: Ends, B: Ends> Record for AuthAskOf<T, B> {
+    type Row = (i32, (T, B));
+
+    ghost record = { auth_ask_of T.wired B.wired };
+
+    fn of(row: Self::Row) -> Self {
+        fields_of!(AuthAsk, of, row, AuthAskOf)
+    }
+
+    ghost in_order = { refl };
 }
 
-impl<'a, T: View<'a>, B: View<'a>> View<'a> for AuthAskOf<T, B> {
-    fn view(src: &'a [u8], place: usize) -> (Self, usize) {
-        fields_of!(AuthAsk, view, src, place, AuthAskOf)
-    }
-}
-
-impl<T: Ends, B: Ends> Ends for AuthAskOf<T, B> {
-    #[inline(always)]
-    fn find<V: Verdict>(payload: &[u8], place: usize) -> Result<usize, V> {
-        fields_of!(AuthAsk, ends, payload, place)
-    }
-}
-
-impl Wire for AuthAsk {
-    ghost written = { refl };
-
-    fn copied(alloc: Global, src: &[u8], place: usize) -> Result<(Self, usize), AllocError> {
-        fields_of!(AuthAsk, copied, alloc, src, place, AuthAskOf)
-    }
+impl Written for AuthAsk {
+    ghost same = { refl };
 }
 
 /// Sets watches again, after a reconnect: `SetWatches`.
@@ -86,27 +74,18 @@ impl Spell for SetWatchesAsk {
     }
 }
 
-impl<L: Form> Form for SetWatchesAskOf<L> {
-    ghost wired = { set_watches_ask_of L.wired };
+impl<L: Ends> Record for SetWatchesAskOf<L> {
+    type Row = (i64, (L, (L, L)));
+
+    ghost record = { set_watches_ask_of L.wired };
+
+    fn of(row: Self::Row) -> Self {
+        fields_of!(SetWatchesAsk, of, row, SetWatchesAskOf)
+    }
+
+    ghost in_order = { refl };
 }
 
-impl<'a, L: View<'a>> View<'a> for SetWatchesAskOf<L> {
-    fn view(src: &'a [u8], place: usize) -> (Self, usize) {
-        fields_of!(SetWatchesAsk, view, src, place, SetWatchesAskOf)
-    }
-}
-
-impl<L: Ends> Ends for SetWatchesAskOf<L> {
-    #[inline(always)]
-    fn find<V: Verdict>(payload: &[u8], place: usize) -> Result<usize, V> {
-        fields_of!(SetWatchesAsk, ends, payload, place)
-    }
-}
-
-impl Wire for SetWatchesAsk {
-    ghost written = { refl };
-
-    fn copied(alloc: Global, src: &[u8], place: usize) -> Result<(Self, usize), AllocError> {
-        fields_of!(SetWatchesAsk, copied, alloc, src, place, SetWatchesAskOf)
-    }
+impl Written for SetWatchesAsk {
+    ghost same = { refl };
 }

@@ -1,11 +1,11 @@
 //! The record `Stat` of zookeeper.jute: what is known of a node.
 ghost use Rattle.std.specs.Prelude.{◌≡◌, refl};
+ghost use Rattle.zk_records.specs.Ordered.{stat_in_order};
 ghost use Rattle.zk_records.specs.Records.{stat};
 
-use crate::fields::{copied, ends, held, pairs, view};
+use crate::fields::pairs;
 use crate::fields_of;
-use std::alloc::{AllocError, Global};
-use zk_jute::{Ends, Form, Output, Spell, Verdict, View, Wire};
+use zk_jute::{Ends, Output, Record, Spell, Verdict, Written};
 
 /// What is known of a node: `Stat`, 68 bytes.
 #[derive(Clone, Copy, Debug)]
@@ -42,39 +42,57 @@ impl Spell for Stat {
     }
 }
 
-impl Form for Stat {
-    ghost wired = { stat };
-}
-
-impl<'a> View<'a> for Stat {
-    #[inline(always)]
-    fn view(src: &'a [u8], place: usize) -> (Self, usize) {
-        fields_of!(Stat, view, src, place, Stat)
-    }
-}
-
 /// The bytes of a `Stat`.
 const SIZE: usize = 68;
 
-impl Ends for Stat {
+impl Record for Stat {
+    /// Pairs of pairs, as a bound on ten pairs, each in the other, takes too long to check.
+    type Row = (
+        (i64, (i64, (i64, i64))),
+        ((i32, (i32, (i32, i64))), (i32, (i32, i64))),
+    );
+
+    ghost record = { stat };
+
+    fn of(row: Self::Row) -> Self {
+        let (
+            (czxid, (mzxid, (ctime, mtime))),
+            (
+                (version, (cversion, (aversion, ephemeral_owner))),
+                (data_length, (num_children, pzxid)),
+            ),
+        ) = row;
+        Stat {
+            czxid,
+            mzxid,
+            ctime,
+            mtime,
+            version,
+            cversion,
+            aversion,
+            ephemeral_owner,
+            data_length,
+            num_children,
+            pzxid,
+        }
+    }
+
     /// Any 68 bytes are a `Stat`: one look at how many are left replaces reading the fields, unless the place of a fault is
     /// asked for.
     #[inline(always)]
-    fn find<V: Verdict>(payload: &[u8], place: usize) -> Result<usize, V> {
+    fn find_fields<V: Verdict>(payload: &[u8], place: usize) -> Result<usize, V> {
         if payload.len() - place >= SIZE {
             return Ok(place + SIZE);
         }
         match V::silent() {
             Some(verdict) => Err(verdict),
-            None => fields_of!(Stat, ends, payload, place),
+            None => <Self::Row as Ends>::find(payload, place),
         }
     }
+
+    ghost in_order = { stat_in_order };
 }
 
-impl Wire for Stat {
-    ghost written = { refl };
-
-    fn copied(alloc: Global, src: &[u8], place: usize) -> Result<(Self, usize), AllocError> {
-        fields_of!(Stat, copied, alloc, src, place, Stat)
-    }
+impl Written for Stat {
+    ghost same = { refl };
 }

@@ -8,14 +8,14 @@ use Rattle.zk_jute.proofs.list.copied_elements.Goals as goal
 
 pub copied-requires-clause-known : goal.copied-requires-clause-known
 copied-requires-clause-known g c =
-    let items = g.T.Form.wired.items in
-    let at = items_at g.T.Form.wired.layout c.args.src.now in
+    let items = g.T.Ends.wired.items in
+    let at = items_at g.T.Ends.wired.layout c.args.src.now in
     next_read at c.args.count c.loop.counter c.loop.after (flat_map items c.loop.items.items) (times_at at c.args.count c.args.place) c.loop-test.true c.loop.invariant.so_far c.requires.known
 
 pub loop-preserved : goal.loop-preserved
 loop-preserved g c =
-    let items = g.T.Form.wired.items in
-    let at = items_at g.T.Form.wired.layout c.args.src.now in
+    let items = g.T.Ends.wired.items in
+    let at = items_at g.T.Ends.wired.layout c.args.src.now in
     record {
       within = c.in_ok-item.ensures.within;
       count = let count = c.loop.invariant.count in rw c.in_ok-push.ensures.items (omega (arith, length_push c.loop.items.items c.in_ok-item.item));

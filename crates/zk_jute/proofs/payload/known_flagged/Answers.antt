@@ -8,12 +8,12 @@ use Rattle.zk_jute.proofs.payload.known_flagged.Goals as goal
 
 pub view-value-requires : goal.view-value-requires
 view-value-requires g c κs =
-    let w = g.T.Form.wired in
+    let w = g.T.Ends.wired in
     ((refl, tt), (omega arith, stands_read w c.args.payload.now 0 (omega arith) (value_there w c.args.payload.now c.requires)))
 
 pub returns-then-place-payload : goal.returns-then-place-payload
 returns-then-place-payload g c =
-    let w = g.T.Form.wired in
+    let w = g.T.Ends.wired in
     let src = c.args.payload.now in
     let value = c.view-value in
     let there = found w.layout w.items src 0 (λ i. omega (arith, c.type_inv.payload i)) (omega arith) (Ok value.result) value.ensures.exact in
@@ -22,7 +22,7 @@ returns-then-place-payload g c =
 
 pub view-flag-requires-clause-known : goal.view-flag-requires-clause-known
 view-flag-requires-clause-known g c =
-    let w = g.T.Form.wired in
+    let w = g.T.Ends.wired in
     let src = c.args.payload.now in
     let value = c.view-value in
     let there = found w.layout w.items src 0 (λ i. omega (arith, c.type_inv.payload i)) (omega arith) (Ok value.result) value.ensures.exact in
@@ -32,7 +32,7 @@ view-flag-requires-clause-known g c =
 
 pub returns : goal.returns
 returns g c =
-    let w = g.T.Form.wired in
+    let w = g.T.Ends.wired in
     let src = c.args.payload.now in
     let value = c.view-value in
     let flag = c.view-flag in

@@ -10,7 +10,7 @@ returns-in_err-flag-clause-fault g c =
     let value = c.in_ok-value in
     let found = rw value.was at c.requires.found in
     let within = rw value.was at c.requires.within in
-    rw (p.1, p.2) (refused_flag g.T.Form.wired.layout c.args.payload.now (g.T.Form.wired.items value.value) value.place c.in_err-flag.field-0.0 within c.if-place-end.false found.0 found.1 (inr c.in_err-flag.ensures.fault.0))
+    rw (p.1, p.2) (refused_flag g.T.Ends.wired.layout c.args.payload.now (g.T.Ends.wired.items value.value) value.place c.in_err-flag.field-0.0 within c.if-place-end.false found.0 found.1 (inr c.in_err-flag.ensures.fault.0))
 
 pub returns-then-place-end-2-clause-fault : goal.returns-then-place-end-2-clause-fault
 returns-then-place-end-2-clause-fault g c =
@@ -18,4 +18,4 @@ returns-then-place-end-2-clause-fault g c =
     let flag = c.in_ok-flag in
     let found = rw value.was at c.requires.found in
     let there = flag.ensures.found in
-    rw c.at.ensures (refused_rest g.T.Form.wired.layout c.args.payload.now (g.T.Form.wired.items value.value) (ABoolean flag.flag ∷ []) value.place flag.place c.if-place-end-2.true found.0 found.1 there.0 there.1)
+    rw c.at.ensures (refused_rest g.T.Ends.wired.layout c.args.payload.now (g.T.Ends.wired.items value.value) (ABoolean flag.flag ∷ []) value.place flag.place c.if-place-end-2.true found.0 found.1 there.0 there.1)

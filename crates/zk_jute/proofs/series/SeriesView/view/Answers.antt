@@ -5,18 +5,18 @@ use Rattle.zk_jute.proofs.Known.{count_known, elements_known}
 use Rattle.zk_jute.proofs.series.SeriesView.view.Goals as goal
 
 pub known_size-count-requires-clause-known : goal.known_size-count-requires-clause-known
-known_size-count-requires-clause-known g c = count_known g.R.Form.wired.layout c.args.src.now c.args.place c.requires.known
+known_size-count-requires-clause-known g c = count_known g.R.Ends.wired.layout c.args.src.now c.args.place c.requires.known
 
 pub elements_end-end-requires : goal.elements_end-end-requires
 elements_end-end-requires g c κs =
     let size = c.known_size-count in
     let start = size.result.1 in
     let counted = size.ensures.exact ∙ ap (λ (n : Option ℕ). Ok (n, start)) c.in-Some.is in
-    ((refl, tt), (size.ensures.within.1, elements_known g.R.Form.wired.layout c.args.src.now c.args.place c.requires.known c.in-Some.count start counted))
+    ((refl, tt), (size.ensures.within.1, elements_known g.R.Ends.wired.layout c.args.src.now c.args.place c.requires.known c.in-Some.count start counted))
 
 pub lying-requires-in-Some : goal.lying-requires-in-Some
 lying-requires-in-Some g c =
-    let w = g.R.Form.wired in
+    let w = g.R.Ends.wired in
     let src = c.args.src.now in
     let at = g.R.Member.value src in
     let n = c.in-Some.count in
@@ -28,7 +28,7 @@ lying-requires-in-Some g c =
 
 pub returns-in-Some-clause-exact : goal.returns-in-Some-clause-exact
 returns-in-Some-clause-exact g c =
-    let w = g.R.Form.wired in
+    let w = g.R.Ends.wired in
     let src = c.args.src.now in
     let size = c.known_size-count in
     let start = size.result.1 in
