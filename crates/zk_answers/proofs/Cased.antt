@@ -1,7 +1,7 @@
 -- What can't come next in a multi's results is one of the reader's cases.
-use Rattle.std.proofs.Common.{◌≡◌, ℕ, ◌+◌, inl, inr, List, [], ◌∷◌, ◌++◌, length, map, refl, sym, ap, subst, ◌∙◌, append_assoc, arith}
+use Rattle.std.proofs.Common.{◌≡◌, ℕ, ◌+◌, inl, inr, List, [], ◌∷◌, ◌++◌, length, refl, sym, ap, subst, ◌∙◌, append_assoc, arith}
 use Rattle.std.specs.Prelude.{ℤ}
-use Rattle.std.proofs.lemmas.List.{append-nil, length-append, append_cancel_left, map-append}
+use Rattle.std.proofs.lemmas.List.{append-nil, length-append}
 use Rattle.zk_jute.specs.declared.fault.Reason.{Reason}
 use Rattle.zk_jute.specs.declared.fault.Reason.TheVariants.{BadPart}
 use Rattle.zk_jute.specs.Item.{Kind, Int, Item, kind_of, bytes_of, HaveBytes}
@@ -11,61 +11,21 @@ use Rattle.zk_jute.specs.Faults.{IsNext, IsBad, IsFault, Opens}
 use Rattle.zk_jute.proofs.Layouts.{bytes_both, have_parts}
 use Rattle.zk_records.specs.declared.header.MultiHeader.{MultiHeader}
 use Rattle.zk_records.specs.declared.op.PartOp.{PartOp}
-use Rattle.zk_records.specs.Records.{multi_header}
 use Rattle.zk_asks.specs.Parts.{marked, end_header}
-use Rattle.zk_asks.proofs.Openings.{cut, goes_on}
-use Rattle.zk_asks.proofs.Opened.{mark_shape, kinds_same, first_kind}
+use Rattle.zk_asks.proofs.Openings.{cut}
+use Rattle.zk_asks.proofs.Opened.{within_mark, within_record, past_front}
 use Rattle.zk_answers.specs.Results.{result_header, error_header, result_layout, IsDoneFault, in_mark, bad_mark, in_result, in_error, other_error, behind_result, behind_error}
 use Rattle.zk_answers.specs.Openings.{number_items, AreResults, no_result, a_result, an_error, Ends, AreMarked, last, result_before, error_before, IsBadMark, no_mark, no_number, IsBadPart, bad_part}
-use Rattle.zk_asks.proofs.Parts.{mark_is}
 use Rattle.zk_answers.proofs.Dones.{result_bytes, an_int}
 use Rattle.zk_answers.proofs.Opened.{ending}
-
--- within a header, whatever its numbers are
-within_mark : (ops : List PartOp) (h : MultiHeader) (o : List Item) (i : Item) (m : List Item) → HaveBytes (marked h) → marked h ≡ o ++ (i ∷ m) → (bytes rest : List ℕ) → Opens bytes o rest → (k : Kind) → kind_of i ≡ k → (far : ℕ) (r : Reason) → IsBad k rest r far
-    → IsDoneFault ops bytes (length (bytes_of o) + far) r
-within_mark ops h o i m have e bytes rest opens k kind far r bad =
-    in_mark ops bytes (length (bytes_of o) + far) r (record {
-      opening = o;
-      rest = rest;
-      begins = (i ∷ m, subst (IsValueOf multi_header.layout) e (mark_is h have));
-      splits = opens;
-      next = k;
-      is_next = λ more v.
-          let s = mark_shape (o ++ more) v in
-          let kinds : map kind_of more ≡ kind_of i ∷ map kind_of m =
-          append_cancel_left (map kind_of o) (map kind_of more) (kind_of i ∷ map kind_of m)
-          (sym (map-append kind_of o more) ∙ ap (map kind_of) s.1 ∙ kinds_same s.0 h ∙ ap (map kind_of) e ∙ map-append kind_of o (i ∷ m)) in
-          first_kind more (kind_of i) (map kind_of m) k kinds kind;
-      behind = far;
-      bad = bad;
-      at = refl;
-    })
 
 module _ (op : PartOp) (ops : List PartOp) where
   -- an opening within a part's result, which goes on
   within_result : (o : List Item) (i : Item) (m : List Item) → IsValueOf (result_layout op) (o ++ (i ∷ m)) → (bytes rest : List ℕ) → Opens bytes (marked (result_header op) ++ o) rest
       → (k : Kind) → IsNext (AreMarked (op ∷ ops)) (marked (result_header op) ++ o) k → (far : ℕ) (r : Reason) → IsBad k rest r far → IsDoneFault (op ∷ ops) bytes (length (bytes_of (marked (result_header op) ++ o)) + far) r
   within_result o i m v bytes rest opens k next far r bad =
-      let mark = marked (result_header op) in
-      let behind_mark : List ℕ = bytes_of o ++ rest in
-      let split : bytes ≡ bytes_of mark ++ behind_mark = opens ∙ ap (λ (x : List ℕ). x ++ rest) (bytes_both mark o) ∙ append_assoc (bytes_of mark) (bytes_of o) rest in
-      let place : length (bytes_of mark) + (length (bytes_of o) + far) ≡ length (bytes_of (mark ++ o)) + far = omega (arith, ap length (bytes_both mark o), length-append (bytes_of mark) (bytes_of o)) in
-      subst (λ (p : ℕ). IsDoneFault (op ∷ ops) bytes p r) place
-      (in_result op ops bytes behind_mark (length (bytes_of o) + far) r split (record {
-        opening = o;
-        rest = rest;
-        begins = (i ∷ m, v);
-        splits = refl;
-        next = k;
-        is_next = λ more w.
-            let group : mark ++ ((o ++ more) ++ marked end_header) ≡ (mark ++ o) ++ (more ++ marked end_header) = ap (λ (x : List Item). mark ++ x) (append_assoc o more (marked end_header)) ∙ sym (append_assoc mark o (more ++ marked end_header)) in
-            let n = next (more ++ marked end_header) (subst (AreMarked (op ∷ ops)) group (result_before op ops (o ++ more) (marked end_header) w (ending ops))) in
-            goes_on (result_layout op) o i m more (marked end_header) k v w n;
-        behind = far;
-        bad = bad;
-        at = refl;
-      }))
+      past_front (IsFault (IsValueOf (result_layout op))) (IsDoneFault (op ∷ ops)) (marked (result_header op)) o bytes rest far r opens (λ left q e. in_result op ops bytes left q r e)
+      (within_record (result_layout op) (AreMarked (op ∷ ops)) (marked (result_header op)) o i m v rest k next (λ result w. result_before op ops result (marked end_header) w (ending ops)) far r bad)
 
   -- an error's header, and then no int
   within_number : (n : ℤ) (o : List Item) (i : Item) (m : List Item) → HaveBytes (marked (error_header n) ++ number_items n) → number_items n ≡ o ++ (i ∷ m) → (bytes rest : List ℕ) → Opens bytes (marked (error_header n) ++ o) rest
@@ -91,15 +51,6 @@ module _ (op : PartOp) (ops : List PartOp) where
         at = omega arith;
       }))
   within_number n (x ∷ o) i m have e bytes rest opens k kind far r bad = absurd (omega (arith, ap length e, length-append o (i ∷ m)))
-
--- behind a whole result
-past_result : (op : PartOp) (ops : List PartOp) (front o : List Item) (bytes rest : List ℕ) (far : ℕ) (r : Reason) → Opens bytes (front ++ o) rest
-    → ((left : List ℕ) (q : ℕ) → bytes ≡ bytes_of front ++ left → IsDoneFault ops left q r → IsDoneFault (op ∷ ops) bytes (length (bytes_of front) + q) r)
-    → IsDoneFault ops (bytes_of o ++ rest) (length (bytes_of o) + far) r → IsDoneFault (op ∷ ops) bytes (length (bytes_of (front ++ o)) + far) r
-past_result op ops front o bytes rest far r opens make later =
-    let split : bytes ≡ bytes_of front ++ (bytes_of o ++ rest) = opens ∙ ap (λ (x : List ℕ). x ++ rest) (bytes_both front o) ∙ append_assoc (bytes_of front) (bytes_of o) rest in
-    let place : length (bytes_of front) + (length (bytes_of o) + far) ≡ length (bytes_of (front ++ o)) + far = omega (arith, ap length (bytes_both front o), length-append (bytes_of front) (bytes_of o)) in
-    subst (λ (p : ℕ). IsDoneFault (op ∷ ops) bytes p r) place (make (bytes_of o ++ rest) (length (bytes_of o) + far) split later)
 
 abbrev Backs : List PartOp → List Item → Type 0
 Backs ops items = (o more : List Item) → items ≡ o ++ more → (bytes rest : List ℕ) → Opens bytes o rest → (k : Kind) → IsNext (AreMarked ops) o k → (far : ℕ) (r : Reason) → IsBad k rest r far → IsDoneFault ops bytes (length (bytes_of o) + far) r
@@ -130,7 +81,7 @@ back_step op ops mark tail others whole in_front in_tail grow make backs o more 
                 let group : (x : List Item) → (mark ++ m) ++ x ≡ mark ++ (tail ++ (o2 ++ x)) = λ x. ap (λ (y : List Item). y ++ x) both ∙ append_assoc (mark ++ tail) o2 x ∙ append_assoc mark tail (o2 ++ x) in
                 let later = backs o2 more d.2 (bytes_of o2 ++ rest) rest refl k (λ x u. next2 x (subst (AreMarked (op ∷ ops)) (sym (group x)) (grow (o2 ++ x) u))) far r bad in
                 let opens3 : Opens bytes ((mark ++ tail) ++ o2) rest = subst (λ (x : List Item). Opens bytes x rest) both opens2 in
-                let past = past_result op ops (mark ++ tail) o2 bytes rest far r opens3 (λ left q. make bytes left q r) later in
+                let past = past_front (IsDoneFault ops) (IsDoneFault (op ∷ ops)) (mark ++ tail) o2 bytes rest far r opens3 (λ left q. make bytes left q r) later in
                 subst (λ (x : List Item). IsDoneFault (op ∷ ops) bytes (length (bytes_of x) + far) r) (sym both) past
           ] in
           subst (λ (x : List Item). IsDoneFault (op ∷ ops) bytes (length (bytes_of x) + far) r) (sym c.1) result
@@ -139,20 +90,20 @@ back_step op ops mark tail others whole in_front in_tail grow make backs o more 
 back_last : (ops : List PartOp) (h : MultiHeader) → HaveBytes (marked h) → Ends ops h → Backs ops (marked h)
 back_last ops h have not o more e bytes rest opens k next far r bad =
     let n = next more (subst (AreMarked ops) e (last ops h have not)) in
-    within_mark ops h o n.0 n.1 have (e ∙ ap (λ (x : List Item). o ++ x) n.2) bytes rest opens k n.3 far r bad
+    in_mark ops bytes _ r (within_mark h o n.0 n.1 have (e ∙ ap (λ (x : List Item). o ++ x) n.2) bytes rest opens k n.3 far r bad)
 
 back : {ops : List PartOp} {items : List Item} → AreMarked ops items → Backs ops items
 back (last ops h have not) = back_last ops h have not
 back (result_before op ops result others v w) =
     back_step op ops (marked (result_header op)) result others (result_before op ops result others v w)
-    (λ o i m. within_mark (op ∷ ops) (result_header op) o i m (result_bytes op))
+    (λ o i m e bytes rest opens k kind far r bad. in_mark (op ∷ ops) bytes _ r (within_mark (result_header op) o i m (result_bytes op) e bytes rest opens k kind far r bad))
     (λ o i m e bytes rest opens k kind next. within_result op ops o i m (subst (IsValueOf (result_layout op)) e v) bytes rest opens k next)
     (λ x. result_before op ops result x v)
     (λ bytes left q r e. behind_result op ops result bytes left q r v e)
     (back w)
 back (error_before op ops n others have w) =
     back_step op ops (marked (error_header n)) (number_items n) others (error_before op ops n others have w)
-    (λ o i m. within_mark (op ∷ ops) (error_header n) o i m (have_parts (marked (error_header n)) (number_items n) have).0)
+    (λ o i m e bytes rest opens k kind far r bad. in_mark (op ∷ ops) bytes _ r (within_mark (error_header n) o i m (have_parts (marked (error_header n)) (number_items n) have).0 e bytes rest opens k kind far r bad))
     (λ o i m e bytes rest opens k kind next. within_number op ops n o i m have e bytes rest opens k kind)
     (λ x. error_before op ops n x have)
     (λ bytes left q r e. behind_error op ops n bytes left q r have e)

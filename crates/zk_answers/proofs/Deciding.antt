@@ -7,11 +7,10 @@ use Rattle.zk_jute.specs.declared.fault.Reason.TheVariants.{Trailing, EventErr, 
 use Rattle.zk_jute.specs.Item.{Int, Item, AnInt, bytes_of, HaveBytes}
 use Rattle.zk_jute.specs.Layout.{Layout, End, One, Unfolds, IsValueOf}
 use Rattle.zk_jute.specs.Wired.{ustring, vector}
-use Rattle.zk_jute.specs.Flagged.{flag_items}
 use Rattle.zk_jute.proofs.Steps.{IsBytes}
 use Rattle.zk_jute.proofs.Layouts.{have_both, bytes_both}
 use Rattle.zk_jute.proofs.Covers.{Covers, int_covered, text_covered, vector_covered}
-use Rattle.zk_jute.proofs.Deciding.{Starts, HasFault, layout_decided, left, whole_of, IsFlaggedWhole, flagged_decided}
+use Rattle.zk_jute.proofs.Deciding.{Starts, HasFault, layout_decided, left, whole_of, flagged_decided}
 use Rattle.zk_records.specs.Records.{connect_response, reply_header, multi_header, watcher_event}
 use Rattle.zk_records.specs.declared.header.ReplyHeader.{ReplyHeader}
 use Rattle.zk_records.specs.declared.header.MultiHeader.{MultiHeader}
@@ -21,8 +20,8 @@ use Rattle.zk_records.specs.declared.op.PartOp.{PartOp}
 use Rattle.zk_records.specs.declared.op.PartOp.TheVariants as parts
 use Rattle.zk_records.proofs.Covered.{connect_response_covered, reply_header_covered, multi_header_covered, watcher_event_covered, stat_covered, data_body_covered, acl_body_covered, children_body_covered, create_body_covered}
 use Rattle.zk_asks.specs.Parts.{end_header, marked}
-use Rattle.zk_asks.proofs.Choices.{int_decided, is_header}
-use Rattle.zk_asks.proofs.Deciding.{flag_has}
+use Rattle.zk_asks.proofs.Choices.{int_decided, header_decided}
+use Rattle.zk_asks.proofs.Deciding.{flagged_whole}
 use Rattle.zk_answers.specs.Held.{PartDone, Body, Reply, ServerFrame}
 use Rattle.zk_answers.specs.declared.frame.PartDoneOf.TheVariants as done
 use Rattle.zk_answers.specs.declared.frame.OutcomeOf.TheVariants as outcome
@@ -41,16 +40,10 @@ abbrev pub ConnectedIs : List ℕ → Type 0
 ConnectedIs bytes = (s : ServerFrame) × IsConnected s × IsSent s × (payload s ≡ bytes)
 
 pub connected_decided : (bytes : List ℕ) → IsBytes bytes → ConnectedIs bytes ⊎ HasFault IsConnectedFault bytes
-connected_decided bytes fits = elim (flagged_decided connect_response.layout bytes fits) [ inl w ↦ inl (found w) | inr f ↦ inr f ] where
-  found : IsFlaggedWhole connect_response.layout bytes → ConnectedIs bytes
-  found w =
-      let hello = connect_response_covered w.value w.is.0 in
-      let have = subst HaveBytes (sym hello.1) w.is.1 in (
-        frame.Connected hello.0 w.flag,
-        tt,
-        (tt, tt, have_both (connect_response.items hello.0) (flag_items w.flag) have (flag_has w.flag)),
-        ap (λ (z : List Item). bytes_of (z ++ flag_items w.flag)) hello.1 ∙ sym w.whole,
-      )
+connected_decided bytes fits = elim (flagged_decided connect_response.layout bytes fits) [
+  | inl s ↦ let w = flagged_whole connect_response connect_response_covered bytes s in inl (frame.Connected w.0 w.1, tt, (tt, tt, w.2), w.3)
+  | inr f ↦ inr f
+]
 
 -- ---- the header
 
@@ -162,7 +155,7 @@ module _ (bytes : List ℕ) (s : Starts multi_header.layout bytes) (h : MultiHea
   opens = s.splits ∙ ap (λ (z : List Item). bytes_of z ++ s.rest) (sym head)
 
   last_decided : Tells [] bytes ⊎ HasFault (IsDoneFault []) bytes
-  last_decided = elim (is_header h end_header) [
+  last_decided = elim (header_decided h end_header) [
     | inl e ↦ inl (record { dones = []; rest = s.rest; all = tt; have = subst (λ (z : MultiHeader). HaveBytes (marked z)) e have_head; splits = opens ∙ ap (λ (z : MultiHeader). bytes_of (marked z) ++ s.rest) e })
     | inr not ↦ inr (0, BadPart, bad_mark [] bytes s.rest h have_head opens not)
   ]
@@ -219,9 +212,9 @@ module _ (bytes : List ℕ) (s : Starts multi_header.layout bytes) (h : MultiHea
             ]
 
     one_decided : OneDecided
-    one_decided = elim (is_header h (result_header op)) [
+    one_decided = elim (header_decided h (result_header op)) [
       | inl is ↦ result is
-      | inr n ↦ elim (is_header h (error_header h.err)) [
+      | inr n ↦ elim (header_decided h (error_header h.err)) [
         | inl is ↦ error h.err is
         | inr m ↦ inr (0, BadPart, bad_mark (op ∷ left) bytes s.rest h have_head opens (λ may. elim may [ inl r ↦ n r | inr x ↦ m (x.1 ∙ ap error_header (sym (ap (λ (z : MultiHeader). z.err) x.1))) ]))
       ]
@@ -253,12 +246,12 @@ record HoldsRow (r : Row) (left : List PartOp) (bytes : List ℕ) : Type 0 where
   have : HaveBytes (items_in r content)
   whole : bytes ≡ bytes_of (items_in r content)
 
-abbrev Covered : Row → Type 0
+abbrev pub Covered : Row → Type 0
 Covered (holds make w) = Covers w
 Covered (bare b) = Unit {0}
 Covered multi = Unit {0}
 
-covered : (op : Op) → Covered (row_of op)
+pub covered : (op : Op) → Covered (row_of op)
 covered ops.Create = text_covered
 covered _ = search records
 

@@ -8,11 +8,10 @@ use Rattle.std.proofs.Math.Seq.{drop-append_seam}
 use Rattle.std.proofs.lemmas.List.{length-append}
 use Rattle.zk_jute.specs.declared.fault.ItemFault.{ItemFault}
 use Rattle.zk_jute.specs.Item.{Item, bytes_of, HaveBytes}
-use Rattle.zk_jute.specs.Layout.{Layout, End, IsValueOf}
+use Rattle.zk_jute.specs.Layout.{Layout, End, Unfolds, IsValueOf}
 use Rattle.zk_jute.specs.Told.{StandsAt, HasSureFault, IsToldAt, IsSurelyToldAt}
 use Rattle.zk_jute.specs.Verdict.{Says, IsValueAt}
-use Rattle.zk_jute.specs.Wired.{Wired}
-use Rattle.zk_jute.proofs.Covers.{Covers, text_covered}
+use Rattle.zk_jute.proofs.Covers.{text_covered}
 use Rattle.zk_jute.proofs.Judged.{errs_more}
 use Rattle.zk_records.specs.Records.{reply_header}
 use Rattle.zk_records.specs.declared.header.ReplyHeader.{ReplyHeader}
@@ -26,33 +25,44 @@ use Rattle.zk_answers.specs.declared.frame.PartDoneOf.TheVariants as done
 use Rattle.zk_answers.specs.declared.frame.BodyOf.TheVariants as body
 use Rattle.zk_answers.specs.declared.frame.OutcomeOf.TheVariants as outcome
 use Rattle.zk_answers.specs.Results.{Own, IsDoneFault, result_of, result_layout}
-use Rattle.zk_answers.specs.Rows.{op_of_body, body_items}
-use Rattle.zk_answers.specs.Frames.{BodyFits}
-use Rattle.zk_answers.specs.Faults.{Shape, Fields, IsShapeFault, body_shape, IsHead}
+use Rattle.zk_answers.specs.Rows.{Row, holds, bare, multi, row_of, Content, remake, items_in, body_items}
+use Rattle.zk_answers.specs.Faults.{Shape, Fields, Results, IsShapeFault, shape_in, body_shape, IsHead}
 use Rattle.zk_answers.specs.Fronts.{AreDonesAt, IsReplyUnder, IsResultAt}
 use Rattle.zk_answers.specs.Scanned.{IsBodyAt, IsOutcomeAt}
+use Rattle.zk_answers.proofs.Bodies.{made_is, RowFits, made_fits}
+use Rattle.zk_answers.proofs.Deciding.{Covered, covered}
 use Rattle.zk_answers.proofs.Heads.{head_is}
 use Rattle.zk_answers.proofs.Refusals.{reply_found}
+
+-- what a row's fields are is of its content
+row_covered : (r : Row) → Covered r → (left : List PartOp) (l : Layout) → shape_in r left ≡ Fields l → (items : List Item) → Unfolds l items → (x : Content r) × RowFits r left x × (items_in r x ≡ items)
+row_covered (holds make w) covers left l is items v =
+    let both : Fields w.layout ≡ Fields l = is in
+    let same : l ≡ w.layout = cc in
+    let x = covers items (subst (λ (m : Layout). Unfolds m items) same v) in
+    (x.0, tt, x.1)
+row_covered (bare b) covers left l is items v =
+    let both : Fields End ≡ Fields l = is in
+    let same : l ≡ End = cc in
+    (tt, tt, sym (subst (λ (m : Layout). Unfolds m items) same v))
+row_covered multi covers left l is items v = let both : Results left ≡ Fields l = is in absurd cc
 
 module _ (src : List ℕ) (place : ℕ) (op : Op) (left : List PartOp) where
   abbrev pub BodyEnds : {V : Type 0} → Result ℕ V → Type 0
   BodyEnds result = IfOk result (λ end. (b : Body) × IsBodyAt op left b src place end)
 
-  -- of one record
-  pub of_record : {V X : Type 0} (w : Wired X) → Covers w → (make : X → Body) → ((x : X) → op_of_body (make x) ≡ op) → ((x : X) → BodyFits left (make x)) → ((x : X) → body_items (make x) ≡ w.items x)
-      → (result : Result ℕ V) → IfOk result (IsValueAt (IsValueOf w.layout) src place) → BodyEnds result
-  of_record w covers make is fits same (Ok end) v =
-      let x = covers v.0 v.1.0 in
-      let items : v.0 ≡ body_items (make x.0) = sym x.1 ∙ sym (same x.0) in
-      (make x.0, (is x.0, fits x.0, subst (λ (i : List Item). HaveBytes i) items v.1.1, subst (λ (i : List Item). StandsAt i src place end) items v.2))
-  of_record w covers make is fits same (Err e) v = tt
+  -- of fields
+  pub of_fields : {V : Type 0} (l : Layout) → body_shape op left ≡ Fields l → (result : Result ℕ V) → IfOk result (IsValueAt (IsValueOf l) src place) → BodyEnds result
+  of_fields l is (Ok end) v =
+      let x = row_covered (row_of op) (covered op) left l is v.0 v.1.0 in
+      let m = made_is op x.0 in
+      let items : v.0 ≡ body_items (remake (row_of op) x.0) = sym x.2 ∙ sym m.1 in
+      (remake (row_of op) x.0, (m.0, made_fits op left x.0 x.1, subst (λ (i : List Item). HaveBytes i) items v.1.1, subst (λ (i : List Item). StandsAt i src place end) items v.2))
+  of_fields l is (Err e) v = tt
 
   -- of nothing
-  pub of_nothing : (b : Body) → op_of_body b ≡ op → BodyFits left b → body_items b ≡ [] → (b : Body) × IsBodyAt op left b src place place
-  of_nothing b is fits same = (
-    b,
-    (is, fits, subst (λ (i : List Item). HaveBytes i) (sym same) tt, subst (λ (i : List Item). StandsAt i src place place) (sym same) (refl, omega arith)),
-  )
+  pub of_nothing : body_shape op left ≡ Fields End → (b : Body) × IsBodyAt op left b src place place
+  of_nothing is = of_fields {V = ⊥} End is (Ok place) ([], (refl, tt), (refl, omega arith))
 
   -- a record's fault is the body's
   sure : (l : Layout) → body_shape op left ≡ Fields l → (e : ItemFault) → HasSureFault (IsValueOf l) src place e → IsSurelyToldAt (IsShapeFault (body_shape op left)) src place e

@@ -20,6 +20,7 @@ use Rattle.zk_answers.specs.Faults.{IsHead}
 use Rattle.zk_answers.specs.Frames.{err_of, header_of, event_header, rest_items, IsEvent, IsOutcome, IsSent, IsReplyTo, OutcomeFits, payload}
 use Rattle.zk_answers.specs.Rows.{Content, row_of, remake, items_in, op_of_body, body_items}
 use Rattle.zk_answers.specs.Known.{ABodyStands}
+use Rattle.zk_asks.proofs.Knowing.{IsThe}
 use Rattle.zk_answers.proofs.Bodies.{IsMade, is_made}
 use Rattle.zk_answers.proofs.Heads.{head_unique}
 use Rattle.zk_answers.proofs.Replies.{reply_heads, reply_same}
@@ -118,13 +119,12 @@ content_there o src place is b =
     (m.0, b.1, subst HaveBytes (sym m.2) b.3, subst (λ (i : List Item). StandsAt i src place b.1) (sym m.2) b.4)
 
 -- what an operation's own content makes
-module _ (op : Op) (src : List ℕ) (place : ℕ) (x : Content (row_of op)) where
-  pub content_is : ((y : Content (row_of op)) (end : ℕ) → HaveBytes (items_in (row_of op) y) → StandsAt (items_in (row_of op) y) src place end → x ≡ y)
-      → (b : Body) (end : ℕ) → op_of_body b ≡ op → HaveBytes (body_items b) → StandsAt (body_items b) src place end → remake (row_of op) x ≡ b
+module _ (op : Op) (src : List ℕ) (place : ℕ) (x : Content (row_of op) × ℕ) where
+  pub content_is : IsThe (items_in (row_of op)) src place x → (b : Body) (end : ℕ) → op_of_body b ≡ op → HaveBytes (body_items b) → StandsAt (body_items b) src place end → remake (row_of op) x.0 ≡ b
   unfolding IsMade
   content_is only b end of have stands =
       let m : IsMade op b = subst (λ (o : Op). IsMade o b) of (is_made b) in
-      ap (remake (row_of op)) (only m.0 end (subst HaveBytes (sym m.2) have) (subst (λ (i : List Item). StandsAt i src place end) (sym m.2) stands)) ∙ m.1
+      ap (λ (z : Content (row_of op) × ℕ). remake (row_of op) z.0) (only m.0 end (subst HaveBytes (sym m.2) have) (subst (λ (i : List Item). StandsAt i src place end) (sym m.2) stands)) ∙ m.1
 
 -- ---- an event
 

@@ -1,6 +1,5 @@
 pub mod Heads
 pub mod Connected
-pub mod Placed
 pub mod Dones
 pub mod Results
 pub mod Rests

@@ -31,9 +31,11 @@ use Rattle.zk_answers.specs.Fronts.{AreDonesAt, IsResultAt, IsDoneAt, IsDoneFaul
 use Rattle.zk_answers.specs.Held.{PartDone}
 use Rattle.zk_answers.specs.declared.frame.PartDoneOf.TheVariants as done
 use Rattle.zk_answers.specs.Results.{error_header, result_header, done_items, mark_before, result_of, result_layout, Answers, AnswerAll, Own}
-use Rattle.zk_answers.specs.Shown.{stat_of, counts_value, stat_value, result_value, done_value}
+use Rattle.zk_records.specs.Made as made
+use Rattle.zk_answers.specs.Shown.{counts_value, stat_value, result_value, done_value}
 use Rattle.zk_asks.proofs.Parted.{nine, mark_same}
 use Rattle.zk_asks.proofs.Parts.{mark_is}
+use Rattle.zk_asks.proofs.Knowing.{IsThe, found_there}
 use Rattle.zk_answers.proofs.Dones.{not_failed}
 use Rattle.zk_answers.proofs.Outcomes.{result_inside}
 
@@ -62,7 +64,7 @@ module _ (src : List ℕ) where
       let three = both_valued long (long and (long and w)) src (long_at src) (both_at (long_at src) (both_at (long_at src) v)) (long_valued src) two in
       let value = both_at (long_at src) (both_at (long_at src) (both_at (long_at src) v)) in
       both_valued long (long and (long and (long and w))) src (long_at src) value (long_valued src) three place
-      ∙ recast (long and (long and (long and (long and w)))) stat.items stat_of (λ p. refl) (both_at (long_at src) value place)
+      ∙ recast (long and (long and (long and (long and w)))) stat.items made.stat (λ p. refl) (both_at (long_at src) value place)
 
 -- ---- what a result is made of
 
@@ -189,6 +191,13 @@ module _ (src : List ℕ) (place : ℕ) (le : place ≤ length src) (op : PartOp
 
   pub own_is_it : (x : PartDone) (at : ℕ) → Own op x → HaveBytes (result_of x) → StandsAt (result_of x) src place at → ◌≡◌ {A = PartDone × ℕ} (x, at) (d, end)
   own_is_it x at o h s = one_value (result_value (part_numbered (part_number op)) src place) (x, at) (d, end) (own_told x at o h s) (own_told d end own have stands)
+
+-- the record that was read there is its own
+pub own_known : {X : Type 0} (w : Wired X) (src : List ℕ) (place : ℕ) → place ≤ length src → (op : PartOp) (x : X × ℕ) → IsThe w.items src place x → OneStands w.items src place → (y : PartDone) → result_of y ≡ w.items x.0 → Own op y
+    → (d : PartDone) (end : ℕ) → Own op d → HaveBytes (result_of d) → StandsAt (result_of d) src place end → ◌≡◌ {A = PartDone × ℕ} (y, x.1) (d, end)
+own_known w src place le op x is there y same mine d end own have stands =
+    let found = found_there w src place x is there in
+    own_is_it src place le op d end own have stands y x.1 mine (subst HaveBytes (sym same) found.0.1) (subst (λ (i : List Item). StandsAt i src place x.1) (sym same) found.1)
 
 module _ (src : List ℕ) (d : PartDone) (place end : ℕ) (le : place ≤ length src) (have : HaveBytes (done_items d)) (stands : StandsAt (done_items d) src place end)
     (header : MultiHeader) (after : ℕ) (v : IsValueOf multi_header.layout (marked header)) (s : StandsAt (marked header) src place after) where

@@ -5,7 +5,7 @@ use Rattle.std.proofs.lemmas.Int.{ints}
 use Rattle.std.proofs.lemmas.List.{append-nil, length-append, append_cancel_left}
 use Rattle.zk_jute.specs.declared.fault.Reason.{Reason}
 use Rattle.zk_jute.specs.declared.fault.Reason.TheVariants.{BadPart}
-use Rattle.zk_jute.specs.Item.{Kind, Int, Item, AnInt, ABoolean, kind_of, bytes_of, HaveBytes}
+use Rattle.zk_jute.specs.Item.{Kind, Int, Item, AnInt, kind_of, bytes_of, HaveBytes}
 use Rattle.zk_jute.specs.Layout.{End, One, IsValueOf}
 use Rattle.zk_jute.specs.Apart.{cons_is, unfolds_only}
 use Rattle.zk_jute.specs.Faults.{Begins, IsNext, IsFault, Opens}
@@ -15,7 +15,7 @@ use Rattle.zk_records.specs.declared.op.PartOp.{PartOp}
 use Rattle.zk_records.specs.Records.{multi_header}
 use Rattle.zk_asks.specs.Parts.{marked, end_header}
 use Rattle.zk_asks.proofs.Openings.{NextIs, next_follows, behind_front}
-use Rattle.zk_asks.proofs.Opened.{mark_shape}
+use Rattle.zk_asks.proofs.Opened.{mark_shape, loose, loose_begins}
 use Rattle.zk_answers.specs.Results.{result_header, error_header, result_layout, IsDoneFault, in_mark, bad_mark, in_result, in_error, other_error, behind_result, behind_error}
 use Rattle.zk_answers.specs.Openings.{number_items, AreResults, no_result, a_result, an_error, Ends, AreMarked, last, result_before, error_before, no_mark, no_number, IsBadPart, bad_part}
 use Rattle.zk_asks.proofs.Parts.{mark_is}
@@ -23,20 +23,6 @@ use Rattle.zk_asks.proofs.Parted.{mark_same, end_bytes}
 use Rattle.zk_answers.proofs.Dones.{result_mark, not_error, error_same}
 
 -- ---- headers
-
--- the same first numbers with another err
-loose : MultiHeader → MultiHeader
-loose h = record { kind = h.kind; done = h.done; err = pos 1 }
-
-loose_begins : (o : List Item) (i : Item) (m : List Item) (h : MultiHeader) → o ++ (i ∷ m) ≡ marked h → (more : List Item) × (marked (loose h) ≡ o ++ more)
-unfolding loose
-loose_begins [] i m h e = (marked (loose h), refl)
-loose_begins (x ∷ []) i m h e = let same : AnInt h.kind ≡ x = cc in (ABoolean h.done ∷ AnInt (pos 1) ∷ [], ap (λ (z : Item). z ∷ ABoolean h.done ∷ AnInt (pos 1) ∷ []) same)
-loose_begins (x ∷ y ∷ []) i m h e =
-    let same : AnInt h.kind ≡ x = cc in
-    let other : ABoolean h.done ≡ y = cc in
-    (AnInt (pos 1) ∷ [], ap (λ (z : Item). z ∷ ABoolean h.done ∷ AnInt (pos 1) ∷ []) same ∙ ap (λ (z : Item). x ∷ z ∷ AnInt (pos 1) ∷ []) other)
-loose_begins (x ∷ y ∷ z ∷ o) i m h e = absurd (omega (arith, ap length e, length-append o (i ∷ m)))
 
 -- an error's header, or none
 abbrev IsErrorOrNot : MultiHeader → Type 0
@@ -61,26 +47,26 @@ ends (op ∷ ops) = (not_end op, not_end_error)
 pub ending : (ops : List PartOp) → AreMarked ops (marked end_header)
 ending ops = last ops end_header end_bytes (ends ops)
 
-loose_bytes : (h : MultiHeader) → HaveBytes (marked h) → HaveBytes (marked (loose h))
+loose_bytes : (h : MultiHeader) → HaveBytes (marked h) → HaveBytes (marked (loose (pos 1) h))
 unfolding loose
 loose_bytes h have = (have.0, (tt, (omega (arith, ints), tt)))
 
-loose_marked : (ops : List PartOp) (h : MultiHeader) → HaveBytes (marked h) → Begins (AreMarked ops) (marked (loose h))
+loose_marked : (ops : List PartOp) (h : MultiHeader) → HaveBytes (marked h) → Begins (AreMarked ops) (marked (loose (pos 1) h))
 unfolding loose
-loose_marked [] h have = ([], subst (AreMarked []) (sym (append-nil (marked (loose h)))) (last [] (loose h) (loose_bytes h have) tt))
+loose_marked [] h have = ([], subst (AreMarked []) (sym (append-nil (marked (loose (pos 1) h)))) (last [] (loose (pos 1) h) (loose_bytes h have) tt))
 loose_marked (op ∷ ops) h have =
     elim (error_or_not h.kind h.done (pos 1)) [
       | inl is ↦
           let one : HaveBytes (marked (error_header (pos 1)) ++ number_items (pos 1)) = (omega (arith, ints), (tt, (omega (arith, ints), (omega (arith, ints), tt)))) in
           (number_items (pos 1) ++ marked end_header, subst (λ (x : MultiHeader). AreMarked (op ∷ ops) (marked x ++ (number_items (pos 1) ++ marked end_header))) (sym is) (error_before op ops (pos 1) (marked end_header) one (ending ops)))
       | inr not ↦
-          let other : loose h ≢ result_header op = λ e. let err : pos 1 ≡ pos 0 = ap (λ (x : MultiHeader). x.err) e in absurd cc in
-          ([], subst (AreMarked (op ∷ ops)) (sym (append-nil (marked (loose h)))) (last (op ∷ ops) (loose h) (loose_bytes h have) (other, not)))
+          let other : loose (pos 1) h ≢ result_header op = λ e. let err : pos 1 ≡ pos 0 = ap (λ (x : MultiHeader). x.err) e in absurd cc in
+          ([], subst (AreMarked (op ∷ ops)) (sym (append-nil (marked (loose (pos 1) h)))) (last (op ∷ ops) (loose (pos 1) h) (loose_bytes h have) (other, not)))
     ]
 
 mark_begins : (ops : List PartOp) (o : List Item) (i : Item) (m : List Item) (h : MultiHeader) → o ++ (i ∷ m) ≡ marked h → HaveBytes (marked h) → Begins (AreMarked ops) o
 mark_begins ops o i m h e have =
-    let c = loose_begins o i m h e in
+    let c = loose_begins (pos 1) o i m h e in
     let b = loose_marked ops h have in
     (c.0 ++ b.0, subst (AreMarked ops) (ap (λ (x : List Item). x ++ b.0) c.1 ∙ append_assoc o c.0 b.0) b.1)
 

@@ -9,6 +9,7 @@ use Rattle.zk_jute.specs.declared.fault.Reason.{Reason}
 use Rattle.zk_jute.specs.declared.fault.Reason.TheVariants.{BadPart}
 use Rattle.zk_jute.specs.Item.{Int, Item, AnInt, bytes_of, HaveBytes}
 use Rattle.zk_jute.specs.Layout.{End, One, IsValueOf}
+use Rattle.zk_jute.specs.Faults.{IsFault}
 use Rattle.zk_jute.specs.Reading.{told_place}
 use Rattle.zk_jute.specs.Told.{StandsAt, IsToldFault, IsToldAt}
 use Rattle.zk_jute.proofs.Layouts.{bytes_both, have_both, have_parts}
@@ -18,6 +19,7 @@ use Rattle.zk_records.specs.declared.op.PartOp.{PartOp}
 use Rattle.zk_records.specs.Records.{multi_header}
 use Rattle.zk_answers.specs.Held.{PartDone}
 use Rattle.zk_asks.specs.Parts.{marked}
+use Rattle.zk_asks.proofs.Parts.{told_behind, told_bad}
 use Rattle.zk_answers.proofs.Dones.{result_items, result_is, items_of, done_is}
 use Rattle.zk_answers.specs.Results.{result_header, error_header, result_layout, done_items, Answers, AnswerAll, MayAnswer, IsDoneFault, in_mark, bad_mark, in_result, in_error, other_error, behind_result, behind_error}
 
@@ -27,49 +29,30 @@ result_mark ops src place e h = elim h [ inl m ↦ inl m | inr f ↦ inr (f.0, i
 
 pub result_bad : (ops : List PartOp) (src : List ℕ) (place after : ℕ) (header : MultiHeader) → IsValueOf multi_header.layout (marked header) → StandsAt (marked header) src place after → (MayAnswer ops header → ⊥)
     → IsToldAt (IsDoneFault ops) src place (record { place = told_place place; reason = BadPart })
-unfolding IsToldAt
-result_bad ops src place after header v s not =
-    let same : place ≡ place + 0 = omega arith in
-    inr (0, bad_mark ops (drop place src) (drop after src) header v.1 s.0 not, ap told_place same)
+result_bad ops src place after header v s not = told_bad (IsDoneFault ops) src place (bad_mark ops (drop place src) (drop after src) header v.1 s.0 not)
 
 pub result_inside : (op : PartOp) (ops : List PartOp) (src : List ℕ) (place after : ℕ) (header : MultiHeader) (e : ItemFault) → StandsAt (marked header) src place after → header ≡ result_header op
     → IsToldFault (IsValueOf (result_layout op)) src after e → IsToldAt (IsDoneFault (op ∷ ops)) src place e
 unfolding IsToldAt
 result_inside op ops src place after header e s is h =
-    elim h [
-      | inl m ↦ inl m
-      | inr f ↦
-          let t : StandsAt (marked (result_header op)) src place after = subst (λ (x : MultiHeader). StandsAt (marked x) src place after) is s in
-          let x = t.1 in
-          let n = length (bytes_of (marked (result_header op))) in
-          let told : after + f.0 ≡ place + (n + f.0) = omega arith in
-          inr (n + f.0, in_result op ops (drop place src) (drop after src) f.0 e.reason t.0 f.1, f.2 ∙ ap told_place told)
-    ]
+    let t : StandsAt (marked (result_header op)) src place after = subst (λ (x : MultiHeader). StandsAt (marked x) src place after) is s in
+    told_behind (IsFault (IsValueOf (result_layout op))) (IsDoneFault (op ∷ ops)) (marked (result_header op)) src place after e t (λ q. in_result op ops (drop place src) (drop after src) q e.reason) h
 
 pub error_inside : (op : PartOp) (ops : List PartOp) (src : List ℕ) (place after : ℕ) (header : MultiHeader) (number : ℤ) (e : ItemFault) → HaveBytes (marked header) → StandsAt (marked header) src place after → header ≡ error_header number
     → IsToldFault (IsValueOf (One Int End)) src after e → IsToldAt (IsDoneFault (op ∷ ops)) src place e
 unfolding IsToldAt
 error_inside op ops src place after header number e have s is h =
-    elim h [
-      | inl m ↦ inl m
-      | inr f ↦
-          let t : StandsAt (marked (error_header number)) src place after = subst (λ (x : MultiHeader). StandsAt (marked x) src place after) is s in
-          let has : HaveBytes (marked (error_header number)) = subst (λ (x : MultiHeader). HaveBytes (marked x)) is have in
-          let x = t.1 in
-          let n = length (bytes_of (marked (error_header number))) in
-          let told : after + f.0 ≡ place + (n + f.0) = omega arith in
-          inr (n + f.0, in_error op ops number (drop place src) (drop after src) f.0 e.reason has t.0 f.1, f.2 ∙ ap told_place told)
-    ]
+    let t : StandsAt (marked (error_header number)) src place after = subst (λ (x : MultiHeader). StandsAt (marked x) src place after) is s in
+    let has : HaveBytes (marked (error_header number)) = subst (λ (x : MultiHeader). HaveBytes (marked x)) is have in
+    told_behind (IsFault (IsValueOf (One Int End))) (IsDoneFault (op ∷ ops)) (marked (error_header number)) src place after e t (λ q. in_error op ops number (drop place src) (drop after src) q e.reason has) h
 
 pub error_differs : (op : PartOp) (ops : List PartOp) (src : List ℕ) (place after end : ℕ) (header : MultiHeader) (number other : ℤ) → HaveBytes (marked header) → StandsAt (marked header) src place after → header ≡ error_header number
     → HaveBytes (AnInt other ∷ []) → StandsAt (AnInt other ∷ []) src after end → other ≢ number → IsToldAt (IsDoneFault (op ∷ ops)) src place (record { place = told_place place; reason = BadPart })
-unfolding IsToldAt
 error_differs op ops src place after end header number other have s is has t not =
     let u : StandsAt (marked (error_header number)) src place after = subst (λ (x : MultiHeader). StandsAt (marked x) src place after) is s in
     let head : HaveBytes (marked (error_header number)) = subst (λ (x : MultiHeader). HaveBytes (marked x)) is have in
     let both = stands_then (marked (error_header number)) (AnInt other ∷ []) src place after end u t in
-    let same : place ≡ place + 0 = omega arith in
-    inr (0, other_error op ops number other (drop place src) (drop end src) (have_both (marked (error_header number)) (AnInt other ∷ []) head has) both.0 not, ap told_place same)
+    told_bad (IsDoneFault (op ∷ ops)) src place (other_error op ops number other (drop place src) (drop end src) (have_both (marked (error_header number)) (AnInt other ∷ []) head has) both.0 not)
 
 -- ---- results so far
 

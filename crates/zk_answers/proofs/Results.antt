@@ -5,7 +5,8 @@ use Rattle.std.proofs.lemmas.List.{length-append}
 use Rattle.zk_jute.specs.declared.fault.Reason.{Reason}
 use Rattle.zk_jute.specs.declared.fault.Reason.TheVariants.{BadPart}
 use Rattle.zk_jute.specs.Item.{Int, Item, AnInt, bytes_of, HaveBytes}
-use Rattle.zk_jute.specs.Layout.{End, One, IsValueOf}
+use Rattle.zk_jute.specs.Layout.{Layout, End, One, IsValueOf}
+use Rattle.zk_jute.specs.Faults.{IsFault}
 use Rattle.zk_jute.specs.Wired.{int}
 use Rattle.zk_jute.proofs.Layouts.{bytes_only, bytes_both, have_parts}
 use Rattle.zk_jute.proofs.Sequels.{Same, Sequel, sequel_same, sequel_not}
@@ -16,7 +17,7 @@ use Rattle.zk_answers.specs.Held.{PartDone}
 use Rattle.zk_answers.specs.declared.frame.PartDoneOf.TheVariants as done
 use Rattle.zk_asks.specs.Parts.{end_header, marked}
 use Rattle.zk_answers.specs.Results.{result_header, error_header, done_items, multi_items, result_layout, Answers, AnswerAll, MayAnswer, IsDoneFault, in_mark, bad_mark, in_result, in_error, other_error, behind_result, behind_error}
-use Rattle.zk_answers.proofs.Placed.{Placed, placed_same, placed_not}
+use Rattle.zk_asks.proofs.Placed.{Placed, layout_exact, placed_same, placed_not}
 use Rattle.zk_asks.proofs.Parts.{mark_is}
 use Rattle.zk_asks.proofs.Parted.{mark_same, end_mark}
 use Rattle.zk_answers.proofs.Dones.{result_mark, not_error, error_same, done_of, result_items, result_is, result_apart, items_of, done_is, multi_more, split_items, an_int}
@@ -29,9 +30,13 @@ BehindResult ops items more p r = (behind : ℕ) × (p ≡ 9 + (length (bytes_of
 abbrev BehindNumber : ℤ → List PartOp → List Item → List ℕ → ℕ → Reason → Type 0
 BehindNumber e ops items more p r = (d : ℤ) × (items ≡ AnInt d ∷ []) × (((d ≢ e) × (p ≡ 0) × (r ≡ BadPart)) ⊎ ((d ≡ e) × BehindResult ops items more p r))
 
+-- behind a header
+abbrev Behind : Layout → (List Item → List ℕ → ℕ → Reason → Type 0) → List ℕ → ℕ → Reason → Type 0
+Behind l = Placed 9 (IsValueOf l) (IsFault (IsValueOf l))
+
 abbrev Continues : List PartOp → MultiHeader → List ℕ → ℕ → Reason → Type 0
 Continues [] h rest p r = ⊥
-Continues (op ∷ ops) h rest p r = ((h ≡ result_header op) × Placed 9 (result_layout op) (BehindResult ops) rest p r) ⊎ ((e : ℤ) × (h ≡ error_header e) × Placed 9 (One Int End) (BehindNumber e ops) rest p r)
+Continues (op ∷ ops) h rest p r = ((h ≡ result_header op) × Behind (result_layout op) (BehindResult ops) rest p r) ⊎ ((e : ℤ) × (h ≡ error_header e) × Behind (One Int End) (BehindNumber e ops) rest p r)
 
 abbrev Judged : List PartOp → MultiHeader → List ℕ → ℕ → Reason → Type 0
 Judged ops h rest p r = ((MayAnswer ops h → ⊥) × (p ≡ 0) × (r ≡ BadPart)) ⊎ Continues ops h rest p r
@@ -84,14 +89,14 @@ continues_same : (op : PartOp) (ops : List PartOp) → Once ops → (h : MultiHe
 continues_same op ops once h rest p q r s a b =
     elim a [
       | inl x ↦ elim b [
-        | inl y ↦ placed_same 9 (result_layout op) (BehindResult ops) rest (behind_same ops once) p q r s x.1 y.1
+        | inl y ↦ placed_same 9 (layout_exact (result_layout op)) (BehindResult ops) rest (behind_same ops once) p q r s x.1 y.1
         | inr y ↦ absurd (not_error op y.0 (sym x.0 ∙ y.1))
       ]
       | inr x ↦ elim b [
         | inl y ↦ absurd (not_error op x.0 (sym y.0 ∙ x.1))
         | inr y ↦
             let same : y.0 ≡ x.0 = error_same y.0 x.0 (sym y.1 ∙ x.1) in
-            placed_same 9 (One Int End) (BehindNumber x.0 ops) rest (number_same x.0 ops once) p q r s x.2 (subst (λ (e : ℤ). Placed 9 (One Int End) (BehindNumber e ops) rest q s) same y.2)
+            placed_same 9 (layout_exact (One Int End)) (BehindNumber x.0 ops) rest (number_same x.0 ops once) p q r s x.2 (subst (λ (e : ℤ). Behind (One Int End) (BehindNumber e ops) rest q s) same y.2)
       ]
     ]
 
@@ -145,7 +150,7 @@ done_not op ops d bytes rest answers have e later p r f =
           let split = split_items mark items bytes rest (e ∙ ap (λ (i : List Item). bytes_of i ++ rest) is) in
           marks_not (op ∷ ops) (result_header op) bytes (bytes_of items ++ rest) p r (result_mark op) split (inl refl)
           (λ c. elim c [
-            | inl y ↦ placed_not 9 (result_layout op) (BehindResult ops) (bytes_of items ++ rest) items rest (result_is op x.0, h.1) refl p r (λ b. later b.0 r b.2) y.1
+            | inl y ↦ placed_not 9 (layout_exact (result_layout op)) (BehindResult ops) (bytes_of items ++ rest) items rest (result_is op x.0, h.1) refl p r (λ b. later b.0 r b.2) y.1
             | inr y ↦ not_error op y.0 y.1
           ])
           f
@@ -158,7 +163,7 @@ done_not op ops d bytes rest answers have e later p r f =
           marks_not (op ∷ ops) (error_header x.0) bytes (bytes_of items ++ rest) p r (mark_is (error_header x.0) h.0) split (inr (x.0, refl))
           (λ c. elim c [
             | inl y ↦ not_error op x.0 (sym y.0)
-            | inr y ↦ placed_not 9 (One Int End) (BehindNumber y.0 ops) (bytes_of items ++ rest) items rest (an_int x.0 h.1) refl p r
+            | inr y ↦ placed_not 9 (layout_exact (One Int End)) (BehindNumber y.0 ops) (bytes_of items ++ rest) items rest (an_int x.0 h.1) refl p r
                 (λ b. let one : x.0 ≡ b.0 = int.tells_apart x.0 b.0 b.1 in let no : ⊥ = elim b.2 [ inl z ↦ z.0 (sym one ∙ error_same x.0 y.0 y.1) | inr z ↦ later z.1.0 r z.1.2 ] in no) y.2
           ])
           f

@@ -2,6 +2,7 @@
 use Rattle.std.specs.Prelude.{ℕ, ◌+◌, ℤ, List, Option, Some, None, Ok}
 use Rattle.zk_jute.specs.Reading.{Read, ◌>>=◌, read_map, int_at, long_at}
 use Rattle.zk_jute.specs.Shown.{text_value, both_at}
+use Rattle.zk_records.specs.Made as made
 use Rattle.zk_records.specs.declared.stat.Stat.{Stat}
 use Rattle.zk_records.specs.declared.op.PartOp.{PartOp}
 use Rattle.zk_records.specs.declared.op.PartOp.TheVariants as parts
@@ -14,27 +15,12 @@ use Rattle.zk_answers.specs.declared.frame.PartDoneOf.TheVariants as done
 abbrev pub Counts : Type 0
 Counts = ℤ × (ℤ × (ℤ × (ℤ × (ℤ × (ℤ × ℤ)))))
 
-abbrev pub stat_of : ℤ × (ℤ × (ℤ × (ℤ × Counts))) → Stat
-stat_of p = record {
-  czxid = p.0;
-  mzxid = p.1.0;
-  ctime = p.1.1.0;
-  mtime = p.1.1.1.0;
-  version = p.1.1.1.1.0;
-  cversion = p.1.1.1.1.1.0;
-  aversion = p.1.1.1.1.1.1.0;
-  ephemeral_owner = p.1.1.1.1.1.1.1.0;
-  data_length = p.1.1.1.1.1.1.1.1.0;
-  num_children = p.1.1.1.1.1.1.1.1.1.0;
-  pzxid = p.1.1.1.1.1.1.1.1.1.1;
-}
-
 abbrev pub counts_value : List ℕ → ℕ → Read Counts
 counts_value src =
     both_at (int_at src) (both_at (int_at src) (both_at (int_at src) (both_at (long_at src) (both_at (int_at src) (both_at (int_at src) (long_at src))))))
 
 abbrev pub stat_value : List ℕ → ℕ → Read Stat
-stat_value src place = read_map stat_of (both_at (long_at src) (both_at (long_at src) (both_at (long_at src) (both_at (long_at src) (counts_value src)))) place)
+stat_value src place = read_map made.stat (both_at (long_at src) (both_at (long_at src) (both_at (long_at src) (both_at (long_at src) (counts_value src)))) place)
 
 -- ---- the results
 

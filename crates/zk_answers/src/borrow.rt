@@ -36,21 +36,6 @@ pub fn borrow_connected<'a>(payload: &'a [u8]) -> Result<ServerRef<'a>, ItemFaul
     connected_in(payload)
 }
 
-/// The reply with the header `head` to `form`: what follows the header is judged.
-fn reply_in<'a, F: Asked>(
-    form: &F,
-    head: &ReplyHeader,
-    payload: &'a [u8],
-) -> Result<ServerRef<'a>, ItemFault>
-    requires head { (rest : List ℕ) × IsHead payload.now head.now rest }
-    requires reply { head.now.xid ≢ negsuc 0 }
-    ensures found { IfOk result (λ s. IsReplyTo (F.operation form.now) (F.part_ops form.now) s × IsSent s × (payload.now ≡ sent.payload s)) }
-    ensures fault { IfErr result (IsSurelyTold (IsReplyFault (F.operation form.now) (F.part_ops form.now) payload.now)) }
-{
-    judge_reply::<F, ItemFault>(form, head, payload)?;
-    Ok(known_reply::<true>(form.op(), payload))
-}
-
 /// The reply to `form`, borrowed, with the header `head`, which was read from the payload. Decides as `borrow_reply` does,
 /// and reads the header no second time.
 pub fn borrow_reply_under<'a, F: Asked>(
@@ -67,16 +52,8 @@ pub fn borrow_reply_under<'a, F: Asked>(
     // Else the first case that applies is reported.
     ensures fault { IfErr result (IsSurelyTold (IsReplyFault (F.operation form.now) (F.part_ops form.now) payload.now)) }
 {
-    reply_in(form, head, payload)
-}
-
-fn whole_reply<'a, F: Asked>(form: &F, payload: &'a [u8]) -> Result<ServerRef<'a>, ItemFault>
-    requires { (header : records.ReplyHeader) (rest : List ℕ) → IsHead payload.now header rest → header.xid ≢ negsuc 0 }
-    ensures found { IfOk result (λ s. IsReplyTo (F.operation form.now) (F.part_ops form.now) s × IsSent s × (payload.now ≡ sent.payload s)) }
-    ensures fault { IfErr result (IsSurelyTold (IsReplyFault (F.operation form.now) (F.part_ops form.now) payload.now)) }
-{
-    let (head, _) = read_ref::<ReplyHeader>(payload, 0)?;
-    reply_in(form, &head, payload)
+    judge_reply::<F, ItemFault>(form, head, payload)?;
+    Ok(known_reply::<true>(form.op(), payload))
 }
 
 /// A reply to the request `form`, borrowed. Decides as `read_reply` does, allocates nothing, and never returns `NoMemory`.
@@ -90,18 +67,8 @@ pub fn borrow_reply<'a, F: Asked>(form: &F, payload: &'a [u8]) -> Result<ServerR
     // Else the first case that applies is reported.
     ensures fault { IfErr result (IsSurelyTold (IsReplyFault (F.operation form.now) (F.part_ops form.now) payload.now)) }
 {
-    whole_reply(form, payload)
-}
-
-/// The event with the header `head`: what follows the header is judged.
-fn event_in<'a>(head: &ReplyHeader, payload: &'a [u8]) -> Result<ServerRef<'a>, ItemFault>
-    requires head { (rest : List ℕ) × IsHead payload.now head.now rest }
-    requires event { head.now.xid ≡ negsuc 0 }
-    ensures found { IfOk result (λ s. IsEvent s × IsSent s × (payload.now ≡ sent.payload s)) }
-    ensures fault { IfErr result (IsSurelyTold (IsEventFault payload.now)) }
-{
-    judge_event::<ItemFault>(head, payload)?;
-    Ok(event_ref(payload))
+    let (head, _) = read_ref::<ReplyHeader>(payload, 0)?;
+    borrow_reply_under(form, &head, payload)
 }
 
 /// An event, borrowed, with the header `head`, which was read from the payload. Decides as `borrow_event` does, and reads
@@ -119,16 +86,8 @@ pub fn borrow_event_under<'a>(
     // Else the first case that applies is reported.
     ensures fault { IfErr result (IsSurelyTold (IsEventFault payload.now)) }
 {
-    event_in(head, payload)
-}
-
-fn whole_event<'a>(payload: &'a [u8]) -> Result<ServerRef<'a>, ItemFault>
-    requires { (header : records.ReplyHeader) (rest : List ℕ) → IsHead payload.now header rest → header.xid ≡ negsuc 0 }
-    ensures found { IfOk result (λ s. IsEvent s × IsSent s × (payload.now ≡ sent.payload s)) }
-    ensures fault { IfErr result (IsSurelyTold (IsEventFault payload.now)) }
-{
-    let (head, _) = read_ref::<ReplyHeader>(payload, 0)?;
-    event_in(&head, payload)
+    judge_event::<ItemFault>(head, payload)?;
+    Ok(event_ref(payload))
 }
 
 /// An event, borrowed. Decides as `read_event` does, allocates nothing, and never returns `NoMemory`. Its header, if it
@@ -142,5 +101,6 @@ pub fn borrow_event<'a>(payload: &'a [u8]) -> Result<ServerRef<'a>, ItemFault>
     // Else the first case that applies is reported.
     ensures fault { IfErr result (IsSurelyTold (IsEventFault payload.now)) }
 {
-    whole_event(payload)
+    let (head, _) = read_ref::<ReplyHeader>(payload, 0)?;
+    borrow_event_under(&head, payload)
 }

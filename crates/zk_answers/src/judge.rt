@@ -2,7 +2,7 @@
 ghost use Rattle.std.specs.Prelude.{◌≡◌, ◌≢◌, ◌≤◌, ℕ, List, length, negsuc, IsOk, IfOk, IfErr};
 ghost use Rattle.zk_jute.specs.Told.{IsSurelyTold, IsSurelyToldAt};
 ghost use Rattle.zk_jute.specs.Verdict.{Says};
-ghost use Rattle.zk_answers.specs.Faults.{IsHead, IsShapeFault, body_shape, rest_shape, IsReplyFault, IsEventFault};
+ghost use Rattle.zk_answers.specs.Faults.{IsHead, Fields, IsShapeFault, body_shape, rest_shape, IsReplyFault, IsEventFault};
 ghost use Rattle.zk_answers.specs.Held.{Body, Outcome, ServerFrame};
 ghost use Rattle.zk_answers.specs.Frames.{IsEvent, IsSent};
 ghost use Rattle.zk_answers.specs.Frames as sent;
@@ -22,6 +22,21 @@ use zk_records::{
 /// The bytes of a reply's header.
 const HEADER: usize = 16;
 
+/// The place after the body at `place` of a reply to `form`, which is a record `R`.
+#[inline(always)]
+fn record_end<R: Ends, F: Asked, V: Verdict>(
+    _form: &F,
+    payload: &[u8],
+    place: usize,
+) -> Result<usize, V>
+    requires within { place ≤ length payload.now }
+    requires record { body_shape (F.operation _form.now) (F.part_ops _form.now) ≡ Fields R.wired.layout }
+    ensures found { IfOk result (λ end. (b : Body) × IsBodyAt (F.operation _form.now) (F.part_ops _form.now) b payload.now place end) }
+    ensures fault { IfErr result (Says V.tells (IsSurelyToldAt (IsShapeFault (body_shape (F.operation _form.now) (F.part_ops _form.now))) payload.now place)) }
+{
+    R::end::<V>(payload, place)
+}
+
 /// The place after the body at `place` of a reply to `form`.
 #[inline(always)]
 fn body_end<F: Asked, V: Verdict>(form: &F, payload: &[u8], place: usize) -> Result<usize, V>
@@ -33,8 +48,8 @@ fn body_end<F: Asked, V: Verdict>(form: &F, payload: &[u8], place: usize) -> Res
         ($form:ident: $($($one:ident)|+: $only:ident $name:ident $kind:ident),+;
          $($both:ident: $first:ident $first_name:ident $first_kind:ident $borrowed:ident),+; $($bare:ident)|+) => {
             match $form.op() {
-                $($(Op::$one)|+ => <borrowed!($kind) as Ends>::end::<V>(payload, place),)+
-                $(Op::$both => <$borrowed as Ends>::end::<V>(payload, place),)+
+                $($(Op::$one)|+ => record_end::<borrowed!($kind), F, V>($form, payload, place),)+
+                $(Op::$both => record_end::<$borrowed, F, V>($form, payload, place),)+
                 $(Op::$bare)|+ => Ok(place),
                 Op::Multi => results_end::<F, V>($form, payload, place),
             }

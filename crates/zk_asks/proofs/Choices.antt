@@ -76,7 +76,7 @@ number_decided profile number =
 
 -- ---- headers of parts
 
-header_decided : (h g : MultiHeader) → Decided (h ≡ g)
+pub header_decided : (h g : MultiHeader) → Decided (h ≡ g)
 header_decided h g =
     elim (both_decided (int_decided h.kind g.kind) (both_decided (bool_decided h.done g.done) (int_decided h.err g.err))) [
       | inl e ↦ inl (λ i. record { kind = e.0 i; done = e.1.0 i; err = e.1.1 i })
@@ -93,6 +93,3 @@ header_may h =
         | inr n ↦ inr (λ m. elim m [ inl f ↦ each_part (λ op. h ≡ part_header op → ⊥) none f.0 f.1 | inr e ↦ n e ])
       ]
     ]
-
-pub is_header : (h g : MultiHeader) → Decided (h ≡ g)
-is_header = header_decided

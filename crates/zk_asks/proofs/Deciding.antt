@@ -1,11 +1,12 @@
 -- Every payload of a client has its form, or a fault.
-use Rattle.std.proofs.Common.{◌≡◌, ℕ, zero, suc, ◌+◌, ◌<◌, ◌≤◌, ◌⊎◌, inl, inr, List, [], ◌∷◌, ◌++◌, length, Option, Some, None, refl, sym, ap, subst, ◌∙◌, append_assoc, arith}
+use Rattle.std.proofs.Common.{◌≡◌, ℕ, zero, suc, ◌+◌, ◌<◌, ◌≤◌, ◌⊎◌, inl, inr, Bool, List, [], ◌∷◌, ◌++◌, length, Option, Some, None, refl, sym, ap, subst, ◌∙◌, append_assoc, arith}
 use Rattle.std.specs.Prelude.{ℤ}
 use Rattle.std.specs.List.{flat_map}
 use Rattle.std.proofs.lemmas.List.{length-append}
 use Rattle.zk_jute.specs.declared.fault.Reason.TheVariants.{Trailing, UnknownOp, XidOp, BadPart}
 use Rattle.zk_jute.specs.Item.{Item, bytes_of, HaveBytes}
 use Rattle.zk_jute.specs.Layout.{IsValueOf}
+use Rattle.zk_jute.specs.Wired.{Wired}
 use Rattle.zk_jute.specs.Flagged.{flag_items}
 use Rattle.zk_jute.proofs.Steps.{IsBytes}
 use Rattle.zk_jute.proofs.Layouts.{have_both, bytes_both, has_byte}
@@ -34,7 +35,7 @@ use Rattle.zk_asks.proofs.Made.{made_is}
 use Rattle.zk_asks.proofs.Parts.{made_part}
 use Rattle.zk_asks.proofs.Later.{is_ask}
 
-pub flag_has : (flag : Option _) → HaveBytes (flag_items flag)
+flag_has : (flag : Option _) → HaveBytes (flag_items flag)
 flag_has None = tt
 flag_has (Some b) = (tt, tt)
 
@@ -43,17 +44,18 @@ flag_has (Some b) = (tt, tt)
 abbrev pub FirstIs : List ℕ → Type 0
 FirstIs bytes = (f : ClientFrame) × IsFirst f × IsSent f × (payload f ≡ bytes)
 
+-- a record and perhaps a flag are the bytes
+pub flagged_whole : {X : Type 0} (w : Wired X) → Covers w → (bytes : List ℕ) → IsFlaggedWhole w.layout bytes → (x : X) × (flag : Option Bool) × HaveBytes (w.items x ++ flag_items flag) × (bytes_of (w.items x ++ flag_items flag) ≡ bytes)
+flagged_whole w covers bytes s =
+    let x = covers s.value s.is.0 in
+    let have = subst HaveBytes (sym x.1) s.is.1 in
+    (x.0, s.flag, have_both (w.items x.0) (flag_items s.flag) have (flag_has s.flag), ap (λ (z : List Item). bytes_of (z ++ flag_items s.flag)) x.1 ∙ sym s.whole)
+
 pub first_decided : (bytes : List ℕ) → IsBytes bytes → FirstIs bytes ⊎ HasFault IsFirstFault bytes
-first_decided bytes fits = elim (flagged_decided connect_request.layout bytes fits) [ inl w ↦ inl (found w) | inr f ↦ inr f ] where
-  found : IsFlaggedWhole connect_request.layout bytes → FirstIs bytes
-  found w =
-      let hello = connect_request_covered w.value w.is.0 in
-      let have = subst HaveBytes (sym hello.1) w.is.1 in (
-        frame.Connect hello.0 w.flag,
-        tt,
-        (tt, have_both (connect_request.items hello.0) (flag_items w.flag) have (flag_has w.flag)),
-        ap (λ (z : List Item). bytes_of (z ++ flag_items w.flag)) hello.1 ∙ sym w.whole,
-      )
+first_decided bytes fits = elim (flagged_decided connect_request.layout bytes fits) [
+  | inl s ↦ let w = flagged_whole connect_request connect_request_covered bytes s in inl (frame.Connect w.0 w.1, tt, (tt, w.2), w.3)
+  | inr f ↦ inr f
+]
 
 -- ---- bodies
 

@@ -27,7 +27,7 @@ use Rattle.zk_asks.proofs.Made.{IsMade, is_made}
 use Rattle.zk_asks.proofs.Asks.{body_is}
 use Rattle.zk_asks.proofs.Later.{body_only, body_apart, ask_injective}
 use Rattle.zk_asks.proofs.Lying.{part_read}
-use Rattle.zk_asks.proofs.Knowing.{made_stands}
+use Rattle.zk_asks.proofs.Knowing.{IsThe, made_stands}
 
 -- ---- a body at a place
 
@@ -39,12 +39,12 @@ body_one src place a b p q same have stands has others =
     body_apart a b (sym same) items.0
 
 -- what is made of what stands there is the ask that stands there
-pub content_is : (op : Op) (src : List ℕ) (place : ℕ) (x : Content (row_of op)) → ((y : Content (row_of op)) (end : ℕ) → HaveBytes (items_in (row_of op) y) → StandsAt (items_in (row_of op) y) src place end → x ≡ y)
-    → (a : Ask) (end : ℕ) → op_of_ask a ≡ op → HaveBytes (body_items a) → StandsAt (body_items a) src place end → remake (row_of op) x ≡ a
+pub content_is : (op : Op) (src : List ℕ) (place : ℕ) (x : Content (row_of op) × ℕ) → IsThe (items_in (row_of op)) src place x
+    → (a : Ask) (end : ℕ) → op_of_ask a ≡ op → HaveBytes (body_items a) → StandsAt (body_items a) src place end → remake (row_of op) x.0 ≡ a
 unfolding IsMade
 content_is op src place x only a end of have stands =
     let m : IsMade op a = subst (λ (o : Op). IsMade o a) of (is_made a) in
-    ap (remake (row_of op)) (only m.0 end (subst HaveBytes (sym m.2) have) (subst (λ (i : List Item). StandsAt i src place end) (sym m.2) stands)) ∙ m.1
+    ap (λ (z : Content (row_of op) × ℕ). remake (row_of op) z.0) (only m.0 end (subst HaveBytes (sym m.2) have) (subst (λ (i : List Item). StandsAt i src place end) (sym m.2) stands)) ∙ m.1
 
 -- ---- behind a header
 

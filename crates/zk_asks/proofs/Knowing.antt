@@ -74,6 +74,10 @@ pub ask_header : (src : List ℕ) (f : ClientFrame) → AnAsk src f → OneStand
 ask_header src (frame.Ask xid a) k = header_stands xid a src k.1 k.2
 ask_header src (frame.Connect hello flag) k = absurd k.0
 
+pub ask_front : (src : List ℕ) (x : RequestHeader × ℕ) → IsThe request_header.items src 0 x → (f : ClientFrame) → AnAsk src f
+    → IsValueOf request_header.layout (request_header.items x.0) × StandsAt (request_header.items x.0) src 0 x.1 × (x.1 ≤ length src)
+ask_front src x is f k = let found = found_there request_header src 0 x is (ask_header src f k) in (found.0, found.1, ends_within (request_header.items x.0) src 0 x.1 (omega arith) found.1)
+
 module _ (src : List ℕ) (h : RequestHeader) (place : ℕ) (v : IsValueOf request_header.layout (request_header.items h)) (s : StandsAt (request_header.items h) src 0 place) where
   pub ask_op : (f : ClientFrame) → AnAsk src f → (op : Op) × (h.kind ≡ op_number op)
   ask_op (frame.Ask xid a) k = (op_of_ask a, (behind_header xid a src k.1 k.2 h place v s).1)

@@ -8,7 +8,6 @@ use Rattle.zk_jute.specs.declared.fault.Reason.TheVariants.{NoMemory, Trailing, 
 use Rattle.zk_jute.specs.Item.{Item, bytes_of, HaveBytes}
 use Rattle.zk_jute.specs.Layout.{IsValueOf}
 use Rattle.zk_jute.proofs.Layouts.{bytes_only, bytes_both, have_parts}
-use Rattle.zk_jute.proofs.Decided.{one_fault}
 use Rattle.zk_records.specs.Records.{request_header}
 use Rattle.zk_records.specs.declared.header.RequestHeader.{RequestHeader}
 use Rattle.zk_records.specs.declared.op.Op.{Op}
@@ -24,39 +23,34 @@ use Rattle.zk_asks.specs.Faults.{IsFaultOf, IsBodyFault, IsAskFault, in_header, 
 use Rattle.zk_asks.specs.Frames.{frame_items, IsSent, IsLater, IsOfProfile, payload}
 use Rattle.zk_jute.specs.Told.{IsTold}
 use Rattle.zk_records.proofs.Numbers.{op_number_apart}
-use Rattle.zk_jute.proofs.Sequels.{Same, Sequel, excluded, sequel_same, sequel_not}
+use Rattle.zk_jute.proofs.Sequels.{Same, Sequel, sequel_same, sequel_not}
 use Rattle.zk_asks.proofs.Parted.{multi_unique, multi_excludes, multi_only, multi_apart}
+use Rattle.zk_asks.proofs.Placed.{IsExact, layout_exact, Placed, placed_same, placed_not}
 use Rattle.zk_asks.proofs.Made.{IsMade, is_made}
 use Rattle.zk_asks.proofs.Asks.{body_is}
 
 -- ---- bodies
 
-of_unique : (b : Body) (bytes : List ℕ) (p q : ℕ) (r s : Reason) → IsFaultOf b bytes p r → IsFaultOf b bytes q s → Same p r q s
-of_unique (Fields l) bytes p q r s f g = one_fault l bytes p q r s f g
-of_unique Parts bytes p q r s f g = multi_unique (suc (length bytes)) bytes (omega arith) p q r s f g
-
-of_excludes : (b : Body) (items : List Item) (bytes more : List ℕ) (p : ℕ) (r : Reason) → IsOf b items → bytes ≡ bytes_of items ++ more → IsFaultOf b bytes p r → ⊥
-of_excludes (Fields l) items bytes more p r v e f = excluded l items bytes more p r v e f
-of_excludes Parts items bytes more p r v e f = multi_excludes v bytes more p r e f
-
-of_only : (b : Body) (c d : List Item) (x y : List ℕ) → IsOf b c → IsOf b d → bytes_of c ++ x ≡ bytes_of d ++ y → (c ≡ d) × (x ≡ y)
-of_only (Fields l) c d x y v w e = bytes_only l c d x y v w e
-of_only Parts c d x y v w e = multi_only v w x y e
-
-body_unique : (op : Op) (bytes : List ℕ) (p q : ℕ) (r s : Reason) → IsBodyFault op bytes p r → IsBodyFault op bytes q s → Same p r q s
-body_unique op bytes p q r s f g = of_unique (body_of op) bytes p q r s f g
-
-pub body_excludes : (op : Op) (items : List Item) (bytes more : List ℕ) (p : ℕ) (r : Reason) → IsBody op items → bytes ≡ bytes_of items ++ more → IsBodyFault op bytes p r → ⊥
-body_excludes op items bytes more p r v e f = of_excludes (body_of op) items bytes more p r v e f
+body_exact : (b : Body) → IsExact (IsOf b) (IsFaultOf b)
+body_exact (Fields l) = layout_exact l
+body_exact Parts = record {
+  unique = λ bytes. multi_unique (suc (length bytes)) bytes (omega arith);
+  excludes = λ items bytes more p r v e. multi_excludes v bytes more p r e;
+  only = λ c d x y v w. multi_only v w x y;
+}
 
 pub body_only : (op : Op) (a b : List Item) (x y : List ℕ) → IsBody op a → IsBody op b → bytes_of a ++ x ≡ bytes_of b ++ y → (a ≡ b) × (x ≡ y)
-body_only op a b x y v w e = of_only (body_of op) a b x y v w e
+body_only op = (body_exact (body_of op)).only
 
 -- ---- a fault by its header
 
+-- behind a body
+abbrev TooLong : List Item → List ℕ → ℕ → Reason → Type 0
+TooLong body more p r = (more ≢ []) × (p ≡ 8 + length (bytes_of body)) × (r ≡ Trailing)
+
 -- behind a header of an operation that the xid may have
 abbrev AfterOp : Op → List ℕ → ℕ → Reason → Type 0
-AfterOp op rest p r = ((behind : ℕ) × (p ≡ 8 + behind) × IsBodyFault op rest behind r) ⊎ ((body : List Item) × (more : List ℕ) × IsBody op body × (rest ≡ bytes_of body ++ more) × (more ≢ []) × (p ≡ 8 + length (bytes_of body)) × (r ≡ Trailing))
+AfterOp op = Placed 8 (IsBody op) (IsBodyFault op) TooLong
 
 abbrev OfOp : ℤ → Op → List ℕ → ℕ → Reason → Type 0
 OfOp xid op rest p r = ((IsAllowed xid op → ⊥) × (p ≡ 4) × (r ≡ XidOp)) ⊎ (IsAllowed xid op × AfterOp op rest p r)
@@ -82,7 +76,7 @@ trailing : (profile : Profile) {items : List Item} → IsAsk profile items → (
 trailing profile (asks xid op body have has may v) bytes rest p e some at =
     let header = header_items xid (op_number op) in
     let place : p ≡ 8 + length (bytes_of body) = at ∙ omega (arith, ap length (bytes_both header body), length-append (bytes_of header) (bytes_of body)) in
-    inr (header, bytes_of body ++ rest, header_is xid (op_number op) have, header_split header body bytes rest e, (xid, op_number op, refl, inr (op, has, refl, inr (may, inr (body, rest, v, refl, some, place, refl)))))
+    inr (header, bytes_of body ++ rest, header_is xid (op_number op) have, header_split header body bytes rest e, (xid, op_number op, refl, inr (op, has, refl, inr (may, inr (body, rest, v, refl, (some, place, refl))))))
 
 sequel : (profile : Profile) {bytes : List ℕ} {p : ℕ} {r : Reason} → IsAskFault profile bytes p r → Sequel request_header.layout (AfterHeader profile) bytes p r
 sequel profile (in_header place reason f) = inl f
@@ -96,22 +90,7 @@ sequel profile {bytes} (behind_body place t) = trailing profile t.value bytes t.
 -- ---- one fault
 
 after_same : (op : Op) (rest : List ℕ) (p q : ℕ) (r s : Reason) → AfterOp op rest p r → AfterOp op rest q s → Same p r q s
-after_same op rest p q r s a b =
-    elim a [
-      | inl f ↦ elim b [
-        | inl g ↦
-            let one = body_unique op rest f.0 g.0 r s f.2 g.2 in
-            let number : p ≡ q = let x = f.1 in let y = g.1 in let z = one.0 in omega arith in
-            (number, one.1)
-        | inr g ↦ absurd (body_excludes op g.0 rest g.1 f.0 r g.2 g.3 f.2)
-      ]
-      | inr f ↦ elim b [
-        | inl g ↦ absurd (body_excludes op f.0 rest f.1 g.0 s f.2 f.3 g.2)
-        | inr g ↦
-            let same = body_only op f.0 g.0 f.1 g.1 f.2 g.2 (sym f.3 ∙ g.3) in
-            (f.5 ∙ ap (λ (i : List Item). 8 + length (bytes_of i)) same.0 ∙ sym g.5, f.6 ∙ sym g.6)
-      ]
-    ]
+after_same op rest = placed_same 8 (body_exact (body_of op)) TooLong rest (λ items more p q r s x y. (x.1 ∙ sym y.1, x.2 ∙ sym y.2))
 
 of_same : (xid : ℤ) (op : Op) (rest : List ℕ) (p q : ℕ) (r s : Reason) → OfOp xid op rest p r → OfOp xid op rest q s → Same p r q s
 of_same xid op rest p q r s a b =
@@ -153,10 +132,7 @@ ask_not profile xid op body p r has may v a =
           let g : OfOp xid op (bytes_of body) p r = subst (λ (op : Op). OfOp xid op (bytes_of body) p r) one f.3 in
           elim g [
             | inl h ↦ h.0 may
-            | inr h ↦ elim h.1 [
-              | inl k ↦ body_excludes op body (bytes_of body) [] k.0 r v (sym (append-nil (bytes_of body))) k.2
-              | inr k ↦ let same = body_only op k.0 body k.1 [] k.2 v (sym k.3 ∙ sym (append-nil (bytes_of body))) in k.4 same.1
-            ]
+            | inr h ↦ placed_not 8 (body_exact (body_of op)) TooLong (bytes_of body) body [] v (sym (append-nil (bytes_of body))) p r (λ k. k.0 refl) h.1
           ]
     ]
 

@@ -8,6 +8,7 @@ pub mod Counted
 pub mod Asks
 pub mod Later
 pub mod Ended
+pub mod Placed
 pub mod Knowing
 pub mod Judged
 pub mod Openings

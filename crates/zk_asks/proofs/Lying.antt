@@ -136,19 +136,18 @@ module _ (p : Part) (src : List ℕ) (place end : ℕ) (le : place ≤ length sr
     op_there None told = absurd (told op number_is)
     op_there (Some q) told = ap Some (part_number_apart q op (sym told ∙ number_is))
 
+    after_is : x.1 ≡ place + 9
+    after_is = ap (λ (z : MultiHeader × ℕ). z.1) header_is
+
+    -- the part's record
+    pub own_behind : HaveBytes (record_of p) × StandsAt (record_of p) src x.1 end
+    own_behind = (record_has, subst (λ (n : ℕ). StandsAt (record_of p) src n end) (sym after_is) behind_header)
+
     pub record_behind : (x.1 ≤ length src) × OneStands (part_row op).wired.items src x.1
     record_behind =
         let s = stands_split (marked (part_header op)) (record_of p) src place end le stands in
-        let after : x.1 ≡ place + 9 = ap (λ (z : MultiHeader × ℕ). z.1) header_is in
         let m = part_made p in
-        let there : StandsAt (record_of p) src x.1 end = subst (λ (n : ℕ). StandsAt (record_of p) src n end) (sym after) behind_header in
-        (omega (arith, s.2, nine (part_header op), after), (m.0, end, subst HaveBytes (sym m.2) record_has, subst (λ (i : List Item). StandsAt i src x.1 end) (sym m.2) there))
-
-    -- what is so of each record that stands behind the header is so of the part's own
-    pub of_its_own : (o : PartOp) → op ≡ o → (P : Part → ℕ → Type 0) → ((q : Part) (after : ℕ) → op_of_part q ≡ o → HaveBytes (record_of q) → StandsAt (record_of q) src x.1 after → P q after) → P p end
-    of_its_own o same P each =
-        let after : x.1 ≡ place + 9 = ap (λ (z : MultiHeader × ℕ). z.1) header_is in
-        each p end same record_has (subst (λ (n : ℕ). StandsAt (record_of p) src n end) (sym after) behind_header)
+        (omega (arith, s.2, nine (part_header op), after_is), (m.0, end, subst HaveBytes (sym m.2) own_behind.0, subst (λ (i : List Item). StandsAt i src x.1 end) (sym m.2) own_behind.1))
 
   part_there : part_value src place ≡ Ok (p, end)
   part_there =

@@ -6,7 +6,7 @@ use Rattle.std.proofs.lemmas.List.{append-nil, length-append, append_cancel_left
 use Rattle.zk_jute.specs.declared.fault.Reason.{Reason}
 use Rattle.zk_jute.specs.declared.fault.Reason.TheVariants.{BadPart}
 use Rattle.zk_jute.specs.Item.{Kind, Int, Boolean, Item, AnInt, ABoolean, kind_of, bytes_of, HaveBytes}
-use Rattle.zk_jute.specs.Layout.{IsValueOf, ◌then◌}
+use Rattle.zk_jute.specs.Layout.{Layout, IsValueOf, ◌then◌}
 use Rattle.zk_jute.specs.Apart.{cons_is, unfolds_only}
 use Rattle.zk_jute.specs.Faults.{IsNext, IsBad, IsFault, Opens}
 use Rattle.zk_jute.proofs.Layouts.{bytes_both}
@@ -55,27 +55,24 @@ mark_shape items v =
     let e7 = error.1 in
     (h, cc)
 
--- a header of the same first numbers that stands before no part
-loose : MultiHeader → MultiHeader
-loose h = record { kind = h.kind; done = h.done; err = pos 0 }
+-- a header of the same first numbers with another err
+unfoldable pub loose : ℤ → MultiHeader → MultiHeader
+loose err h = record { kind = h.kind; done = h.done; err = err }
 
-loose_begins : (o : List Item) (i : Item) (m : List Item) (h : MultiHeader) → o ++ (i ∷ m) ≡ marked h → (more : List Item) × (marked (loose h) ≡ o ++ more)
+pub loose_begins : (err : ℤ) (o : List Item) (i : Item) (m : List Item) (h : MultiHeader) → o ++ (i ∷ m) ≡ marked h → (more : List Item) × (marked (loose err h) ≡ o ++ more)
 unfolding loose
-loose_begins [] i m h e = (marked (loose h), refl)
-loose_begins (x ∷ []) i m h e = let same : AnInt h.kind ≡ x = cc in (ABoolean h.done ∷ AnInt (pos 0) ∷ [], ap (λ (z : Item). z ∷ ABoolean h.done ∷ AnInt (pos 0) ∷ []) same)
-loose_begins (x ∷ y ∷ []) i m h e =
+loose_begins err [] i m h e = (marked (loose err h), refl)
+loose_begins err (x ∷ []) i m h e = let same : AnInt h.kind ≡ x = cc in (ABoolean h.done ∷ AnInt err ∷ [], ap (λ (z : Item). z ∷ ABoolean h.done ∷ AnInt err ∷ []) same)
+loose_begins err (x ∷ y ∷ []) i m h e =
     let same : AnInt h.kind ≡ x = cc in
     let other : ABoolean h.done ≡ y = cc in
-    (AnInt (pos 0) ∷ [], ap (λ (z : Item). z ∷ ABoolean h.done ∷ AnInt (pos 0) ∷ []) same ∙ ap (λ (z : Item). x ∷ z ∷ AnInt (pos 0) ∷ []) other)
-loose_begins (x ∷ y ∷ z ∷ o) i m h e = absurd (omega (arith, ap length e, length-append o (i ∷ m)))
+    (AnInt err ∷ [], ap (λ (z : Item). z ∷ ABoolean h.done ∷ AnInt err ∷ []) same ∙ ap (λ (z : Item). x ∷ z ∷ AnInt err ∷ []) other)
+loose_begins err (x ∷ y ∷ z ∷ o) i m h e = absurd (omega (arith, ap length e, length-append o (i ∷ m)))
 
-loose_headed : (h : MultiHeader) → HaveBytes (marked h) → AreHeaded (marked (loose h))
+-- with err 0 it stands before no part
+loose_headed : (h : MultiHeader) → HaveBytes (marked h) → AreHeaded (marked (loose (pos 0) h))
 unfolding loose
-loose_headed h have = last (loose h) (have.0, (tt, (omega (arith, ints), tt))) (λ op e. let wrong : pos 0 ≡ negsuc 0 = ap (λ (x : MultiHeader). x.err) e in absurd cc)
-
--- the kinds of a header's items
-pub kinds_same : (a b : MultiHeader) → map kind_of (marked a) ≡ map kind_of (marked b)
-kinds_same a b = refl
+loose_headed h have = last (loose (pos 0) h) (have.0, (tt, (omega (arith, ints), tt))) (λ op e. let wrong : pos 0 ≡ negsuc 0 = ap (λ (x : MultiHeader). x.err) e in absurd cc)
 
 -- ---- the cases of the reader, over openings
 
@@ -137,7 +134,7 @@ multi_opened (in_mark bytes p r f) =
     (λ o m k v next.
     let s = mark_shape (o ++ m) v in
     let n = next m v in
-    let c = loose_begins o n.0 n.1 s.0 (ap (λ (x : List Item). o ++ x) (sym n.2) ∙ s.1) in
+    let c = loose_begins (pos 0) o n.0 n.1 s.0 (ap (λ (x : List Item). o ++ x) (sym n.2) ∙ s.1) in
     ((c.0, subst AreHeaded c.1 (loose_headed s.0 (subst HaveBytes s.1 v.1))), λ more w. next_mark o m k v next w more refl))
     f))
 multi_opened (bad_mark bytes rest h have e not) = inr ([], h, rest, no_part, have, not, e, refl, refl)
@@ -161,68 +158,77 @@ multi_opened (behind_part bytes rest op part q r v e f) =
 
 -- ---- openings, by the cases of the reader
 
-pub first_kind : (more : List Item) (k : Kind) (ks : List Kind) (n : Kind) → map kind_of more ≡ k ∷ ks → k ≡ n → NextIs more n
+first_kind : (more : List Item) (k : Kind) (ks : List Kind) (n : Kind) → map kind_of more ≡ k ∷ ks → k ≡ n → NextIs more n
 first_kind [] k ks n e same = absurd cc
 first_kind (j ∷ js) k ks n e same = let one : kind_of j ≡ k = cc in (j, js, refl, one ∙ same)
 
 -- within a header, whatever its numbers are
-within_mark : (h : MultiHeader) (o : List Item) (i : Item) (m : List Item) → HaveBytes (marked h) → marked h ≡ o ++ (i ∷ m) → (bytes rest : List ℕ) → Opens bytes o rest → (k : Kind) → kind_of i ≡ k → (far : ℕ) (r : Reason) → IsBad k rest r far
-    → IsMultiFault bytes (length (bytes_of o) + far) r
-within_mark h o i m have e bytes rest opens k kind far r bad =
-    in_mark bytes (length (bytes_of o) + far) r (record {
-      opening = o;
-      rest = rest;
-      begins = (i ∷ m, subst (IsValueOf multi_header.layout) e (mark_is h have));
-      splits = opens;
-      next = k;
-      is_next = λ more v.
-          let s = mark_shape (o ++ more) v in
-          let kinds : map kind_of more ≡ kind_of i ∷ map kind_of m =
-          append_cancel_left (map kind_of o) (map kind_of more) (kind_of i ∷ map kind_of m)
-          (sym (map-append kind_of o more) ∙ ap (map kind_of) s.1 ∙ kinds_same s.0 h ∙ ap (map kind_of) e ∙ map-append kind_of o (i ∷ m)) in
-          first_kind more (kind_of i) (map kind_of m) k kinds kind;
-      behind = far;
-      bad = bad;
-      at = refl;
-    })
+pub within_mark : (h : MultiHeader) (o : List Item) (i : Item) (m : List Item) → HaveBytes (marked h) → marked h ≡ o ++ (i ∷ m) → (bytes rest : List ℕ) → Opens bytes o rest → (k : Kind) → kind_of i ≡ k → (far : ℕ) (r : Reason) → IsBad k rest r far
+    → IsFault (IsValueOf multi_header.layout) bytes (length (bytes_of o) + far) r
+within_mark h o i m have e bytes rest opens k kind far r bad = record {
+  opening = o;
+  rest = rest;
+  begins = (i ∷ m, subst (IsValueOf multi_header.layout) e (mark_is h have));
+  splits = opens;
+  next = k;
+  is_next = λ more v.
+      let s = mark_shape (o ++ more) v in
+      let same : map kind_of (marked s.0) ≡ map kind_of (marked h) = refl in
+      let kinds : map kind_of more ≡ kind_of i ∷ map kind_of m =
+      append_cancel_left (map kind_of o) (map kind_of more) (kind_of i ∷ map kind_of m)
+      (sym (map-append kind_of o more) ∙ ap (map kind_of) s.1 ∙ same ∙ ap (map kind_of) e ∙ map-append kind_of o (i ∷ m)) in
+      first_kind more (kind_of i) (map kind_of m) k kinds kind;
+  behind = far;
+  bad = bad;
+  at = refl;
+}
+
+-- a fault behind items that stand in front
+pub past_front : (F G : List ℕ → ℕ → Reason → Type 0) (front o : List Item) (bytes rest : List ℕ) (far : ℕ) (r : Reason) → Opens bytes (front ++ o) rest
+    → ((left : List ℕ) (q : ℕ) → Opens bytes front left → F left q r → G bytes (length (bytes_of front) + q) r)
+    → F (bytes_of o ++ rest) (length (bytes_of o) + far) r → G bytes (length (bytes_of (front ++ o)) + far) r
+past_front F G front o bytes rest far r opens make later =
+    let split : bytes ≡ bytes_of front ++ (bytes_of o ++ rest) = opens ∙ ap (λ (x : List ℕ). x ++ rest) (bytes_both front o) ∙ append_assoc (bytes_of front) (bytes_of o) rest in
+    let place : length (bytes_of front) + (length (bytes_of o) + far) ≡ length (bytes_of (front ++ o)) + far = omega (arith, ap length (bytes_both front o), length-append (bytes_of front) (bytes_of o)) in
+    subst (λ (p : ℕ). G bytes p r) place (make (bytes_of o ++ rest) (length (bytes_of o) + far) split later)
+
+-- an opening within a record that stands behind a header and before the end marker, among items of a form
+pub within_record : (l : Layout) (IsForm : List Item → Type 0) (mark o : List Item) (i : Item) (m : List Item) → IsValueOf l (o ++ (i ∷ m)) → (rest : List ℕ) → (k : Kind) → IsNext IsForm (mark ++ o) k
+    → ((own : List Item) → IsValueOf l own → IsForm (mark ++ (own ++ marked end_header))) → (far : ℕ) (r : Reason) → IsBad k rest r far → IsFault (IsValueOf l) (bytes_of o ++ rest) (length (bytes_of o) + far) r
+within_record l IsForm mark o i m v rest k next whole far r bad = record {
+  opening = o;
+  rest = rest;
+  begins = (i ∷ m, v);
+  splits = refl;
+  next = k;
+  is_next = λ more w.
+      let group : mark ++ ((o ++ more) ++ marked end_header) ≡ (mark ++ o) ++ (more ++ marked end_header) = ap (λ (x : List Item). mark ++ x) (append_assoc o more (marked end_header)) ∙ sym (append_assoc mark o (more ++ marked end_header)) in
+      goes_on l o i m more (marked end_header) k v w (next (more ++ marked end_header) (subst IsForm group (whole (o ++ more) w)));
+  behind = far;
+  bad = bad;
+  at = refl;
+}
 
 -- an opening within a part's record, which goes on
 within_part : (op : PartOp) (o : List Item) (i : Item) (m : List Item) → IsValueOf (part_layout op) (o ++ (i ∷ m)) → (bytes rest : List ℕ) → Opens bytes (marked (part_header op) ++ o) rest
     → (k : Kind) → IsNext AreHeaded (marked (part_header op) ++ o) k → (far : ℕ) (r : Reason) → IsBad k rest r far → IsMultiFault bytes (length (bytes_of (marked (part_header op) ++ o)) + far) r
 within_part op o i m v bytes rest opens k next far r bad =
-    let mark = marked (part_header op) in
-    let behind_mark : List ℕ = bytes_of o ++ rest in
-    let split : bytes ≡ bytes_of mark ++ behind_mark = opens ∙ ap (λ (x : List ℕ). x ++ rest) (bytes_both mark o) ∙ append_assoc (bytes_of mark) (bytes_of o) rest in
-    let place : length (bytes_of mark) + (length (bytes_of o) + far) ≡ length (bytes_of (mark ++ o)) + far = omega (arith, ap length (bytes_both mark o), length-append (bytes_of mark) (bytes_of o)) in
-    subst (λ (p : ℕ). IsMultiFault bytes p r) place
-    (in_part bytes behind_mark op (length (bytes_of o) + far) r split (record {
-      opening = o;
-      rest = rest;
-      begins = (i ∷ m, v);
-      splits = refl;
-      next = k;
-      is_next = λ more w.
-          let group : mark ++ ((o ++ more) ++ marked end_header) ≡ (mark ++ o) ++ (more ++ marked end_header) = ap (λ (x : List Item). mark ++ x) (append_assoc o more (marked end_header)) ∙ sym (append_assoc mark o (more ++ marked end_header)) in
-          let n = next (more ++ marked end_header) (subst AreHeaded group (a_part_before op (o ++ more) (marked end_header) w ending)) in
-          goes_on (part_layout op) o i m more (marked end_header) k v w n;
-      behind = far;
-      bad = bad;
-      at = refl;
-    }))
+    past_front (IsFault (IsValueOf (part_layout op))) IsMultiFault (marked (part_header op)) o bytes rest far r opens (λ left q e. in_part bytes left op q r e)
+    (within_record (part_layout op) AreHeaded (marked (part_header op)) o i m v rest k next (λ part w. a_part_before op part (marked end_header) w ending) far r bad)
 
 -- a fault over openings is one of the cases
 back : {items : List Item} → AreHeaded items → (o more : List Item) → items ≡ o ++ more → (bytes rest : List ℕ) → Opens bytes o rest → (k : Kind) → IsNext AreHeaded o k → (far : ℕ) (r : Reason) → IsBad k rest r far
     → IsMultiFault bytes (length (bytes_of o) + far) r
 back (last h have not) o more e bytes rest opens k next far r bad =
     let n = next more (subst AreHeaded e (last h have not)) in
-    within_mark h o n.0 n.1 have (e ∙ ap (λ (x : List Item). o ++ x) n.2) bytes rest opens k n.3 far r bad
+    in_mark bytes _ r (within_mark h o n.0 n.1 have (e ∙ ap (λ (x : List Item). o ++ x) n.2) bytes rest opens k n.3 far r bad)
 back (a_part_before op part others v w) o more e bytes rest opens k next far r bad =
     let mark = marked (part_header op) in
     elim (cut o more mark (part ++ others) (sym e)) [
       | inl c ↦
           let n = next more (subst AreHeaded e (a_part_before op part others v w)) in
           let same = cons_is c.0 n.0 (c.1 ++ (part ++ others)) n.1 (sym c.3 ∙ n.2) in
-          within_mark (part_header op) o c.0 c.1 (mark_bytes op) c.2 bytes rest opens k (ap kind_of same.0 ∙ n.3) far r bad
+          in_mark bytes _ r (within_mark (part_header op) o c.0 c.1 (mark_bytes op) c.2 bytes rest opens k (ap kind_of same.0 ∙ n.3) far r bad)
       | inr c ↦
           let m = c.0 in
           let opens2 : Opens bytes (mark ++ m) rest = subst (λ (x : List Item). Opens bytes x rest) c.1 opens in
@@ -234,9 +240,8 @@ back (a_part_before op part others v w) o more e bytes rest opens k next far r b
                 let group : (x : List Item) → (mark ++ m) ++ x ≡ mark ++ (part ++ (o2 ++ x)) = λ x. ap (λ (y : List Item). (mark ++ y) ++ x) d.1 ∙ append_assoc mark (part ++ o2) x ∙ ap (λ (y : List Item). mark ++ y) (append_assoc part o2 x) in
                 let both : mark ++ m ≡ (mark ++ part) ++ o2 = ap (λ (y : List Item). mark ++ y) d.1 ∙ sym (append_assoc mark part o2) in
                 let later = back w o2 more d.2 (bytes_of o2 ++ rest) rest refl k (λ x u. next2 x (subst AreHeaded (sym (group x)) (a_part_before op part (o2 ++ x) v u))) far r bad in
-                let split : bytes ≡ bytes_of (mark ++ part) ++ (bytes_of o2 ++ rest) = opens2 ∙ ap (λ (y : List Item). bytes_of y ++ rest) both ∙ ap (λ (y : List ℕ). y ++ rest) (bytes_both (mark ++ part) o2) ∙ append_assoc (bytes_of (mark ++ part)) (bytes_of o2) rest in
-                let place : length (bytes_of (mark ++ part)) + (length (bytes_of o2) + far) ≡ length (bytes_of (mark ++ m)) + far = omega (arith, ap (λ (y : List Item). length (bytes_of y)) both, ap length (bytes_both (mark ++ part) o2), length-append (bytes_of (mark ++ part)) (bytes_of o2)) in
-                subst (λ (p : ℕ). IsMultiFault bytes p r) place (behind_part bytes (bytes_of o2 ++ rest) op part (length (bytes_of o2) + far) r v split later)
+                subst (λ (y : List Item). IsMultiFault bytes (length (bytes_of y) + far) r) (sym both)
+                (past_front IsMultiFault IsMultiFault (mark ++ part) o2 bytes rest far r (opens2 ∙ ap (λ (y : List Item). bytes_of y ++ rest) both) (λ left q split. behind_part bytes left op part q r v split) later)
           ] in
           subst (λ (x : List Item). IsMultiFault bytes (length (bytes_of x) + far) r) (sym c.1) result
     ]

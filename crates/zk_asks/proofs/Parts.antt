@@ -5,7 +5,8 @@ use Rattle.std.proofs.lemmas.List.{length-append}
 use Rattle.zk_jute.specs.declared.fault.ItemFault.{ItemFault}
 use Rattle.zk_jute.specs.declared.fault.Reason.{Reason}
 use Rattle.zk_jute.specs.declared.fault.Reason.TheVariants.{BadPart}
-use Rattle.zk_jute.specs.Item.{bytes_of, HaveBytes}
+use Rattle.zk_jute.specs.Item.{Item, bytes_of, HaveBytes}
+use Rattle.zk_jute.specs.Faults.{IsFault}
 use Rattle.zk_jute.specs.Layout.{IsValueOf, Unfolds}
 use Rattle.zk_jute.specs.Reading.{told_place}
 use Rattle.zk_jute.specs.Told.{StandsAt, IsToldFault}
@@ -58,18 +59,29 @@ past (p ∷ ps) rest behind reason have f =
     subst (λ (n : ℕ). IsMultiFault (bytes_of (part_items p ++ others) ++ rest) n reason) place
     (behind_part (bytes_of (part_items p ++ others) ++ rest) (bytes_of others ++ rest) (op_of_part p) (record_of p) (length (bytes_of others) + behind) reason (record_is p, k.1) split later)
 
+-- a fault behind items that stand there, counted from their beginning
+pub told_behind : (F G : List ℕ → ℕ → Reason → Type 0) (items : List Item) (src : List ℕ) (at after : ℕ) (e : ItemFault) → StandsAt items src at after
+    → ((q : ℕ) → drop at src ≡ bytes_of items ++ drop after src → F (drop after src) q e.reason → G (drop at src) (length (bytes_of items) + q) e.reason) → IsToldAt F src after e → IsToldAt G src at e
+unfolding IsToldAt
+told_behind F G items src at after e stands make h =
+    elim h [
+      | inl m ↦ inl m
+      | inr f ↦
+          let x = stands.1 in
+          let told : after + f.0 ≡ at + (length (bytes_of items) + f.0) = omega arith in
+          inr (length (bytes_of items) + f.0, make f.0 stands.0 f.1, f.2 ∙ ap told_place told)
+    ]
+
+-- a header that may not stand there
+pub told_bad : (F : List ℕ → ℕ → Reason → Type 0) (src : List ℕ) (at : ℕ) → F (drop at src) 0 BadPart → IsToldAt F src at (record { place = told_place at; reason = BadPart })
+unfolding IsToldAt
+told_bad F src at f = let same : at ≡ at + 0 = omega arith in inr (0, f, ap told_place same)
+
 module _ (ps : List Part) (src : List ℕ) (place at : ℕ) (have : HaveBytes (flat_map part_items ps)) (stands : StandsAt (flat_map part_items ps) src place at) where
   told_past : (e : ItemFault) → IsToldAt IsMultiFault src at e → IsToldAt IsMultiFault src place e
-  unfolding IsToldAt
   told_past e h =
-      elim h [
-        | inl m ↦ inl m
-        | inr f ↦
-            let done = bytes_of (flat_map part_items ps) in
-            let x = stands.1 in
-            let told : at + f.0 ≡ place + (length done + f.0) = omega arith in
-            inr (length done + f.0, subst (λ (b : List ℕ). IsMultiFault b (length done + f.0) e.reason) (sym stands.0) (past ps (drop at src) f.0 e.reason have f.1), f.2 ∙ ap told_place told)
-      ]
+      let done = flat_map part_items ps in
+      told_behind IsMultiFault IsMultiFault done src place at e stands (λ q splits f. subst (λ (b : List ℕ). IsMultiFault b (length (bytes_of done) + q) e.reason) (sym splits) (past ps (drop at src) q e.reason have f)) h
 
   pub multi_mark : (e : ItemFault) → IsToldFault (IsValueOf multi_header.layout) src at e → IsToldAt IsMultiFault src place e
   unfolding IsToldAt
@@ -77,24 +89,15 @@ module _ (ps : List Part) (src : List ℕ) (place at : ℕ) (have : HaveBytes (f
 
   pub multi_bad : (header : MultiHeader) (after : ℕ) → IsValueOf multi_header.layout (marked header) → StandsAt (marked header) src at after → (MayStand header → ⊥)
       → IsToldAt IsMultiFault src place (record { place = told_place at; reason = BadPart })
-  unfolding IsToldAt
-  multi_bad header after v s not =
-      let same : at ≡ at + 0 = omega arith in
-      told_past (record { place = told_place at; reason = BadPart }) (inr (0, bad_mark (drop at src) (drop after src) header v.1 s.0 not, ap told_place same))
+  multi_bad header after v s not = told_past _ (told_bad IsMultiFault src at (bad_mark (drop at src) (drop after src) header v.1 s.0 not))
 
   pub multi_part : (header : MultiHeader) (op : PartOp) (after : ℕ) (e : ItemFault) → StandsAt (marked header) src at after → header ≡ part_header op → IsToldFault (IsValueOf (part_layout op)) src after e
       → IsToldAt IsMultiFault src place e
   unfolding IsToldAt
   multi_part header op after e s is h =
-      told_past e (elim h [
-        | inl m ↦ inl m
-        | inr f ↦
-            let t : StandsAt (marked (part_header op)) src at after = subst (λ (x : MultiHeader). StandsAt (marked x) src at after) is s in
-            let x = t.1 in
-            let n = length (bytes_of (marked (part_header op))) in
-            let told : after + f.0 ≡ at + (n + f.0) = omega arith in
-            inr (n + f.0, in_part (drop at src) (drop after src) op f.0 e.reason t.0 f.1, f.2 ∙ ap told_place told)
-      ])
+      let mark = marked (part_header op) in
+      let t : StandsAt mark src at after = subst (λ (x : MultiHeader). StandsAt (marked x) src at after) is s in
+      told_past e (told_behind (IsFault (IsValueOf (part_layout op))) IsMultiFault mark src at after e t (λ q. in_part (drop at src) (drop after src) op q e.reason) h)
 
 -- the items of parts are those of a multi
 pub multi_is : (ps : List Part) → HaveBytes (multi_items ps) → IsMulti (multi_items ps)

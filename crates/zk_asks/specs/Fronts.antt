@@ -21,6 +21,10 @@ use Rattle.zk_asks.specs.Frames.{ops_of_ask, IsSent, payload}
 abbrev pub IsRecordAt : PartOp → List ℕ → ℕ → ℕ → Type 0
 IsRecordAt op src place end = (p : Part) × (op_of_part p ≡ op) × IsValueOf (part_layout op) (record_of p) × StandsAt (record_of p) src place end
 
+-- the record of this part is at the place, and ends there
+abbrev pub IsOwnRecord : Part → List ℕ → ℕ → ℕ → Type 0
+IsOwnRecord p src place end = HaveBytes (record_of p) × StandsAt (record_of p) src place end
+
 -- the header of a request of the profile, with this operation and this xid, which it may have, is in front, and ends there
 abbrev pub IsHeadAt : Profile → ℤ → Op → List ℕ → ℕ → Type 0
 IsHeadAt profile xid op src end = HasOp profile op × IsAllowed xid op × HaveBytes (op_header xid op) × StandsAt (op_header xid op) src 0 end

@@ -4,6 +4,7 @@ ghost use Rattle.zk_asks.specs.Held.{Part};
 ghost use Rattle.zk_jute.specs.Told.{IsSurelyTold, IsSurelyToldAt};
 ghost use Rattle.zk_jute.specs.Verdict.{Says};
 ghost use Rattle.zk_asks.specs.Faults.{IsAskFault, IsBodyFault};
+ghost use Rattle.zk_asks.specs.Rows.{Fields, body_of};
 ghost use Rattle.zk_asks.specs.Fronts.{IsHeadAt, IsOutlined, IsBodyWith, IsMultiOf};
 
 use crate::ask_rows;
@@ -30,6 +31,26 @@ pub struct Outline {
     pub parts: usize,
 }
 
+/// The number of parts in the body of a request of `op` at `place`, which is a record `R` and has none, and the place
+/// after it.
+#[inline(always)]
+fn record_end<R: Ends, V: Verdict>(
+    payload: &[u8],
+    place: usize,
+    op: Op,
+) -> Result<(usize, usize), V>
+    requires within { place ≤ length payload.now }
+    requires record { body_of op ≡ Fields R.wired.layout }
+    ensures found { IfOk result (λ x. IsBodyWith op x.0 payload.now place x.1) }
+    ensures fault { IfErr result (Says V.tells (IsSurelyToldAt (IsBodyFault op) payload.now place)) }
+    ensures within { IfOk result (λ x. x.1 ≤ length payload.now) }
+{
+    match R::end::<V>(payload, place) {
+        Ok(end) => Ok((0, end)),
+        Err(verdict) => Err(verdict),
+    }
+}
+
 /// The number of parts in the body of a request of `op` at `place`, and the place after it.
 #[inline(always)]
 fn body_end<V: Verdict>(payload: &[u8], place: usize, op: Op) -> Result<(usize, usize), V>
@@ -41,10 +62,7 @@ fn body_end<V: Verdict>(payload: &[u8], place: usize, op: Op) -> Result<(usize, 
     macro_rules! row {
         ($op:ident: $($($held:ident)|+: $record:ident $borrowed:ident),+; $($bare:ident)|+) => {
             match $op {
-                $($(Op::$held)|+ => match <$borrowed as Ends>::end::<V>(payload, place) {
-                    Ok(end) => Ok((0, end)),
-                    Err(verdict) => Err(verdict),
-                },)+
+                $($(Op::$held)|+ => record_end::<$borrowed, V>(payload, place, op),)+
                 $(Op::$bare)|+ => Ok((0, place)),
                 Op::Multi => multi_end::<V>(payload, place),
             }

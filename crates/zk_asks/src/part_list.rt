@@ -8,7 +8,7 @@ ghost use Rattle.zk_asks.specs.Held.{Part};
 ghost use Rattle.zk_jute.specs.Standing.{OneStands};
 ghost use Rattle.zk_asks.specs.Parts.{part_row, part_layout, op_of_part, record_of, part_items, multi_items};
 ghost use Rattle.zk_asks.specs.Faults.{IsMultiFault};
-ghost use Rattle.zk_asks.specs.Fronts.{IsRecordAt};
+ghost use Rattle.zk_asks.specs.Fronts.{IsRecordAt, IsOwnRecord};
 ghost use Rattle.zk_asks.specs.Shown.{part_value};
 
 use crate::frame::{PartOf, PartRef};
@@ -38,8 +38,7 @@ impl<'a> Member for PartRef<'a> {
         ensures value { (p : Part) × (part_value payload.now place ≡ Ok (p, result.1)) × (op_of_part p ≡ result.0) }
         ensures only { (p : Part) (end : ℕ) → HaveBytes (part_items p) → StandsAt (part_items p) payload.now place end → result.1 ≡ end }
     {
-        let (header, after) = known_at::<MultiHeader>(payload, place);
-        let op = part_of(header.kind).unwrap();
+        let (op, after) = op_before(payload, place);
         (op, record_end(payload, after, op))
     }
 }
@@ -47,10 +46,23 @@ impl<'a> Member for PartRef<'a> {
 impl<'a> KnownIn<'a> for PartRef<'a> {
     #[inline(always)]
     fn known_in(payload: &'a [u8], place: usize) -> (Self, usize) {
-        let (header, after) = known_at::<MultiHeader>(payload, place);
-        let op = part_of(header.kind).unwrap();
+        let (op, after) = op_before(payload, place);
         record_in(payload, after, op)
     }
+}
+
+/// The operation of the part that is known to be at `place`, and the place after its header.
+#[inline(always)]
+fn op_before(payload: &[u8], place: usize) -> (PartOp, usize)
+    requires place { place ≤ length payload.now }
+    requires known { OneStands part_items payload.now place }
+    ensures within { result.1 ≤ length payload.now }
+    ensures known { OneStands (part_row result.0).wired.items payload.now result.1 }
+    ensures op { (p : Part) (end : ℕ) → HaveBytes (part_items p) → StandsAt (part_items p) payload.now place end → op_of_part p ≡ result.0 }
+    ensures record { (p : Part) (end : ℕ) → HaveBytes (part_items p) → StandsAt (part_items p) payload.now place end → IsOwnRecord p payload.now result.1 end }
+{
+    let (header, after) = known_at::<MultiHeader>(payload, place);
+    (part_of(header.kind).unwrap(), after)
 }
 
 /// The record that is known to be at `place`, of a part of the operation `op`, and the place after it.

@@ -1,8 +1,31 @@
+use Rattle.std.proofs.Common.{Err, inr, drop}
+use Rattle.std.proofs.lemmas.Result.{err_from_is_err_and}
 use Rattle.zk_answers.specs.Frames.{IsEvent}
 use Rattle.zk_answers.specs.Faults.{IsEventFault}
+use Rattle.zk_answers.proofs.Refusals.{head_of, event_short}
 use Rattle.zk_answers.proofs.Events.{event_injective, event_excludes}
 use Rattle.zk_answers.proofs.Scanned.{only_it}
 use Rattle.zk_answers.proofs.borrow.borrow_event.Goals as goal
 
-pub returns-clause-only : goal.returns-clause-only
-returns-clause-only c = only_it IsEvent IsEventFault c.args.payload.now c.whole_event.result c.whole_event.ensures.found c.whole_event.ensures.fault event_injective event_excludes
+pub returns-in_err-head-clause-fault : goal.returns-in_err-head-clause-fault
+returns-in_err-head-clause-fault c =
+    let p = err_from_is_err_and c.from_residual.result c.from_residual.ensures.1 in
+    let e = c.in_err-head.ensures.fault in
+    rw (p.1, p.2) (event_short c.args.payload.now c.in_err-head.field-0.0 (inr e.0), e.1)
+
+pub returns-in_err-head-clause-only : goal.returns-in_err-head-clause-only
+returns-in_err-head-clause-only c =
+    let p = err_from_is_err_and c.from_residual.result c.from_residual.ensures.1 in
+    let e = c.in_err-head.ensures.fault in
+    rw (p.1, p.2) (only_it IsEvent IsEventFault c.args.payload.now (Err c.in_err-head.field-0.0) tt (event_short c.args.payload.now c.in_err-head.field-0.0 (inr e.0), e.1) event_injective event_excludes)
+
+pub borrow_event_under-requires-clause-head : goal.borrow_event_under-requires-clause-head
+borrow_event_under-requires-clause-head c =
+    let src = c.args.payload.now in
+    let f = c.in_ok-head.ensures.found in
+    (drop c.in_ok-head.field-0-1 src, head_of src c.in_ok-head.head c.in_ok-head.field-0-1 f.0 f.1)
+
+pub borrow_event_under-requires-clause-event : goal.borrow_event_under-requires-clause-event
+borrow_event_under-requires-clause-event c =
+    let f = c.in_ok-head.ensures.found in
+    c.requires c.in_ok-head.head _ (head_of c.args.payload.now c.in_ok-head.head c.in_ok-head.field-0-1 f.0 f.1)

@@ -1,6 +1,5 @@
-use Rattle.std.proofs.Common.{ℕ, sym, ap, ◌∙◌}
+use Rattle.std.proofs.Common.{sym, ap, ◌∙◌}
 use Rattle.zk_records.specs.declared.op.Op.TheVariants as ops
-use Rattle.zk_records.specs.Held.{CreateAsk, SetAclAsk}
 use Rattle.zk_asks.specs.declared.frame.AskOf.TheVariants as ask
 use Rattle.zk_asks.proofs.Judged.{body_one, content_is}
 use Rattle.zk_jute.specs.Standing.{OneStands}
@@ -9,16 +8,13 @@ use Rattle.zk_asks.proofs.Lying.{part_read, parts_headed}
 use Rattle.zk_asks.proofs.known.body_there.Goals as goal
 
 pub returns-in-Create : goal.returns-in-Create
-returns-in-Create g c = λ a q is.
-    content_is ops.Create c.args.payload.now c.args.place c.known_at.result.0 (λ x end have stands. ap (λ (z : CreateAsk × ℕ). z.0) (c.known_at.ensures x end have stands)) a q (is ∙ c.in-Create.is)
+returns-in-Create g c = λ a q is. content_is ops.Create c.args.payload.now c.args.place c.known_at.result c.known_at.ensures a q (is ∙ c.in-Create.is)
 
 pub returns-in-Create2 : goal.returns-in-Create2
-returns-in-Create2 g c = λ a q is.
-    content_is ops.Create2 c.args.payload.now c.args.place c.known_at-in-Create2.result.0 (λ x end have stands. ap (λ (z : CreateAsk × ℕ). z.0) (c.known_at-in-Create2.ensures x end have stands)) a q (is ∙ c.in-Create2.is)
+returns-in-Create2 g c = λ a q is. content_is ops.Create2 c.args.payload.now c.args.place c.known_at-in-Create2.result c.known_at-in-Create2.ensures a q (is ∙ c.in-Create2.is)
 
 pub returns-in-SetAcl : goal.returns-in-SetAcl
-returns-in-SetAcl g c = λ a q is.
-    content_is ops.SetAcl c.args.payload.now c.args.place c.known_at-in-SetAcl.result.0 (λ x end have stands. ap (λ (z : SetAclAsk × ℕ). z.0) (c.known_at-in-SetAcl.ensures x end have stands)) a q (is ∙ c.in-SetAcl.is)
+returns-in-SetAcl g c = λ a q is. content_is ops.SetAcl c.args.payload.now c.args.place c.known_at-in-SetAcl.result c.known_at-in-SetAcl.ensures a q (is ∙ c.in-SetAcl.is)
 
 pub returns-in-Multi : goal.returns-in-Multi
 returns-in-Multi g c = λ a q is have stands.

@@ -3,11 +3,10 @@ use Rattle.std.specs.Prelude.{MatchOption}
 use Rattle.std.specs.Option.{IsSome}
 use Rattle.std.specs.Int.{w32}
 use Rattle.std.proofs.lemmas.Int.{to_z-of_z}
-use Rattle.zk_records.specs.Records.{request_header}
 use Rattle.zk_records.specs.Codes.{HasOp, IsNoOp, op_number}
 use Rattle.zk_records.specs.declared.op.Op.{Op}
 use Rattle.zk_records.specs.declared.profile.Profile.TheVariants as profiles
-use Rattle.zk_asks.proofs.Knowing.{found_there, ends_within, of_some, ask_header, ask_op, ask_body, ask_is}
+use Rattle.zk_asks.proofs.Knowing.{of_some, ask_header, ask_front, ask_op, ask_body, ask_is}
 use Rattle.zk_asks.proofs.known.known_ask.Goals as goal
 
 pub known_at-place-requires : goal.known_at-place-requires
@@ -19,31 +18,23 @@ some_op None kind told p e = absurd (told p tt e)
 
 pub unwrap-op-requires : goal.unwrap-op-requires
 unwrap-op-requires c =
-    let src = c.args.payload.now in
     let f = c.requires in
     let x = c.known_at-place in
-    let h = x.result.0 in
-    let found = found_there request_header src 0 x.result x.ensures (ask_header src f.0 (f.1, f.2, f.3)) in
-    let op = ask_op src h x.result.1 found.0 found.1 f.0 (f.1, f.2, f.3) in
-    some_op c.op_of.result (to_z w32 (of_z w32 h.kind)) c.op_of.ensures op.0 (to_z-of_z w32 h.kind found.0.1.1.0 ∙ op.1)
+    let front = ask_front c.args.payload.now x.result x.ensures f.0 (f.1, f.2, f.3) in
+    let op = ask_op c.args.payload.now x.result.0 x.result.1 front.0 front.1 f.0 (f.1, f.2, f.3) in
+    some_op c.op_of.result (to_z w32 (of_z w32 x.result.0.kind)) c.op_of.ensures op.0 (to_z-of_z w32 x.result.0.kind front.0.1.1.0 ∙ op.1)
 
 pub body_there-ask-requires : goal.body_there-ask-requires
 body_there-ask-requires c =
-    let src = c.args.payload.now in
     let f = c.requires in
     let x = c.known_at-place in
-    let h = x.result.0 in
-    let found = found_there request_header src 0 x.result x.ensures (ask_header src f.0 (f.1, f.2, f.3)) in
-    let within = ends_within (request_header.items h) src 0 x.result.1 (omega arith) found.1 in
-    let kind = sym (to_z-of_z w32 h.kind found.0.1.1.0) ∙ (of_some _ _ c.op_of.result c.unwrap-op.result c.unwrap-op.ensures c.op_of.ensures).1 in
-    record { within = within; stands = ask_body src h x.result.1 found.0 found.1 c.unwrap-op.result kind f.0 (f.1, f.2, f.3) within }
+    let front = ask_front c.args.payload.now x.result x.ensures f.0 (f.1, f.2, f.3) in
+    let kind = sym (to_z-of_z w32 x.result.0.kind front.0.1.1.0) ∙ (of_some _ _ c.op_of.result c.unwrap-op.result c.unwrap-op.ensures c.op_of.ensures).1 in
+    record { within = front.2; stands = ask_body c.args.payload.now x.result.0 x.result.1 front.0 front.1 c.unwrap-op.result kind f.0 (f.1, f.2, f.3) front.2 }
 
 pub returns : goal.returns
 returns c = λ f later sent is.
-    let src = c.args.payload.now in
     let x = c.known_at-place in
-    let h = x.result.0 in
-    let found = found_there request_header src 0 x.result x.ensures (ask_header src f (later, sent, is)) in
-    let within = ends_within (request_header.items h) src 0 x.result.1 (omega arith) found.1 in
-    let kind = sym (to_z-of_z w32 h.kind found.0.1.1.0) ∙ (of_some _ _ c.op_of.result c.unwrap-op.result c.unwrap-op.ensures c.op_of.ensures).1 in
-    rw (to_z-of_z w32 h.xid found.0.1.0) (ask_is src h x.result.1 found.0 found.1 c.unwrap-op.result kind within f (later, sent, is) c.body_there-ask.result c.body_there-ask.ensures)
+    let front = ask_front c.args.payload.now x.result x.ensures f (later, sent, is) in
+    let kind = sym (to_z-of_z w32 x.result.0.kind front.0.1.1.0) ∙ (of_some _ _ c.op_of.result c.unwrap-op.result c.unwrap-op.ensures c.op_of.ensures).1 in
+    rw (to_z-of_z w32 x.result.0.xid front.0.1.0) (ask_is c.args.payload.now x.result.0 x.result.1 front.0 front.1 c.unwrap-op.result kind front.2 f (later, sent, is) c.body_there-ask.result c.body_there-ask.ensures)
