@@ -10,6 +10,7 @@ ghost use Rattle.zk_fields.specs.Contents.{AreAt};
 ghost use Rattle.zk_fields.specs.Walks.{client_opened, server_opened, whole_fields};
 
 /// The fields of a message are its items, in order and in their places. The function does nothing.
+#[tactic(auto, using(crate::proofs::Same::client_is, crate::proofs::Same::server_is, crate::proofs::Contents::framed_at, crate::proofs::Agreeing::client_whole, crate::proofs::Agreeing::server_whole))]
 pub fn field_laws()
     // The header, the fields' items and a multi's end are the message's items, in order.
     ensures client { (f : ClientFrame) → framed_items (client_framed f) ≡ asks.frame_items f }

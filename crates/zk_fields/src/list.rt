@@ -8,7 +8,7 @@ ghost use Rattle.zk_fields.specs.Room.{Takes};
 
 use crate::field::{At, Field, put};
 use crate::kind::LIST;
-use crate::show::Show;
+use crate::show::{Show, number_field};
 use zk_jute::{KnownIn, Left, Sequence, Series};
 
 /// Writes the fields of each of `items`, one after the other.
@@ -37,15 +37,7 @@ fn count_number(count: usize) -> i64
 pub(crate) fn show_count(name: u16, count: usize, room: &mut [Field], at: At) -> At
     ensures { Takes at room.old (Under name (ACount (Some count)) ∷ []) result room.new }
 {
-    let field = Field {
-        place: at.place,
-        length: 4,
-        number: count_number(count),
-        name,
-        kind: LIST,
-        null: 0,
-    };
-    put(field, 4, room, at)
+    number_field(name, LIST, 4, count_number(count), room, at)
 }
 
 /// Writes the field of a list that is null.

@@ -18,20 +18,35 @@ pub trait Show {
         ensures { Takes at room.old (entries name self.now) result room.new };
 }
 
+/// Writes the field of a number, which has `size` bytes.
+#[inline(always)]
+pub(crate) fn number_field(
+    name: u16,
+    kind: u8,
+    size: u32,
+    number: i64,
+    room: &mut [Field],
+    at: At,
+) -> At
+    ensures { Puts at room.old (record { place = at.place; length = size; number = number; name = name; kind = kind; null = 0 }) size result room.new }
+{
+    let field = Field {
+        place: at.place,
+        length: size,
+        number,
+        name,
+        kind,
+        null: 0,
+    };
+    put(field, size, room, at)
+}
+
 impl Show for i32 {
     ghost entries = { λ name n. named name (int.items n) };
 
     #[tactic(auto, using(crate::proofs::Rooms::takes_one))]
     fn show(&self, name: u16, room: &mut [Field], at: At) -> At {
-        let field = Field {
-            place: at.place,
-            length: 4,
-            number: i64::from(*self),
-            name,
-            kind: INT,
-            null: 0,
-        };
-        put(field, 4, room, at)
+        number_field(name, INT, 4, i64::from(*self), room, at)
     }
 }
 
@@ -40,15 +55,7 @@ impl Show for i64 {
 
     #[tactic(auto, using(crate::proofs::Rooms::takes_one))]
     fn show(&self, name: u16, room: &mut [Field], at: At) -> At {
-        let field = Field {
-            place: at.place,
-            length: 8,
-            number: *self,
-            name,
-            kind: LONG,
-            null: 0,
-        };
-        put(field, 8, room, at)
+        number_field(name, LONG, 8, *self, room, at)
     }
 }
 
@@ -64,15 +71,7 @@ impl Show for bool {
 
     #[tactic(auto, using(crate::proofs::Rooms::takes_one))]
     fn show(&self, name: u16, room: &mut [Field], at: At) -> At {
-        let field = Field {
-            place: at.place,
-            length: 1,
-            number: bool_number(*self),
-            name,
-            kind: BOOLEAN,
-            null: 0,
-        };
-        put(field, 1, room, at)
+        number_field(name, BOOLEAN, 1, bool_number(*self), room, at)
     }
 }
 

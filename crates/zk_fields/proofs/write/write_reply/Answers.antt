@@ -10,18 +10,17 @@ use Rattle.zk_fields.specs.Written.{done_behind, answer_front, Writes}
 use Rattle.zk_fields.proofs.Again.{server_again, rests_alike}
 use Rattle.zk_fields.proofs.write.write_reply.Goals as goal
 
+pub returns-clause-frame : goal.returns-clause-frame
+returns-clause-frame c =
+    search (c.write_frame.ensures (answer_front c.args.xid c.args.zxid c.args.err) (done_behind c.args.err c.args.operation), c.reply_header-front.ensures, c.reply_end-behind.ensures.exact, rules)
+
 pub returns-clause-again : goal.returns-clause-again
 returns-clause-again c = λ r is.
-    let content = c.args.content.now in
-    let fields = c.args.fields.now in
     let before = c.args.room.now in
     let after = c.write_frame.new.room in
     let result = c.write_frame.result in
-    let front = answer_front c.args.xid c.args.zxid c.args.err in
-    let behind = done_behind c.args.err c.args.operation in
-    let same : Writes head.Results front behind content fields before result after = search (c.write_frame.ensures front behind, c.reply_header-front.ensures, c.reply_end-behind.ensures.exact, rules) in
     let err : c.args.err ≡ err_of r.outcome = ap (λ (z : ReplyHeader). z.err) (sym is.0) in
-    server_again (server.Answered r) content fields before after result (λ sent.
+    server_again (server.Answered r) c.args.content.now c.args.fields.now before after result (λ sent.
     let end : done_behind c.args.err c.args.operation ≡ rest_behind r.outcome = (λ k. done_behind (err k) (is.1 k)) ∙ rests_alike r.outcome sent.1 in
-    subst (λ (z : List Item). Writes head.Results (reply_header.items (header_of r)) z content fields before result after) end
-    (subst (λ (z : ReplyHeader). Writes head.Results (reply_header.items z) (done_behind c.args.err c.args.operation) content fields before result after) (sym is.0) same))
+    subst (λ (z : List Item). Writes head.Results (reply_header.items (header_of r)) z c.args.content.now c.args.fields.now before result after) end
+    (subst (λ (z : ReplyHeader). Writes head.Results (reply_header.items z) (done_behind c.args.err c.args.operation) c.args.content.now c.args.fields.now before result after) (sym is.0) (returns-clause-frame c)))
