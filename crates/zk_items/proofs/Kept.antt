@@ -1,5 +1,5 @@
 -- What stands in the output stays there, what is spelled stands behind it, and what holds anyway holds where a call goes well.
-use Rattle.std.proofs.Common.{◌≡◌, ℕ, ◌≤◌, List, ◌++◌, length, take, Option, Some, None, Result, Ok, Err, OnOk, OnSome, ap, ◌∙◌, arith, append_assoc}
+use Rattle.std.proofs.Common.{◌≡◌, ℕ, ◌≤◌, List, ◌++◌, length, take, Option, Some, None, Result, Ok, Err, OnOk, OnSome, IfNone, ap, ◌∙◌, arith, append_assoc}
 use Rattle.std.proofs.lemmas.List.{take-append-le, length-take}
 use Rattle.zk_items.specs.Form.{Keeps}
 
@@ -19,6 +19,10 @@ on_ok (Err x) p = tt
 pub on_some : {A P Q : Type 0} (r : Option A) → (P → Q) → OnSome r P → OnSome r Q
 on_some (Some x) f p = f p
 on_some None f p = tt
+
+pub on_none : {A P Q : Type 0} (r : Option A) → (P → Q) → IfNone r P → IfNone r Q
+on_none (Some x) f p = tt
+on_none None f p = f p
 
 pub on_both : {A P Q R : Type 0} (r : Option A) → (P → Q → R) → OnSome r P → OnSome r Q → OnSome r R
 on_both (Some x) f p q = f p q

@@ -1,7 +1,7 @@
 -- Bytes of a class, looked at many at a time.
 use Rattle.std.proofs.Common.{◌≡◌, ℕ, zero, suc, ◌+◌, ◌-◌, ◌*◌, ◌/◌, ◌%◌, ◌^◌, ◌<◌, ◌≤◌, Bool, true, false, not, cond, eqb, List, [], ◌∷◌, ◌++◌, map, length, take, drop, get_or, Fits, w8, refl, sym, ap, ap₂, ◌∙◌, take_all, arith}
-use Rattle.std.proofs.lemmas.Bool.{agree_below, agree_below_at, eq-eqb, ne_eqb, cond-true, cond-false}
-use Rattle.std.proofs.lemmas.List.{append-nil, drop_all, length-map, length-drop}
+use Rattle.std.proofs.lemmas.Bool.{agree_below, agree_below_at, eq-eqb, eqb-true, ne_eqb, cond-true, cond-false}
+use Rattle.std.proofs.lemmas.List.{append-nil, drop_all, length-append, length-map, length-drop}
 use Rattle.std.proofs.lemmas.List.Folds.{prefix_len-append}
 use Rattle.std.proofs.lemmas.List.Sums.{prefix_len-le-length}
 use Rattle.std.proofs.lemmas.Simd.{chunk-drop, length-chunk, map-map, mask_l-mod, first_set_mask_l}
@@ -83,7 +83,7 @@ module _ (q : ℕ → Bool) where
     pick true f e = let both = f (omega arith) in (omega (arith, both.0), both.1)
     pick false f e = absurd (omega arith)
 
-  pub ends_pass : (d : List ℕ) (n : ℕ) → n ≤ length d → length d ≤ 2 * n → prefix_len q (chunk 0 n d ++ chunk (length d - n) n d) ≡ 2 * n → prefix_len q d ≡ length d
+  ends_pass : (d : List ℕ) (n : ℕ) → n ≤ length d → length d ≤ 2 * n → prefix_len q (chunk 0 n d ++ chunk (length d - n) n d) ≡ 2 * n → prefix_len q d ≡ length d
   ends_pass d n within twice e =
       let at = length d - n in
       let first = length-chunk 0 n d (omega arith) in
@@ -93,13 +93,22 @@ module _ (q : ℕ → Bool) where
       omega (arith, look_last q d at n (omega (arith, front)) (omega arith), both.1, last)
 
 -- the places from one on to the last, picked in order
-abbrev pub upto : ℕ → ℕ → List ℕ
+abbrev upto : ℕ → ℕ → List ℕ
 upto i zero = []
 upto i (suc k) = i ∷ upto (suc i) k
 
-pub in_order : (l : List ℕ) (k i : ℕ) → i + k ≡ length l → pick_l 0 l (upto i k) ≡ drop i l
+in_order : (l : List ℕ) (k i : ℕ) → i + k ≡ length l → pick_l 0 l (upto i k) ≡ drop i l
 in_order l zero i e = sym (drop_all i l (omega arith))
 in_order l (suc k) i e = ap (λ (r : List ℕ). get_or l i 0 ∷ r) (in_order l k (suc i) (omega arith)) ∙ sym (drop-cons l i 0 (omega arith))
+
+-- the first n and the last n, looked at together
+pub ends_are : (q : ℕ → Bool) (d : List ℕ) (n r : ℕ) → (n ≤ length d) × (length d ≤ 2 * n) → r ≡ prefix_len q (pick_l 0 (chunk 0 n d ++ chunk (length d - n) n d) (upto 0 (2 * n))) → eqb r (2 * n) ≡ true
+    → prefix_len q d ≡ length d
+ends_are q d n r (within, twice) look is =
+    let first = chunk 0 n d in
+    let last = chunk (length d - n) n d in
+    let long : 0 + 2 * n ≡ length (first ++ last) = omega (arith, length-append first last, length-chunk 0 n d (omega arith), length-chunk (length d - n) n d (omega arith)) in
+    ends_pass q d n within twice (sym (ap (prefix_len q) (in_order (first ++ last) (2 * n) 0 long)) ∙ sym look ∙ eqb-true r (2 * n) is)
 
 -- ---- texts, a run of plain bytes at a time
 

@@ -4,7 +4,7 @@ use Rattle.std.specs.List.{prefix_len, AllByRecursion}
 use Rattle.std.specs.Fmt.{signed_decimal, decimal}
 use Rattle.std.specs.Str.{IsAscii}
 use Rattle.std.specs.Str.Parse.{signed_digits_value, digits_value, AllDigits, ParsesSigned, without_leading_sign, without_leading_plus}
-use Rattle.std.proofs.Common.{ap, sym, ◌∙◌, cond, arith, subst, ltb-true, lt-ltb, le-leb, ne_eqb, neg_ℤ, w32, w64}
+use Rattle.std.proofs.Common.{ap, sym, ◌∙◌, cond, arith, subst, ltb-true, lt-ltb, le-leb, ne_eqb, neg_ℤ, w64}
 use Rattle.std.proofs.lemmas.List.{take-append-drop}
 use Rattle.std.proofs.Math.Seq.{take-append_seam, drop-append_seam}
 use Rattle.std.proofs.lemmas.Fmt.{decimal_is_IsNumeral, IsAscii-signed, parse-signed_decimal}
@@ -121,10 +121,6 @@ number_text z run fit e = subst (λ (r : List ℕ). IsUtf8 r) (sym e) (IsUtf8-fr
 pub wide : (z : ℤ) → in_range 31 z ≡ true → in_range 63 z ≡ true
 wide (pos n) fit = let small : n < 2 ^ 31 = ltb-true n (2 ^ 31) fit in lt-ltb n (2 ^ 63) (omega arith)
 wide (negsuc n) fit = let small : n < 2 ^ 31 = ltb-true n (2 ^ 31) fit in lt-ltb n (2 ^ 63) (omega arith)
-
-pub parse_int : {E : Type 0} (z : ℤ) (run : List ℕ) (r : Result ℤ E) → in_range 31 z ≡ true → run ≡ signed_decimal z → ParsesSigned w32 10 run r → r ≡ Ok z
-parse_int (pos n) run r fit e h = let small : n < 2 ^ 31 = ltb-true n (2 ^ 31) fit in parse-signed_decimal w32 (pos n) run r (record { sfits = small }) (omega arith) e h
-parse_int (negsuc n) run r fit e h = let small : n < 2 ^ 31 = ltb-true n (2 ^ 31) fit in parse-signed_decimal w32 (negsuc n) run r (record { sfits = small }) (omega arith) e h
 
 pub parse_long : {E : Type 0} (z : ℤ) (run : List ℕ) (r : Result ℤ E) → in_range 63 z ≡ true → run ≡ signed_decimal z → ParsesSigned w64 10 run r → r ≡ Ok z
 parse_long (pos n) run r fit e h = let small : n < 2 ^ 63 = ltb-true n (2 ^ 63) fit in parse-signed_decimal w64 (pos n) run r (record { sfits = small }) (omega arith) e h

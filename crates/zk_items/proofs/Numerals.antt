@@ -1,9 +1,9 @@
 -- Numbers told from their digits alone.
 use Rattle.std.proofs.Common.{◌≡◌, ℕ, zero, suc, ◌+◌, ◌-◌, ◌*◌, ◌^◌, ◌<◌, ◌≤◌, Some, true, false, List, ◌∷◌, length, take, drop, get_or, ap, sym, ◌∙◌, arith, lt-ltb, ltb-true, SFits, w32, w64, to_z, of_z}
-use Rattle.std.specs.Prelude.{ℤ, pos, negsuc, neg_ℤ}
+use Rattle.std.specs.Prelude.{◌≢◌, ℤ, pos, negsuc, neg_ℤ}
 use Rattle.std.specs.List.{prefix_len}
 use Rattle.std.specs.Fmt.{decimal, signed_decimal}
-use Rattle.std.specs.Str.Parse.{AllDigits, digits_value}
+use Rattle.std.specs.Str.Parse.{AllDigits, digits_value, signed_digits_value}
 use Rattle.std.proofs.lemmas.Int.{to_z-of_z}
 use Rattle.std.proofs.lemmas.Int.Digits.{digits_more, digits_value_more}
 use Rattle.std.proofs.lemmas.Fmt.{decimal-digits_value}
@@ -12,7 +12,7 @@ use Rattle.std.proofs.lemmas.List.Sums.{prefix_len_is}
 use Rattle.std.proofs.lemmas.Str.{digit_value_digit}
 use Rattle.std.proofs.lemmas.Str.Parse.{IsNumeralModel, numerals_by_value, tells_digits, digits_value_short, digit_at}
 use Rattle.zk_items.specs.Leaf.{in_number, in_range, num_of, num_at}
-use Rattle.zk_items.proofs.Numbers.{num_of_some, num_of_sound, wide}
+use Rattle.zk_items.proofs.Numbers.{num_of_some, num_of_sound, wide, written_value}
 
 own : IsNumeralModel (AllDigits 10) (digits_value 10)
 own = numerals_by_value (AllDigits 10) tells_digits
@@ -84,6 +84,14 @@ read_minus bytes rest (suc value) len n front is run (same, some, small) =
     ∙ ap (λ (z : ℤ). Some (z, drop (suc len) (45 ∷ rest))) (sym (to_z-of_z w64 (negsuc value) fits)) ∙ ap (λ (z : ℤ). Some (to_z w64 (of_z w64 z), drop (suc len) (45 ∷ rest))) (sym same)
     ∙ ap (λ (k : ℕ). Some (to_z w64 (of_z w64 n), drop k (45 ∷ rest))) one ∙ ap (λ (b : List ℕ). Some (to_z w64 (of_z w64 n), drop (len + 1) b)) (sym front)
 
+int_fits : (m : ℤ) → in_range 31 m ≡ true → SFits w32 m
+int_fits (pos n) fit = let small : n < 2 ^ 31 = ltb-true n (2 ^ 31) fit in record { sfits = small }
+int_fits (negsuc n) fit = let small : n < 2 ^ 31 = ltb-true n (2 ^ 31) fit in record { sfits = small }
+
+long_fits : (m : ℤ) → in_range 63 m ≡ true → SFits w64 m
+long_fits (pos n) fit = let small : n < 2 ^ 63 = ltb-true n (2 ^ 63) fit in record { sfits = small }
+long_fits (negsuc n) fit = let small : n < 2 ^ 63 = ltb-true n (2 ^ 63) fit in record { sfits = small }
+
 -- a long that is an int is read as an int too
 pub read_narrow : (bytes rest : List ℕ) (n m : ℤ) → num_at 63 bytes ≡ Some (n, rest) → (m ≡ to_z w64 (of_z w64 n)) × (in_range 31 m ≡ true) → num_at 31 bytes ≡ Some (to_z w32 (of_z w32 m), rest)
 unfolding num_at
@@ -93,11 +101,10 @@ read_narrow bytes rest n m read (same, fit) =
     let number : m ≡ n = same ∙ to_z-of_z w64 n (long_fits n sound.1) in
     let spelled : take k bytes ≡ signed_decimal m = sound.0 ∙ ap signed_decimal (sym number) in
     num_of_some 31 m (take k bytes) (drop k bytes) (wide m fit) fit spelled ∙ ap (λ (r : List ℕ). Some (m, r)) sound.2
-    ∙ ap (λ (z : ℤ). Some (z, rest)) (sym (to_z-of_z w32 m (int_fits m fit))) where
-      int_fits : (m : ℤ) → in_range 31 m ≡ true → SFits w32 m
-      int_fits (pos n) fit = let small : n < 2 ^ 31 = ltb-true n (2 ^ 31) fit in record { sfits = small }
-      int_fits (negsuc n) fit = let small : n < 2 ^ 31 = ltb-true n (2 ^ 31) fit in record { sfits = small }
+    ∙ ap (λ (z : ℤ). Some (z, rest)) (sym (to_z-of_z w32 m (int_fits m fit)))
 
-      long_fits : (m : ℤ) → in_range 63 m ≡ true → SFits w64 m
-      long_fits (pos n) fit = let small : n < 2 ^ 63 = ltb-true n (2 ^ 63) fit in record { sfits = small }
-      long_fits (negsuc n) fit = let small : n < 2 ^ 63 = ltb-true n (2 ^ 63) fit in record { sfits = small }
+-- a long that is no int is spelled as no int is
+pub none_narrow : (run : List ℕ) (n : ℤ) → (run ≡ signed_decimal n) × (in_range 63 n ≡ true) → in_range 31 (to_z w64 (of_z w64 n)) ≡ false → (z : ℤ) → in_range 31 z ≡ true → run ≢ signed_decimal z
+none_narrow run n (is, fits) out z fit e =
+    let same : n ≡ z = sym (written_value n fits).0 ∙ ap (signed_digits_value 10) (sym is ∙ e) ∙ (written_value z (wide z fit)).0 in
+    let k : false ≡ true = sym out ∙ ap (in_range 31) (to_z-of_z w64 n (long_fits n fits) ∙ same) ∙ fit in cc

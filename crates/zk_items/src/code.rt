@@ -3,6 +3,8 @@ ghost use Rattle.std.specs.Prelude.{◌≡◌, ◌++◌, Some, None, OnOk, optio
 ghost use Rattle.zk_items.specs.Form.{Gives, Keeps, Passes};
 ghost use Rattle.zk_items.specs.Codes.{name_at, name_spell};
 ghost use Rattle.zk_items.specs.Codes as codes;
+ghost use Rattle.zk_items.specs.Leaf.{int};
+ghost use Rattle.std.specs.Fmt.{signed_decimal};
 
 use crate::fault::{LineFault, LineReason};
 use crate::reader::Reader;
@@ -26,7 +28,7 @@ fn type_name(number: i32) -> Option<&'static str>
 
 /// Passes `/` and `name`; else returns `fault`.
 #[tactic(auto, unfolding(crate::specs::Codes::name_at))]
-fn read_name(line: &mut Reader<'_>, name: &str, fault: LineFault) -> Result<(), LineFault>
+fn read_some_name(line: &mut Reader<'_>, name: &str, fault: LineFault) -> Result<(), LineFault>
     ensures { Passes result line.new (name_at (Some name.now) line.old) }
 {
     if !line.passes(b"/") {
@@ -50,22 +52,12 @@ fn read_no_name(line: &Reader<'_>, fault: LineFault) -> Result<(), LineFault>
     }
 }
 
-/// Passes what follows the number of an error: `/` and its name, if it has one; else returns `fault`.
-fn read_error_name(line: &mut Reader<'_>, number: i32, fault: LineFault) -> Result<(), LineFault>
-    ensures { Passes result line.new (name_at (codes.error_name number) line.old) }
+/// Passes what follows a number: `/` and its name `name`, if it has one; else returns `fault`.
+fn read_name(line: &mut Reader<'_>, name: Option<&str>, fault: LineFault) -> Result<(), LineFault>
+    ensures { Passes result line.new (name_at (option_copied name.entry) line.old) }
 {
-    match error_name(number) {
-        Some(name) => read_name(line, name, fault),
-        None => read_no_name(line, fault),
-    }
-}
-
-/// Passes what follows the number of a type of event: `/` and its name, if it has one; else returns `fault`.
-fn read_type_name(line: &mut Reader<'_>, number: i32, fault: LineFault) -> Result<(), LineFault>
-    ensures { Passes result line.new (name_at (codes.type_name number) line.old) }
-{
-    match type_name(number) {
-        Some(name) => read_name(line, name, fault),
+    match name {
+        Some(name) => read_some_name(line, name, fault),
         None => read_no_name(line, fault),
     }
 }
@@ -76,7 +68,7 @@ pub fn read_error_code(line: &mut Reader<'_>) -> Result<i32, LineFault>
 {
     let fault = line.fault(LineReason::Name);
     let number = line.int()?;
-    read_error_name(line, number, fault)?;
+    read_name(line, error_name(number), fault)?;
     Ok(number)
 }
 
@@ -96,7 +88,7 @@ pub fn read_failure_code(line: &mut Reader<'_>) -> Result<i32, LineFault>
     if is_zero(number) {
         return Err(no_number);
     }
-    read_error_name(line, number, no_name)?;
+    read_name(line, error_name(number), no_name)?;
     Ok(number)
 }
 
@@ -106,36 +98,29 @@ pub fn read_event_code(line: &mut Reader<'_>) -> Result<i32, LineFault>
 {
     let fault = line.fault(LineReason::Name);
     let number = line.int()?;
-    read_type_name(line, number, fault)?;
+    read_name(line, type_name(number), fault)?;
     Ok(number)
 }
 
-fn put_name(out: &mut Vec<u8>, name: &str) -> Result<(), AllocError>
-    ensures spelled { OnOk result (out.new.items ≡ out.old.items ++ name_spell (Some name.now)) }
+fn put_name(out: &mut Vec<u8>, name: Option<&str>) -> Result<(), AllocError>
+    ensures spelled { OnOk result (out.new.items ≡ out.old.items ++ name_spell (option_copied name.entry)) }
     ensures keeps { Keeps out.old.items out.new.items }
 {
+    let Some(name) = name else {
+        return Ok(());
+    };
     out.extend_from_slice(b"/")?;
     out.extend_from_slice(name.as_bytes())
 }
 
-fn put_error_name(out: &mut Vec<u8>, number: i32) -> Result<(), AllocError>
-    ensures spelled { OnOk result (out.new.items ≡ out.old.items ++ name_spell (codes.error_name number)) }
+/// Appends `number`, and `/` and its name `name` if it has one.
+fn put_code(out: &mut Vec<u8>, number: i32, name: Option<&str>) -> Result<(), AllocError>
+    ensures spelled { OnOk result (out.new.items ≡ out.old.items ++ (signed_decimal number ++ name_spell (option_copied name.entry))) }
+    ensures fits { OnOk result (int.fits number) }
     ensures keeps { Keeps out.old.items out.new.items }
 {
-    match error_name(number) {
-        Some(name) => put_name(out, name),
-        None => Ok(()),
-    }
-}
-
-fn put_type_name(out: &mut Vec<u8>, number: i32) -> Result<(), AllocError>
-    ensures spelled { OnOk result (out.new.items ≡ out.old.items ++ name_spell (codes.type_name number)) }
-    ensures keeps { Keeps out.old.items out.new.items }
-{
-    match type_name(number) {
-        Some(name) => put_name(out, name),
-        None => Ok(()),
-    }
+    put_int(out, number)?;
+    put_name(out, name)
 }
 
 /// Appends the number of an error, and `/` and its name if it has one.
@@ -144,8 +129,7 @@ pub fn put_error_code(out: &mut Vec<u8>, number: i32) -> Result<(), AllocError>
     ensures fits { OnOk result (codes.error_code.fits number) }
     ensures keeps { Keeps out.old.items out.new.items }
 {
-    put_int(out, number)?;
-    put_error_name(out, number)
+    put_code(out, number, error_name(number))
 }
 
 /// Appends the number of a type of event, and `/` and its name if it has one.
@@ -154,6 +138,5 @@ pub fn put_event_code(out: &mut Vec<u8>, number: i32) -> Result<(), AllocError>
     ensures fits { OnOk result (codes.event_code.fits number) }
     ensures keeps { Keeps out.old.items out.new.items }
 {
-    put_int(out, number)?;
-    put_type_name(out, number)
+    put_code(out, number, type_name(number))
 }

@@ -1,11 +1,11 @@
 //! Numbers told from their digits alone, in one pass.
-ghost use Rattle.std.specs.Prelude.{◌≡◌, ◌≤◌, ◌<◌, length, take, drop, slice_index, IfSome, Some, true, false, ◌^◌, pos, neg_ℤ};
+ghost use Rattle.std.specs.Prelude.{◌≡◌, ◌≤◌, ◌<◌, length, take, drop, slice_index, IfSome, Some, false, ◌^◌, pos, neg_ℤ};
 ghost use Rattle.std.specs.List.{prefix_len};
 ghost use Rattle.std.specs.Fmt.{decimal};
 ghost use Rattle.std.specs.Str.Parse.{AllDigits, digits_value};
-ghost use Rattle.zk_items.specs.Leaf.{in_number, in_range, num_at};
+ghost use Rattle.zk_items.specs.Leaf.{in_number, num_at};
 
-use crate::number::is_in_number;
+use crate::number::{is_in_number, narrow};
 
 /// The number that the digits in front of `bytes` spell, of nineteen at most, and how many these are.
 fn digits_ahead(bytes: &[u8]) -> (u64, usize)
@@ -87,13 +87,6 @@ pub fn long_ahead(bytes: &[u8]) -> Option<(i64, usize)>
     let (value, len) = unsigned_ahead(bytes)?;
     let n = above_zero(value)?;
     Some((n, len))
-}
-
-/// The int `n`; `None` if it isn't one.
-fn narrow(n: i64) -> Option<i32>
-    ensures { IfSome result (λ m. (m ≡ n) × (in_range 31 m ≡ true)) }
-{
-    i32::try_from(n).ok()
 }
 
 /// The int that begins `bytes`, and the length of its spelling; `None` where its digits alone don't decide.

@@ -1,5 +1,5 @@
 //! Runs of digits or letters in front of bytes, and the numbers that they spell.
-ghost use Rattle.std.specs.Prelude.{◌≡◌, ◌≢◌, ◌≤◌, length, IfSome, IfNone, bytes_eq, ℤ, true};
+ghost use Rattle.std.specs.Prelude.{◌≡◌, ◌≢◌, ◌≤◌, length, IfSome, IfNone, bytes_eq, ℤ, true, false};
 ghost use Rattle.std.specs.List.{prefix_len};
 ghost use Rattle.std.specs.Fmt.{signed_decimal};
 ghost use Rattle.zk_items.specs.Leaf as leaf;
@@ -68,35 +68,10 @@ pub fn hex_len(bytes: &[u8]) -> usize
     }
 }
 
-fn is_int(n: i32, run: &[u8]) -> bool
-    ensures { (z : ℤ) → z ≡ n → result ≡ bytes_eq (signed_decimal z) run.now }
-{
-    Buffer::new().format(n).as_bytes() == run
-}
-
 fn is_long(n: i64, run: &[u8]) -> bool
     ensures { (z : ℤ) → z ≡ n → result ≡ bytes_eq (signed_decimal z) run.now }
 {
     Buffer::new().format(n).as_bytes() == run
-}
-
-/// The int that `run` spells, in its only spelling: no sign but `-`, no leading zero; `None` if it spells none.
-pub fn int_of(run: &[u8]) -> Option<i32>
-    ensures found { IfSome result (λ n. (run.now ≡ signed_decimal n) × (leaf.in_range 31 n ≡ true)) }
-    ensures none { IfNone result ((z : ℤ) → leaf.in_range 31 z ≡ true → run.now ≢ signed_decimal z) }
-{
-    let text = match std::str::from_utf8(run) {
-        Ok(text) => text,
-        Err(_) => return None,
-    };
-    let n = match text.parse::<i32>() {
-        Ok(n) => n,
-        Err(_) => return None,
-    };
-    if !is_int(n, run) {
-        return None;
-    }
-    Some(n)
 }
 
 /// The long that `run` spells, in its only spelling: no sign but `-`, no leading zero; `None` if it spells none.
@@ -116,4 +91,21 @@ pub fn long_of(run: &[u8]) -> Option<i64>
         return None;
     }
     Some(n)
+}
+
+/// The int `n`; `None` if it isn't one.
+pub fn narrow(n: i64) -> Option<i32>
+    ensures found { IfSome result (λ m. (m ≡ n) × (leaf.in_range 31 m ≡ true)) }
+    ensures none { IfNone result (leaf.in_range 31 n ≡ false) }
+{
+    i32::try_from(n).ok()
+}
+
+/// The int that `run` spells, as `long_of` reads a long; `None` if it spells none.
+pub fn int_of(run: &[u8]) -> Option<i32>
+    ensures found { IfSome result (λ n. (run.now ≡ signed_decimal n) × (leaf.in_range 31 n ≡ true)) }
+    ensures none { IfNone result ((z : ℤ) → leaf.in_range 31 z ≡ true → run.now ≢ signed_decimal z) }
+{
+    let n = long_of(run)?;
+    narrow(n)
 }

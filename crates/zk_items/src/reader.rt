@@ -24,6 +24,22 @@ use zk_jute::{Blob, Bytes, Chars, Text};
 /// The bytes of three escapes; where fewer are ahead, they are read one by one.
 const RUN: usize = 9;
 
+/// `number!(self, ahead, of)` reads a number: by `ahead`, or else by `of` of its run.
+macro_rules! number {
+    ($line:ident, $ahead:ident, $of:ident) => {{
+        if let Some((n, len)) = $ahead($line.ahead) {
+            $line.ahead = &$line.ahead[len..];
+            return Ok(n);
+        }
+        let (run, rest) = $line.ahead.split_at(number_len($line.ahead));
+        let Some(n) = $of(run) else {
+            return Err($line.fault(LineReason::Number));
+        };
+        $line.ahead = rest;
+        Ok(n)
+    }};
+}
+
 /// What is left of a line.
 #[derive(Drop)]
 pub struct Reader<'a> {
@@ -172,16 +188,7 @@ impl<'a> Reader<'a> {
     pub fn int(&mut self) -> Result<i32, LineFault>
         ensures { Gives result self.new (num_at 31 self.old) }
     {
-        if let Some((n, len)) = int_ahead(self.ahead) {
-            self.ahead = &self.ahead[len..];
-            return Ok(n);
-        }
-        let (run, rest) = self.ahead.split_at(number_len(self.ahead));
-        let Some(n) = int_of(run) else {
-            return Err(self.fault(LineReason::Number));
-        };
-        self.ahead = rest;
-        Ok(n)
+        number!(self, int_ahead, int_of)
     }
 
     /// Reads a long.
@@ -189,16 +196,7 @@ impl<'a> Reader<'a> {
     pub fn long(&mut self) -> Result<i64, LineFault>
         ensures { Gives result self.new (num_at 63 self.old) }
     {
-        if let Some((n, len)) = long_ahead(self.ahead) {
-            self.ahead = &self.ahead[len..];
-            return Ok(n);
-        }
-        let (run, rest) = self.ahead.split_at(number_len(self.ahead));
-        let Some(n) = long_of(run) else {
-            return Err(self.fault(LineReason::Number));
-        };
-        self.ahead = rest;
-        Ok(n)
+        number!(self, long_ahead, long_of)
     }
 
     /// Reads a blob: `~`, or `#` and the longest run of lower-case digits.

@@ -1,19 +1,6 @@
-use Rattle.std.proofs.Common.{◌≡◌, ◌++◌, ◌-◌, ◌+◌, length, sym, ap, ◌∙◌, arith}
-use Rattle.std.proofs.lemmas.List.{length-append}
-use Rattle.std.proofs.lemmas.Simd.{length-chunk}
-use Rattle.std.specs.List.{prefix_len}
-use Rattle.std.proofs.lemmas.Bool.{eqb-true}
-use lib.Lanes.{chunk}
 use Rattle.zk_items.specs.Leaf.{is_plain}
-use Rattle.zk_items.proofs.Looks.{ends_pass, in_order}
+use Rattle.zk_items.proofs.Looks.{ends_are}
 use Rattle.zk_items.proofs.plain.are_plain_by_16.Goals as goal
 
 pub returns : goal.returns
-returns c is =
-    let d = c.args.bytes.now in
-    let within = c.requires.0 in
-    let first = chunk 0 16 d in
-    let last = chunk (length d - 16) 16 d in
-    let long : 0 + 32 ≡ length (first ++ last) = omega (arith, length-append first last, length-chunk 0 16 d (omega arith), length-chunk (length d - 16) 16 d (omega arith)) in
-    let whole : c.run_in.result ≡ 32 = eqb-true c.run_in.result 32 is in
-    ends_pass is_plain d 16 within c.requires.1 (sym (ap (prefix_len is_plain) (in_order (first ++ last) 32 0 long)) ∙ sym c.run_in.ensures ∙ whole)
+returns c is = ends_are is_plain c.args.bytes.now 16 c.run_in.result c.requires c.run_in.ensures is

@@ -6,8 +6,6 @@ use Rattle.zk_items.proofs.class.DigitClass.run_in.Goals as goal
 
 pub returns : goal.returns
 returns g c =
-    let v = c.args.v in
-    let n = g.row.N in
     let long = c.fits-v.0 in
-    let between = zip2_of_maps _ _ _ v (zip2_splat_left _ 58 n v long) (zip2_splat _ v n 97 long) in
-    lanes_before in_hex _ v _ n long c.requires c.fits-v.1 (zip2_of_maps _ _ _ v (zip2_of_maps _ _ _ v (zip2_splat _ v n 48 long) between) (zip2_splat_left _ 103 n v long)) refl _ c.first_set.ensures
+    let between = zip2_of_maps _ _ _ _ (zip2_splat_left _ 58 _ _ long) (zip2_splat _ _ _ 97 long) in
+    lanes_before in_hex _ _ _ _ long c.requires c.fits-v.1 (zip2_of_maps _ _ _ _ (zip2_of_maps _ _ _ _ (zip2_splat _ _ _ 48 long) between) (zip2_splat_left _ 103 _ _ long)) refl _ c.first_set.ensures

@@ -6,8 +6,6 @@ use Rattle.zk_items.proofs.class.OddClass.run_in.Goals as goal
 
 pub returns : goal.returns
 returns g c =
-    let v = c.args.v in
-    let n = g.row.N in
     let long = c.fits-v.0 in
-    let high = zip2_of_maps _ _ _ v (zip2_splat_left _ 32 n v long) (zip2_splat _ v n 34 long) in
-    lanes_before is_odd _ v _ n long c.requires c.fits-v.1 (zip2_of_maps _ _ _ v (zip2_of_maps _ _ _ v high (zip2_splat _ v n 92 long)) (zip2_splat _ v n 127 long)) refl _ c.first_set.ensures
+    let high = zip2_of_maps _ _ _ _ (zip2_splat_left _ 32 _ _ long) (zip2_splat _ _ _ 34 long) in
+    lanes_before is_odd _ _ _ _ long c.requires c.fits-v.1 (zip2_of_maps _ _ _ _ (zip2_of_maps _ _ _ _ high (zip2_splat _ _ _ 92 long)) (zip2_splat _ _ _ 127 long)) refl _ c.first_set.ensures
