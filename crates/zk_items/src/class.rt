@@ -86,7 +86,8 @@ impl<const N: usize> Class<N> for Digit {
 pub fn run_by<const N: usize, C: Class<N>>(bytes: &[u8]) -> usize
     requires some { (0 < N) × (N ≤ 64) }
     requires room { N ≤ length bytes.now }
-    ensures { result ≡ prefix_len C.has bytes.now }
+    ensures value { result ≡ prefix_len C.has bytes.now }
+    ensures within { result ≤ length bytes.now }
 {
     let last = bytes.len() - N;
     let mut at = 0;

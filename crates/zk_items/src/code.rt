@@ -1,10 +1,10 @@
 //! Numbers with names, `-101/NONODE`: errors and types of events, read and written.
 ghost use Rattle.std.specs.Prelude.{◌≡◌, ◌++◌, Some, None, OnOk, option_copied};
+ghost use Rattle.std.specs.Fmt.{signed_decimal};
 ghost use Rattle.zk_items.specs.Form.{Gives, Keeps, Passes};
 ghost use Rattle.zk_items.specs.Codes.{name_at, name_spell};
 ghost use Rattle.zk_items.specs.Codes as codes;
 ghost use Rattle.zk_items.specs.Leaf.{int};
-ghost use Rattle.std.specs.Fmt.{signed_decimal};
 
 use crate::fault::{LineFault, LineReason};
 use crate::reader::Reader;
@@ -114,6 +114,7 @@ fn put_name(out: &mut Vec<u8>, name: Option<&str>) -> Result<(), AllocError>
 }
 
 /// Appends `number`, and `/` and its name `name` if it has one.
+#[tactic(auto, using(crate::proofs::Kept::then_spelled))]
 fn put_code(out: &mut Vec<u8>, number: i32, name: Option<&str>) -> Result<(), AllocError>
     ensures spelled { OnOk result (out.new.items ≡ out.old.items ++ (signed_decimal number ++ name_spell (option_copied name.entry))) }
     ensures fits { OnOk result (int.fits number) }

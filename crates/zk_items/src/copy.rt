@@ -48,6 +48,7 @@ pub fn set_count(out: &mut Vec<u8>, start: usize, count: usize) -> Option<()>
 }
 
 /// Whether the bytes are UTF-8.
+#[tactic(auto, using(crate::proofs::Copies::plain_text))]
 fn is_text(bytes: &[u8]) -> bool
     ensures { IsTrue result → IsUtf8 bytes.now }
 {

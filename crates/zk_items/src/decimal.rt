@@ -75,6 +75,7 @@ fn below_zero(value: u64) -> Option<i64>
 
 /// The long that begins `bytes`, and the length of its spelling; `None` where its digits alone don't decide.
 // Stands for `long_of` of the run in front.
+#[tactic(auto, using(crate::proofs::Numerals::read_plain, crate::proofs::Numerals::read_minus))]
 pub fn long_ahead(bytes: &[u8]) -> Option<(i64, usize)>
     ensures read { IfSome result (λ q. num_at 63 bytes.now ≡ Some (q.0, drop q.1 bytes.now)) }
     ensures within { IfSome result (λ q. q.1 ≤ length bytes.now) }
@@ -91,6 +92,7 @@ pub fn long_ahead(bytes: &[u8]) -> Option<(i64, usize)>
 
 /// The int that begins `bytes`, and the length of its spelling; `None` where its digits alone don't decide.
 // Stands for `int_of` of the run in front.
+#[tactic(auto, using(crate::proofs::Numerals::read_narrow))]
 pub fn int_ahead(bytes: &[u8]) -> Option<(i32, usize)>
     ensures read { IfSome result (λ q. num_at 31 bytes.now ≡ Some (q.0, drop q.1 bytes.now)) }
     ensures within { IfSome result (λ q. q.1 ≤ length bytes.now) }

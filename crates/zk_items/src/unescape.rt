@@ -17,6 +17,7 @@ fn decoded(chars: u8x16) -> u8x16 {
 }
 
 /// The number of lanes before the first at which `a` and `b` differ.
+#[tactic(auto, using(crate::proofs::Escapes::same_front, crate::proofs::Escapes::same_within))]
 #[inline(always)]
 fn same_len(a: u8x16, b: u8x16) -> usize
     ensures same { take result a ≡ take result b }

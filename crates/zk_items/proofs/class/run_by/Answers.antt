@@ -3,8 +3,8 @@ use Rattle.std.proofs.lemmas.List.Sums.{prefix_len-le-length}
 use Rattle.zk_items.proofs.Looks.{look_stops, look_passes, look_last}
 use Rattle.zk_items.proofs.class.run_by.Goals as goal
 
-pub returns-then-run : goal.returns-then-run
-returns-then-run g c =
+pub returns-then-run-clause-value : goal.returns-then-run-clause-value
+returns-then-run-clause-value g c =
     let run = c.run_in-run.ensures in
     omega (arith, run, look_stops g.C.Class.has c.args.bytes.now c.loop-at.at g.row.N c.loop-at.invariant (omega arith) (omega (arith, run)))
 
@@ -16,5 +16,10 @@ overflow_add-result-2 g c =
     let whole = look_last g.C.Class.has c.args.bytes.now (length c.args.bytes.now - g.row.N) g.row.N (omega (arith, c.loop-at.invariant)) (omega arith) in
     record { fits = omega (arith, c.run_in.ensures, whole, prefix_len-le-length g.C.Class.has c.args.bytes.now) }
 
-pub returns : goal.returns
-returns g c = omega (arith, c.run_in.ensures, look_last g.C.Class.has c.args.bytes.now (length c.args.bytes.now - g.row.N) g.row.N (omega (arith, c.loop-at.invariant)) (omega arith))
+pub returns-clause-value : goal.returns-clause-value
+returns-clause-value g c = omega (arith, c.run_in.ensures, look_last g.C.Class.has c.args.bytes.now (length c.args.bytes.now - g.row.N) g.row.N (omega (arith, c.loop-at.invariant)) (omega arith))
+
+pub returns-clause-within : goal.returns-clause-within
+returns-clause-within g c =
+    let whole = look_last g.C.Class.has c.args.bytes.now (length c.args.bytes.now - g.row.N) g.row.N (omega (arith, c.loop-at.invariant)) (omega arith) in
+    omega (arith, c.run_in.ensures, whole, prefix_len-le-length g.C.Class.has c.args.bytes.now)

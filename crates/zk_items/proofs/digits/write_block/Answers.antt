@@ -5,9 +5,6 @@ use Rattle.hex.proofs.HexLemmas.{length-encode_with}
 use Rattle.hex.specs.Hex.{lower_digits}
 use Rattle.zk_items.proofs.digits.write_block.Goals as goal
 
-pub returns-clause-room : goal.returns-clause-room
-returns-clause-room c = length-put_chunk (2 * c.args.at) c.args.room.now c.pairs.result
-
 pub returns-clause-written : goal.returns-clause-written
 returns-clause-written c =
     let room = c.args.room.now in

@@ -10,9 +10,6 @@ use Rattle.zk_items.proofs.undigits.read_block.Goals as goal
 pub joined-requires : goal.joined-requires
 joined-requires c = hex_take 32 (drop (2 * c.args.at) c.args.digits.now) (hex_drop (2 * c.args.at) c.args.digits.now c.requires.hex)
 
-pub returns-clause-room : goal.returns-clause-room
-returns-clause-room c = length-put_chunk c.args.at c.args.room.now c.joined.result
-
 pub returns-clause-read : goal.returns-clause-read
 returns-clause-read c =
     let room = c.args.room.now in
