@@ -74,6 +74,7 @@ impl<'a> Reader<'a> {
 
     /// Reads a text, and appends its bytes. `None`: undecided; what `out` began with it begins with.
     // Stands for `text`, and for what is written of it.
+    #[tactic(auto, using(crate::proofs::Copies::null_text, crate::proofs::Copies::full_text, crate::proofs::Kept::on_some))]
     pub fn copy_text(&mut self, out: &mut Vec<u8>) -> Option<()>
         ensures copied { OnSome result (Copied text_at text_items self.old self.new out.old.items out.new.items) }
         ensures keeps { Keeps out.old.items out.new.items }

@@ -43,6 +43,7 @@ fn is_padded(digits: &[u8], count: usize) -> bool
 
 /// The number that begins `bytes`, without a sign, and the length of its spelling; `None` where nineteen digits at most,
 /// none of them a leading zero, don't decide.
+#[tactic(auto, using(crate::proofs::Numerals::spelled, crate::proofs::Numerals::run_of_digits))]
 fn unsigned_ahead(bytes: &[u8]) -> Option<(u64, usize)>
     ensures { IfSome result (λ q. (take q.1 bytes.now ≡ decimal q.0) × (prefix_len in_number bytes.now ≡ q.1) × (q.1 ≤ length bytes.now)) }
 {

@@ -29,6 +29,7 @@ fn same_len(a: u8x16, b: u8x16) -> usize
 /// The bytes of the escapes in front, at most five, and how many these are.
 // It stands for `Reader::symbol`. What was decoded is spelled again: so only the one spelling of each byte is taken.
 #[inline(always)]
+#[tactic(auto, using(crate::proofs::Escapes::respelled))]
 pub fn escapes_in(chars: u8x16) -> (u8x16, usize)
     ensures few { result.1 ≤ 5 }
     ensures read { (n : ℕ) → n ≤ result.1 → take (3 * n) chars ≡ flat_map symbol_spell (take n result.0) }
