@@ -144,11 +144,7 @@ impl Frames {
     pub fn is_whole(&self) -> bool
         ensures { IsTrue result ↔ IsWhole self.now }
     {
-        match self.standing {
-            Standing::Whole => true,
-            Standing::Open => false,
-            Standing::Refused => false,
-        }
+        matches!(self.standing, Standing::Whole)
     }
 
     /// The number of bytes that are held, those of the length included.
