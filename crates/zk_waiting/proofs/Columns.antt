@@ -123,6 +123,14 @@ laid_on Watches room rows spans laid = laid.watches
 laid_on Plain room rows spans laid = laid.plain
 laid_on Part room rows spans laid = laid.part
 
+-- laid with this span in place of the column's
+replaced_laid : (room rows : ℕ) (k : Column) (s : Span) (spans : Spans) → IsLaid room rows s → AreLaid room rows spans → AreLaid room rows (with_span k s spans)
+replaced_laid room rows Ping s spans own laid = record { ping = own; auth = laid.auth; watches = laid.watches; plain = laid.plain; part = laid.part; most = laid.most; small = laid.small }
+replaced_laid room rows Auth s spans own laid = record { ping = laid.ping; auth = own; watches = laid.watches; plain = laid.plain; part = laid.part; most = laid.most; small = laid.small }
+replaced_laid room rows Watches s spans own laid = record { ping = laid.ping; auth = laid.auth; watches = own; plain = laid.plain; part = laid.part; most = laid.most; small = laid.small }
+replaced_laid room rows Plain s spans own laid = record { ping = laid.ping; auth = laid.auth; watches = laid.watches; plain = own; part = laid.part; most = laid.most; small = laid.small }
+replaced_laid room rows Part s spans own laid = record { ping = laid.ping; auth = laid.auth; watches = laid.watches; plain = laid.plain; part = own; most = laid.most; small = laid.small }
+
 pub count_is : (k : Column) (rows : List Row) (room : ℕ) (spans : Spans) → AreLaid room (length rows) spans → count_on k (columns rows room spans) ≡ (span_on k spans).count
 count_is Ping rows room spans laid = items_length ping_of rows room spans.ping laid.ping
 count_is Auth rows room spans laid = items_length auth_of rows room spans.auth laid.auth
@@ -158,52 +166,33 @@ abbrev grown : Span → Span
 grown s = record { head = s.head; count = s.count + 1 }
 
 module _ (rows new : List Row) (room : ℕ) (spans : Spans) (laid : AreLaid room (length rows) spans) where
+  module _ (col : Column) (from : Row) (set : IsSet rows new (walk room (span_on col spans).head (span_on col spans).count) col from) where
+    more_in : {X : Type 0} (column : Row → X) → ((a b : Row) → column (with_column col a b) ≡ column a) → (span_on col spans).count < room →
+        items column new room (grown (span_on col spans)) ≡ items column rows room (span_on col spans) ++ column from ∷ []
+    more_in column is few = one_more_stands column rows new room (walk room (span_on col spans).head (span_on col spans).count) col from set is (span_on col spans) refl (laid_on col room (length rows) spans laid) few
+
+    same_in : {X : Type 0} (column : Row → X) → ((a b : Row) → column (with_column col a b) ≡ column b) → (k : Column) → items column new room (span_on k spans) ≡ items column rows room (span_on k spans)
+    same_in column is k = others_stand column rows new room (walk room (span_on col spans).head (span_on col spans).count) col from set is (span_on k spans) (laid_on k room (length rows) spans laid)
+
   pub pushed : (col : Column) (from : Row) → IsSet rows new (walk room (span_on col spans).head (span_on col spans).count) col from → (span_on col spans).count < room →
       columns new room (with_span col (grown (span_on col spans)) spans) ≡ with_item col from (columns rows room spans)
-  pushed Ping from set few =
-      let place = walk room spans.ping.head spans.ping.count in
-      let own = one_more_stands ping_of rows new room place Ping from set (λ a b. refl) spans.ping refl laid.ping few in
-      let auth = others_stand auth_of rows new room place Ping from set (λ a b. refl) spans.auth laid.auth in
-      let watches = others_stand watches_of rows new room place Ping from set (λ a b. refl) spans.watches laid.watches in
-      let plain = others_stand plain_of rows new room place Ping from set (λ a b. refl) spans.plain laid.plain in
-      let parts = others_stand part_of rows new room place Ping from set (λ a b. refl) spans.part laid.part in
-      (λ i. record { ping = own i; auth = auth i; watches = watches i; plain = plain i; parts = parts i; room = room })
-  pushed Auth from set few =
-      let place = walk room spans.auth.head spans.auth.count in
-      let own = one_more_stands auth_of rows new room place Auth from set (λ a b. refl) spans.auth refl laid.auth few in
-      let ping = others_stand ping_of rows new room place Auth from set (λ a b. refl) spans.ping laid.ping in
-      let watches = others_stand watches_of rows new room place Auth from set (λ a b. refl) spans.watches laid.watches in
-      let plain = others_stand plain_of rows new room place Auth from set (λ a b. refl) spans.plain laid.plain in
-      let parts = others_stand part_of rows new room place Auth from set (λ a b. refl) spans.part laid.part in
-      (λ i. record { ping = ping i; auth = own i; watches = watches i; plain = plain i; parts = parts i; room = room })
-  pushed Watches from set few =
-      let place = walk room spans.watches.head spans.watches.count in
-      let own = one_more_stands watches_of rows new room place Watches from set (λ a b. refl) spans.watches refl laid.watches few in
-      let ping = others_stand ping_of rows new room place Watches from set (λ a b. refl) spans.ping laid.ping in
-      let auth = others_stand auth_of rows new room place Watches from set (λ a b. refl) spans.auth laid.auth in
-      let plain = others_stand plain_of rows new room place Watches from set (λ a b. refl) spans.plain laid.plain in
-      let parts = others_stand part_of rows new room place Watches from set (λ a b. refl) spans.part laid.part in
-      (λ i. record { ping = ping i; auth = auth i; watches = own i; plain = plain i; parts = parts i; room = room })
-  pushed Plain from set few =
-      let place = walk room spans.plain.head spans.plain.count in
-      let own = one_more_stands plain_of rows new room place Plain from set (λ a b. refl) spans.plain refl laid.plain few in
-      let ping = others_stand ping_of rows new room place Plain from set (λ a b. refl) spans.ping laid.ping in
-      let auth = others_stand auth_of rows new room place Plain from set (λ a b. refl) spans.auth laid.auth in
-      let watches = others_stand watches_of rows new room place Plain from set (λ a b. refl) spans.watches laid.watches in
-      let parts = others_stand part_of rows new room place Plain from set (λ a b. refl) spans.part laid.part in
-      (λ i. record { ping = ping i; auth = auth i; watches = watches i; plain = own i; parts = parts i; room = room })
-  pushed Part from set few =
-      let place = walk room spans.part.head spans.part.count in
-      let own = one_more_stands part_of rows new room place Part from set (λ a b. refl) spans.part refl laid.part few in
-      let ping = others_stand ping_of rows new room place Part from set (λ a b. refl) spans.ping laid.ping in
-      let auth = others_stand auth_of rows new room place Part from set (λ a b. refl) spans.auth laid.auth in
-      let watches = others_stand watches_of rows new room place Part from set (λ a b. refl) spans.watches laid.watches in
-      let plain = others_stand plain_of rows new room place Part from set (λ a b. refl) spans.plain laid.plain in
-      (λ i. record { ping = ping i; auth = auth i; watches = watches i; plain = plain i; parts = own i; room = room })
+  pushed Ping from set few = (λ i. record { ping = more_in Ping from set ping_of (λ a b. refl) few i; auth = same_in Ping from set auth_of (λ a b. refl) Auth i; watches = same_in Ping from set watches_of (λ a b. refl) Watches i; plain = same_in Ping from set plain_of (λ a b. refl) Plain i; parts = same_in Ping from set part_of (λ a b. refl) Part i; room = room })
+  pushed Auth from set few = (λ i. record { ping = same_in Auth from set ping_of (λ a b. refl) Ping i; auth = more_in Auth from set auth_of (λ a b. refl) few i; watches = same_in Auth from set watches_of (λ a b. refl) Watches i; plain = same_in Auth from set plain_of (λ a b. refl) Plain i; parts = same_in Auth from set part_of (λ a b. refl) Part i; room = room })
+  pushed Watches from set few = (λ i. record { ping = same_in Watches from set ping_of (λ a b. refl) Ping i; auth = same_in Watches from set auth_of (λ a b. refl) Auth i; watches = more_in Watches from set watches_of (λ a b. refl) few i; plain = same_in Watches from set plain_of (λ a b. refl) Plain i; parts = same_in Watches from set part_of (λ a b. refl) Part i; room = room })
+  pushed Plain from set few = (λ i. record { ping = same_in Plain from set ping_of (λ a b. refl) Ping i; auth = same_in Plain from set auth_of (λ a b. refl) Auth i; watches = same_in Plain from set watches_of (λ a b. refl) Watches i; plain = more_in Plain from set plain_of (λ a b. refl) few i; parts = same_in Plain from set part_of (λ a b. refl) Part i; room = room })
+  pushed Part from set few = (λ i. record { ping = same_in Part from set ping_of (λ a b. refl) Ping i; auth = same_in Part from set auth_of (λ a b. refl) Auth i; watches = same_in Part from set watches_of (λ a b. refl) Watches i; plain = same_in Part from set plain_of (λ a b. refl) Plain i; parts = more_in Part from set part_of (λ a b. refl) few i; room = room })
 
   pub pushed_laid : (col : Column) (from : Row) → IsSet rows new (walk room (span_on col spans).head (span_on col spans).count) col from → (span_on col spans).count < room →
       AreLaid room (length new) (with_span col (grown (span_on col spans)) spans)
-  pushed_laid col from set few = go col (one_more (span_on col spans) (laid_on col room (length rows) spans laid))
+  pushed_laid col from set few = replaced_laid room (length new) col (grown (span_on col spans)) spans one_more (record {
+    ping = as_were spans.ping laid.ping;
+    auth = as_were spans.auth laid.auth;
+    watches = as_were spans.watches laid.watches;
+    plain = as_were spans.plain laid.plain;
+    part = as_were spans.part laid.part;
+    most = most;
+    small = laid.small;
+  })
     where
       place : ℕ
       place = walk room (span_on col spans).head (span_on col spans).count
@@ -220,13 +209,10 @@ module _ (rows new : List Row) (room : ℕ) (spans : Spans) (laid : AreLaid room
       as_were s was = record { head = was.head; count = was.count; reached = elim was.reached [ inl r ↦ inl (omega (arith, r, least)) | inr r ↦ inr (omega (arith, r, least)) ] }
 
       here : place < length new
-      here = elim set.grown [
-        | inl g ↦ slice_get_within new place (with_column col from set.row) set.here
-        | inr g ↦ slice_get_within new place (with_column col from set.row) set.here
-      ]
+      here = slice_get_within new place (with_column col from set.row) set.here
 
-      one_more : (s : Span) → IsLaid room (length rows) s → IsLaid room (length new) (grown (span_on col spans))
-      one_more s unused =
+      one_more : IsLaid room (length new) (grown (span_on col spans))
+      one_more =
           let was = laid_on col room (length rows) spans laid in
           record {
             head = was.head;
@@ -236,13 +222,6 @@ module _ (rows new : List Row) (room : ℕ) (spans : Spans) (laid : AreLaid room
               | inr w ↦ inr (elim was.reached [ inl r ↦ omega (arith, w.0, r, least) | inr r ↦ omega (arith, r, least) ])
             ];
           }
-
-      go : (k : Column) → IsLaid room (length new) (grown (span_on col spans)) → AreLaid room (length new) (with_span k (grown (span_on col spans)) spans)
-      go Ping own = record { ping = own; auth = as_were spans.auth laid.auth; watches = as_were spans.watches laid.watches; plain = as_were spans.plain laid.plain; part = as_were spans.part laid.part; most = most; small = laid.small }
-      go Auth own = record { ping = as_were spans.ping laid.ping; auth = own; watches = as_were spans.watches laid.watches; plain = as_were spans.plain laid.plain; part = as_were spans.part laid.part; most = most; small = laid.small }
-      go Watches own = record { ping = as_were spans.ping laid.ping; auth = as_were spans.auth laid.auth; watches = own; plain = as_were spans.plain laid.plain; part = as_were spans.part laid.part; most = most; small = laid.small }
-      go Plain own = record { ping = as_were spans.ping laid.ping; auth = as_were spans.auth laid.auth; watches = as_were spans.watches laid.watches; plain = own; part = as_were spans.part laid.part; most = most; small = laid.small }
-      go Part own = record { ping = as_were spans.ping laid.ping; auth = as_were spans.auth laid.auth; watches = as_were spans.watches laid.watches; plain = as_were spans.plain laid.plain; part = own; most = most; small = laid.small }
 
 -- ---- and after some less
 
@@ -255,11 +234,7 @@ module _ (rows : List Row) (room n : ℕ) (spans : Spans) (laid : AreLaid room (
   dropped Part = ap (λ z. record { ping = items ping_of rows room spans.ping; auth = items auth_of rows room spans.auth; watches = items watches_of rows room spans.watches; plain = items plain_of rows room spans.plain; parts = z; room = room }) (items_rest part_of rows room spans.part laid.part n)
 
   pub dropped_laid : (col : Column) → AreLaid room (length rows) (with_span col (rest_of room n (span_on col spans)) spans)
-  dropped_laid Ping = record { ping = rest_laid room (length rows) n spans.ping laid.ping; auth = laid.auth; watches = laid.watches; plain = laid.plain; part = laid.part; most = laid.most; small = laid.small }
-  dropped_laid Auth = record { ping = laid.ping; auth = rest_laid room (length rows) n spans.auth laid.auth; watches = laid.watches; plain = laid.plain; part = laid.part; most = laid.most; small = laid.small }
-  dropped_laid Watches = record { ping = laid.ping; auth = laid.auth; watches = rest_laid room (length rows) n spans.watches laid.watches; plain = laid.plain; part = laid.part; most = laid.most; small = laid.small }
-  dropped_laid Plain = record { ping = laid.ping; auth = laid.auth; watches = laid.watches; plain = rest_laid room (length rows) n spans.plain laid.plain; part = laid.part; most = laid.most; small = laid.small }
-  dropped_laid Part = record { ping = laid.ping; auth = laid.auth; watches = laid.watches; plain = laid.plain; part = rest_laid room (length rows) n spans.part laid.part; most = laid.most; small = laid.small }
+  dropped_laid col = replaced_laid room (length rows) col (rest_of room n (span_on col spans)) spans (rest_laid room (length rows) n (span_on col spans) (laid_on col room (length rows) spans laid)) laid
 
 -- ---- a part
 

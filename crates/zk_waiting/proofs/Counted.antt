@@ -1,5 +1,5 @@
 -- The lanes by the numbers of frames.
-use Rattle.std.proofs.Common.{◌≡◌, ◌≢◌, ℕ, ◌+◌, ◌≤◌, List, [], ◌∷◌, ◌++◌, length, map, refl, sym, ◌∙◌, subst, Bool, true, false, arith}
+use Rattle.std.proofs.Common.{◌≡◌, ◌≢◌, ℕ, ◌+◌, ◌<◌, ◌≤◌, List, [], ◌∷◌, ◌++◌, length, map, refl, sym, ◌∙◌, subst, Bool, true, false, arith}
 use Rattle.std.specs.Prelude.{ℤ, negsuc, if◌then◌else◌}
 use Rattle.std.specs.Ordering.{int_eq}
 use Rattle.std.proofs.lemmas.Bool.Decides.{Decides-int_eq}
@@ -13,6 +13,7 @@ use Rattle.zk_waiting.specs.Lane.{lane_of}
 use Rattle.zk_waiting.specs.declared.lane.Lane.{Lane}
 use Rattle.zk_waiting.specs.declared.lane.Lane.TheVariants.{Ping, Auth, Watches, Plain}
 use Rattle.zk_waiting.specs.Awaited.{bare, numbered}
+use Rattle.zk_waiting.specs.Columns.{Columns, column_of, numbers_on, with_numbers}
 use Rattle.zk_waiting.specs.Waiting.{Request, Lanes, request_weight, queue_weight, weight_of, IsPut, IsWeighed}
 use Rattle.zk_waiting.proofs.Weights.{queue_weight_push}
 
@@ -47,27 +48,24 @@ its_lane xid = go (int_eq xid (negsuc 1)) (int_eq xid (negsuc 3)) (int_eq xid (n
 alike : (xid : ℤ) (op : Op) (parts : List PartOp) (frame : ℕ) (x : ℤ) (o : Op) → xid ≡ x → op ≡ o → parts ≡ [] → record { xid = xid; op = op; parts = parts; frame = frame } ≡ bare x o frame
 alike xid op parts frame x o same is none = cc
 
-module _ (xid : ℤ) (op : Op) (parts : List PartOp) (frame : ℕ) (may : IsAllowed xid op) (none : op ≢ ops.Multi → parts ≡ []) where
-  no_parts : (o : Op) → o ≢ ops.Multi → op ≡ o → parts ≡ []
-  no_parts o other is = none (λ multi. other (sym is ∙ multi))
+-- what a special lane's requests are, but for their numbers
+abbrev lane_bare : Lane → Request → ℕ → Request
+lane_bare Ping r frame = bare ping_xid ops.Ping frame
+lane_bare Auth r frame = bare auth_xid ops.Auth frame
+lane_bare Watches r frame = bare watches_xid ops.SetWatches frame
+lane_bare Plain r frame = r
 
-  pub a_ping : Ping ≡ lane_of xid → record { xid = xid; op = op; parts = parts; frame = frame } ≡ bare ping_xid ops.Ping frame
-  a_ping e =
-      let same : xid ≡ ping_xid = subst (λ l. IsOn l xid) (sym e) (its_lane xid) in
-      let is = may.1.1 same in
-      alike xid op parts frame ping_xid ops.Ping same is (no_parts ops.Ping (λ z. cc) is)
+is_bare : (lane : Lane) (r : Request) → IsAllowed r.xid r.op → (r.op ≢ ops.Multi → r.parts ≡ []) → lane ≡ lane_of r.xid → r ≡ lane_bare lane r r.frame
+is_bare lane r may none e = go lane (subst (λ l. IsOn l r.xid) (sym e) (its_lane r.xid))
+  where
+    at : (x : ℤ) (o : Op) → o ≢ ops.Multi → r.xid ≡ x → r.op ≡ o → r ≡ bare x o r.frame
+    at x o other same is = alike r.xid r.op r.parts r.frame x o same is (none (λ multi. other (sym is ∙ multi)))
 
-  pub an_auth : Auth ≡ lane_of xid → record { xid = xid; op = op; parts = parts; frame = frame } ≡ bare auth_xid ops.Auth frame
-  an_auth e =
-      let same : xid ≡ auth_xid = subst (λ l. IsOn l xid) (sym e) (its_lane xid) in
-      let is = may.2.1 same in
-      alike xid op parts frame auth_xid ops.Auth same is (no_parts ops.Auth (λ z. cc) is)
-
-  pub a_watch : Watches ≡ lane_of xid → record { xid = xid; op = op; parts = parts; frame = frame } ≡ bare watches_xid ops.SetWatches frame
-  a_watch e =
-      let same : xid ≡ watches_xid = subst (λ l. IsOn l xid) (sym e) (its_lane xid) in
-      let is = may.3 same in
-      alike xid op parts frame watches_xid ops.SetWatches same is (no_parts ops.SetWatches (λ z. cc) is)
+    go : (lane : Lane) → IsOn lane r.xid → r ≡ lane_bare lane r r.frame
+    go Ping same = at ping_xid ops.Ping (λ z. cc) same (may.1.1 same)
+    go Auth same = at auth_xid ops.Auth (λ z. cc) same (may.2.1 same)
+    go Watches same = at watches_xid ops.SetWatches (λ z. cc) same (may.3 same)
+    go Plain same = refl
 
 -- ---- one more
 
@@ -77,12 +75,38 @@ put_weighs Auth r old new weight was room e = rw e (record { is = omega (arith, 
 put_weighs Watches r old new weight was room e = rw e (record { is = omega (arith, was.is, queue_weight_push old.watches r); within = omega (arith, was.is, room); small = was.small })
 put_weighs Plain r old new weight was room e = rw e (record { is = omega (arith, was.is, queue_weight_push old.plain r); within = omega (arith, was.is, room); small = was.small })
 
-module _ (max : ℕ) (pings auths watches : List ℕ) (plain : List Request) (xid : ℤ) (op : Op) (parts : List PartOp) (frame : ℕ) (may : IsAllowed xid op) (none : op ≢ ops.Multi → parts ≡ []) where
-  pub put_ping : Ping ≡ lane_of xid → IsPut Ping (record { xid = xid; op = op; parts = parts; frame = frame }) (numbered max pings auths watches plain) (numbered max (pings ++ frame ∷ []) auths watches plain)
-  put_ping e = rw (a_ping xid op parts frame may none e, map-append) refl
+module _ (max : ℕ) (l : Columns Request) (lane : Lane) (special : lane ≢ Plain) where
+  abbrev before : Lanes
+  before = numbered max l.ping l.auth l.watches l.plain
 
-  pub put_auth : Auth ≡ lane_of xid → IsPut Auth (record { xid = xid; op = op; parts = parts; frame = frame }) (numbered max pings auths watches plain) (numbered max pings (auths ++ frame ∷ []) watches plain)
-  put_auth e = rw (an_auth xid op parts frame may none e, map-append) refl
+  -- the lane has room for one number more
+  pub number_fits : (parts : List PartOp) (now : Lanes) → before ≡ now → weight_of now + (1 + length parts) ≤ now.max → l.room ≡ max → length (numbers_on (column_of lane) l) < l.room
+  number_fits parts now is fits room = go lane special
+    where
+      room_here : weight_of before + (1 + length parts) ≤ max
+      room_here = subst (λ (w : Lanes). weight_of w + (1 + length parts) ≤ w.max) (sym is) fits
 
-  pub put_watch : Watches ≡ lane_of xid → IsPut Watches (record { xid = xid; op = op; parts = parts; frame = frame }) (numbered max pings auths watches plain) (numbered max pings auths (watches ++ frame ∷ []) plain)
-  put_watch e = rw (a_watch xid op parts frame may none e, map-append) refl
+      all : length l.ping + length l.auth + length l.watches < l.room
+      all = omega (arith, room_here, room, numbered_weight max l.ping l.auth l.watches l.plain)
+
+      go : (k : Lane) → k ≢ Plain → length (numbers_on (column_of k) l) < l.room
+      go Ping s = omega (arith, all)
+      go Auth s = omega (arith, all)
+      go Watches s = omega (arith, all)
+      go Plain s = absurd (s refl)
+
+  module _ (r : Request) (may : IsAllowed r.xid r.op) (none : r.op ≢ ops.Multi → r.parts ≡ []) (its : lane ≡ lane_of r.xid) where
+    abbrev more : Columns Request
+    more = with_numbers (column_of lane) (numbers_on (column_of lane) l ++ r.frame ∷ []) l
+
+    pub number_put : IsPut lane r before (numbered max more.ping more.auth more.watches more.plain) × (more.room ≡ l.room)
+    number_put = go lane special its
+      where
+        go : (k : Lane) → k ≢ Plain → k ≡ lane_of r.xid → (let m = with_numbers (column_of k) (numbers_on (column_of k) l ++ r.frame ∷ []) l in IsPut k r before (numbered max m.ping m.auth m.watches m.plain) × (m.room ≡ l.room))
+        go Ping s e = (rw (is_bare Ping r may none e, map-append) refl, refl)
+        go Auth s e = (rw (is_bare Auth r may none e, map-append) refl, refl)
+        go Watches s e = (rw (is_bare Watches r may none e, map-append) refl, refl)
+        go Plain s e = absurd (s refl)
+
+    pub number_weighs : (now : Lanes) (weight : ℕ) → before ≡ now → weight_of now + request_weight r ≤ now.max → IsWeighed weight before → IsWeighed (weight + 1 + length r.parts) (numbered max more.ping more.auth more.watches more.plain)
+    number_weighs now weight is fits was = put_weighs lane r _ _ weight was (subst (λ (w : Lanes). weight_of w + request_weight r ≤ w.max) (sym is) fits) number_put.0

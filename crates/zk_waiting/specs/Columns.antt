@@ -5,6 +5,8 @@ use Rattle.zk_records.specs.declared.op.PartOp.TheVariants.{Check}
 use Rattle.zk_waiting.specs.declared.entry.Entry.{Entry}
 use Rattle.zk_waiting.specs.declared.row.Column.{Column}
 use Rattle.zk_waiting.specs.declared.row.Column.TheVariants.{Ping, Auth, Watches, Plain, Part}
+use Rattle.zk_waiting.specs.declared.lane.Lane.{Lane}
+use Rattle.zk_waiting.specs.declared.lane.Lane.TheVariants as lanes
 use Rattle.zk_waiting.specs.declared.row.Row.{Row}
 use Rattle.zk_waiting.specs.declared.span.Span.{Span}
 use Rattle.zk_waiting.specs.declared.span.Spans.{Spans}
@@ -23,6 +25,13 @@ pub record Columns (X : Type 0) : Type 0 where
 
 abbrev pub no_columns : {X : Type 0} → ℕ → Columns X
 no_columns room = record { ping = []; auth = []; watches = []; plain = []; parts = []; room = room }
+
+-- the lane's column
+abbrev pub column_of : Lane → Column
+column_of lanes.Ping = Ping
+column_of lanes.Auth = Auth
+column_of lanes.Watches = Watches
+column_of lanes.Plain = Plain
 
 -- how many items the column has
 abbrev pub count_on : {X : Type 0} → Column → Columns X → ℕ

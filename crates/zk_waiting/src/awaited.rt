@@ -10,7 +10,7 @@ ghost use Rattle.zk_waiting.specs.Waiting.{weight_of, count_of, queue_on, IsPut,
 use crate::lane::{Lane, lane_of};
 use crate::lists::Lists;
 use crate::oldest::Oldest;
-use crate::row::Column;
+use crate::row::{Column, column_of};
 use crate::waiting::PutFault;
 use std::alloc::{AllocError, Global};
 use std::marker::Model;
@@ -105,10 +105,8 @@ impl Awaited {
     {
         self.weight = self.weight + 1 + form.parts();
         match lane {
-            Lane::Ping => self.lists.push(Column::Ping, frame),
-            Lane::Auth => self.lists.push(Column::Auth, frame),
-            Lane::Watches => self.lists.push(Column::Watches, frame),
             Lane::Plain => self.lists.put(xid, form, frame),
+            _ => self.lists.push(column_of(lane), frame),
         }
     }
 

@@ -1,8 +1,9 @@
 //! `Row`: what is at one place: an item of each column.
 ghost use Rattle.std.specs.Prelude.{◌≡◌};
-ghost use Rattle.zk_waiting.specs.Columns.{number_in, with_column, entry_row};
+ghost use Rattle.zk_waiting.specs.Columns.{column_of, number_in, with_column, entry_row};
 
 use crate::entry::Entry;
+use crate::lane::Lane;
 use zk_records::{Op, PartOp};
 
 /// A list of `Rows`: a lane, or the operations of the plain lane's parts.
@@ -18,6 +19,19 @@ pub enum Column {
     Plain,
     /// The operations of their parts, one after another.
     Part,
+}
+
+/// The lane's column.
+#[inline(always)]
+pub fn column_of(lane: Lane) -> Column
+    ensures { result ≡ column_of lane }
+{
+    match lane {
+        Lane::Ping => Column::Ping,
+        Lane::Auth => Column::Auth,
+        Lane::Watches => Column::Watches,
+        Lane::Plain => Column::Plain,
+    }
 }
 
 /// An item of each column.

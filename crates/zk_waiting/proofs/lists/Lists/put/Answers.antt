@@ -1,10 +1,7 @@
-use Rattle.std.proofs.Common.{◌≡◌, List, ◌≤◌, ◌+◌, ◌∷◌, [], ◌++◌, length, sym, ap, subst, ◌∙◌, w32, to_z, of_z, FitsSigned, rules, arith}
-use Rattle.std.specs.Prelude.{ℤ}
-use Rattle.std.proofs.lemmas.Int.{to_z-of_z}
+use Rattle.std.proofs.Common.{List, ◌≤◌, ◌+◌, [], length, refl, sym, ap, subst, w32, FitsSigned, rules, arith}
 use Rattle.zk_waiting.specs.Columns.{Columns}
 use Rattle.zk_waiting.specs.Waiting.{Request, queue_weight}
-use Rattle.zk_waiting.specs.Rings.{requests_of}
-use Rattle.zk_waiting.proofs.Rings.{requests_push, requests_weigh}
+use Rattle.zk_waiting.proofs.Rings.{requests_put, requests_weigh}
 use Rattle.zk_waiting.proofs.lists.Lists.put.Goals as goal
 
 pub push_parts-requires : goal.push_parts-requires
@@ -22,9 +19,6 @@ append_entry-requires g c =
 pub returns : goal.returns
 returns g c =
     let x = c.self.inside in
-    let ops = g.F.Asked.part_ops c.args.form.now in
     let fits : FitsSigned w32 c.args.xid = search rules in
-    let same : to_z w32 (of_z w32 c.args.xid) ≡ c.args.xid = to_z-of_z w32 c.args.xid fits in
-    let more = requests_push x.rows.plain _ x.rows.parts ops c.self.invariant.0 c.parts.ensures in
-    let told = more ∙ ap (λ (n : ℤ). requests_of x.rows.plain x.rows.parts ++ record { xid = n; op = c.op.result; parts = ops; frame = c.args.frame } ∷ []) same in
+    let told = requests_put x.rows.plain _ x.rows.parts (g.F.Asked.part_ops c.args.form.now) c.args.xid refl fits c.self.invariant.0 c.parts.ensures in
     rw (c.append_entry.ensures, c.push_parts.ensures, ← c.self.view_is, ← c.op.ensures) (ap (λ (z : List Request). record { ping = x.rows.ping; auth = x.rows.auth; watches = x.rows.watches; plain = z; parts = []; room = x.rows.room }) told)
