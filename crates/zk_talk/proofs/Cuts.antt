@@ -1,27 +1,18 @@
 -- One more byte.
-use Rattle.std.proofs.Common.{◌≡◌, ℕ, ◌<◌, ◌≤◌, ◌^◌, ◌⊎◌, inl, inr, List, [], ◌∷◌, ◌++◌, length, take, sym, ap, ◌∙◌, subst, arith, append_assoc}
+use Rattle.std.proofs.Common.{◌≡◌, ℕ, ◌<◌, ◌≤◌, ◌^◌, ◌⊎◌, inl, inr, false, List, [], ◌∷◌, ◌++◌, length, sym, ap, ◌∙◌, subst, arith, append_assoc}
 use Rattle.std.specs.List.{AllByRecursion}
-use Rattle.std.proofs.lemmas.List.{append-nil, take-append-le, same_from_push, length_push}
-use Rattle.std.proofs.lemmas.Bool.{cases_lt}
+use Rattle.std.proofs.lemmas.List.{append-nil, same_from_push}
 use Rattle.zk_frames.specs.Framing.{frame, frames, IsBeginning, IsCut, IsBadLength}
 use Rattle.zk_talk.proofs.Lists.{by_last, IsPushed, not_empty}
-use Rattle.zk_frames.proofs.Cuts.{length-frame, take-frame, AllByRecursion-left, AllByRecursion-push, AllByRecursion-right, bad_length, whole_frame}
-use Rattle.zk_frames.proofs.Taking.{frames_push}
+use Rattle.zk_frames.proofs.Cuts.{length-frame, AllByRecursion-left, AllByRecursion-right, bad_length, whole_frame}
+use Rattle.zk_frames.proofs.Taking.{beginning_front, frame_front, frames_push, goes_on, goes_whole}
 
 module _ (limit : ℕ) (X : List ℕ) (x : ℕ) where
   pub cut_more : (P : List (List ℕ)) (b : List ℕ) → IsCut limit X P b → IsBeginning limit (b ++ x ∷ []) → IsCut limit (X ++ x ∷ []) P (b ++ x ∷ [])
-  cut_more P b c begin = record {
-    whole = ap (λ z. z ++ x ∷ []) c.whole ∙ append_assoc (frames P) b (x ∷ []);
-    within = c.within;
-    beginning = begin;
-  }
+  cut_more P b c begin = goes_on false limit b (x ∷ []) X P c begin
 
   pub cut_whole : (P : List (List ℕ)) (b p : List ℕ) → IsCut limit X P b → b ++ x ∷ [] ≡ frame p → length p ≤ limit → IsCut limit (X ++ x ∷ []) (P ++ p ∷ []) []
-  cut_whole P b p c e l = record {
-    whole = ap (λ z. z ++ x ∷ []) c.whole ∙ append_assoc (frames P) b (x ∷ []) ∙ ap (λ z. frames P ++ z) e ∙ sym (frames_push P p) ∙ sym (append-nil (frames (P ++ p ∷ [])));
-    within = AllByRecursion-push (λ z. length z ≤ limit) P p c.within l;
-    beginning = inl (omega arith);
-  }
+  cut_whole P b p c e l = goes_whole limit b (x ∷ []) X P p c e l
 
   pub cut_bad : (P Q : List (List ℕ)) (b c : List ℕ) → limit < 2 ^ 31 → IsCut limit X P b → IsBadLength limit (b ++ x ∷ []) → IsCut limit (X ++ x ∷ []) Q c → ⊥
   cut_bad P Q b c small y bad z =
@@ -38,21 +29,6 @@ module _ (limit : ℕ) (X : List ℕ) (x : ℕ) where
     within_frame : (c' : List ℕ) → c ≡ c' ++ x ∷ [] → IsCut limit X Q c' → Shorter Q c
     frame_end : (Q' : List (List ℕ)) (q c' : List ℕ) → Q ≡ Q' ++ q ∷ [] → c ≡ [] → length q ≤ limit → c' ++ x ∷ [] ≡ frame q → IsCut limit X Q' c' → Shorter Q c
 
-  shorter_beginning : (c : List ℕ) (y : ℕ) → IsBeginning limit (c ++ y ∷ []) → IsBeginning limit c
-  shorter_beginning c y (inl short) = inl (omega (arith, length_push c y))
-  shorter_beginning c y (inr w) = go (cases_lt (length c) 4)
-    where
-      go : ((length c < 4) ⊎ (4 ≤ length c)) → IsBeginning limit c
-      go (inl short) = inl short
-      go (inr long) = inr (w.0, sym (take-append-le 4 c (y ∷ []) long) ∙ w.1, w.2, omega (arith, w.3, length_push c y))
-
-  all_but_last : (q c : List ℕ) (y : ℕ) → length q ≤ limit → frame q ≡ c ++ y ∷ [] → IsBeginning limit c
-  all_but_last q c y l e = go (cases_lt (length c) 4)
-    where
-      go : ((length c < 4) ⊎ (4 ≤ length c)) → IsBeginning limit c
-      go (inl short) = inl short
-      go (inr long) = inr (length q, sym (take-append-le 4 c (y ∷ []) long) ∙ ap (take 4) (sym e ∙ sym (append-nil (frame q))) ∙ take-frame q [], l, omega (arith, length-frame q, ap length e, length_push c y))
-
   pub cut_front : (Q : List (List ℕ)) (c : List ℕ) → IsCut limit (X ++ x ∷ []) Q c → Shorter Q c
   cut_front Q c z = go (by_last c)
     where
@@ -64,7 +40,7 @@ module _ (limit : ℕ) (X : List ℕ) (x : ℕ) where
           let whole = z.whole ∙ ap (λ w. frames Q ++ w) n ∙ append-nil (frames Q) ∙ ap frames r ∙ frames_push Q' q ∙ ap (λ w. frames Q' ++ w) f.is ∙ sym (append_assoc (frames Q') f.init (f.last ∷ [])) in
           let s = same_from_push X (frames Q' ++ f.init) x f.last whole in
           frame_end Q' q f.init r n lq (ap (λ w. f.init ++ w ∷ []) s.1 ∙ sym f.is)
-          (record { whole = s.0; within = AllByRecursion-left (λ p. length p ≤ limit) Q' (q ∷ []) all; beginning = all_but_last q f.init f.last lq f.is })
+          (record { whole = s.0; within = AllByRecursion-left (λ p. length p ≤ limit) Q' (q ∷ []) all; beginning = frame_front limit f.init (f.last ∷ []) (omega arith) (q, sym f.is, lq) })
 
       no_rest : c ≡ [] → ((Q ≡ []) ⊎ IsPushed Q) → Shorter Q c
       no_rest n (inl m) = absurd (not_empty X x [] (z.whole ∙ ap (λ w. frames Q ++ w) n ∙ append-nil (frames Q) ∙ ap frames m))
@@ -75,4 +51,4 @@ module _ (limit : ℕ) (X : List ℕ) (x : ℕ) where
       go (inr p) =
           let s = same_from_push X (frames Q ++ p.init) x p.last (z.whole ∙ ap (λ w. frames Q ++ w) p.is ∙ sym (append_assoc (frames Q) p.init (p.last ∷ []))) in
           within_frame p.init (p.is ∙ ap (λ w. p.init ++ w ∷ []) (sym s.1))
-          (record { whole = s.0; within = z.within; beginning = shorter_beginning p.init p.last (subst (IsBeginning limit) p.is z.beginning) })
+          (record { whole = s.0; within = z.within; beginning = beginning_front limit p.init (p.last ∷ []) (subst (IsBeginning limit) p.is z.beginning) })

@@ -11,8 +11,8 @@ use Rattle.zk_talk.specs.declared.limits.Limits.{Limits}
 use Rattle.zk_talk.specs.Splits.{EachAfter}
 use Rattle.zk_talk.specs.History.{History, side_bytes}
 use Rattle.zk_frames.specs.Framing.{frame, IsCut, IsBeginning, IsBadLength}
-use Rattle.zk_talk.specs.Conversation.{with_client, with_server, ClientMay, ServerMay, Conversation, load}
-use Rattle.zk_talk.specs.Good.{client_payloads, server_payloads, IsWhole, Good, IsGood}
+use Rattle.zk_talk.specs.Conversation.{with_client, with_server, ClientMay, ServerMay, Conversation, IsConversation, load}
+use Rattle.zk_talk.specs.Good.{client_payloads, server_payloads, IsCausal, IsBounded, IsWhole, Good, IsGood}
 use Rattle.zk_talk.proofs.Small.{AreSmall}
 use Rattle.zk_talk.proofs.Lists.{EachAfter-left, EachAfter-at, map_pushed}
 use Rattle.zk_frames.proofs.Cuts.{same_cut}
@@ -44,63 +44,52 @@ pub load_here : (limits : Limits) (h : History) (v : Conversation) (cb sb : List
 load_here limits h v cb sb g = g.bounded h [] (sym (append-nil h)) v.client [] (sym (append-nil v.client)) v.server [] (sym (append-nil v.server)) (cb, sb, g.whole)
 
 module _ (limits : Limits) (small : AreSmall limits) (h : History) (b : ℕ) (v : Conversation) (cb sb : List ℕ) (g : Good limits h v cb sb) where
+  sizes : (side : Side) → length (side_bytes side h) + 1 < 2 ^ 62 → (length (side_bytes Client (h ++ (side, b) ∷ [])) < 2 ^ 62) × (length (side_bytes Server (h ++ (side, b) ∷ [])) < 2 ^ 62)
+  sizes Client fits = (omega (arith, fits, ap length (side_bytes-same Client h b), length_push (side_bytes Client h) b), omega (arith, g.server_size, ap length (other-bytes Client h b)))
+  sizes Server fits = (omega (arith, g.client_size, ap length (other-bytes Server h b)), omega (arith, fits, ap length (side_bytes-same Server h b), length_push (side_bytes Server h) b))
+
+  -- what the history is whole with is good, where it is good but for the last byte
+  good_with : (side : Side) (w : Conversation) (db tb : List ℕ) → IsConversation limits.profile w → IsWhole limits (h ++ (side, b) ∷ []) w.client w.server db tb → IsCausal w h → IsBounded limits w h → load w.client w.server ≤ limits.waiting →
+      length (side_bytes side h) + 1 < 2 ^ 62 → Good limits (h ++ (side, b) ∷ []) w db tb
+  good_with side w db tb conv whole causal bounded loads size = record {
+    conversation = conv;
+    whole = whole;
+    causal = causal_lift limits small h (side, b) w db tb whole causal;
+    bounded = bounded_lift limits small h (side, b) w db tb whole loads bounded;
+    client_size = (sizes side size).0;
+    server_size = (sizes side size).1;
+  }
+
   -- ---- A byte within a frame
   pub good_more_client : IsBeginning limits.client (cb ++ b ∷ []) → length (side_bytes Client h) + 1 < 2 ^ 62 → Good limits (h ++ (Client, b) ∷ []) v (cb ++ b ∷ []) sb
-  good_more_client begin fits =
+  good_more_client begin =
       let w = whole_client limits h b v.client v.client v.server cb sb (cb ++ b ∷ []) g.whole (cut_more limits.client _ b _ cb g.whole.client_cut begin) in
-      record {
-        conversation = g.conversation;
-        whole = w;
-        causal = causal_lift limits small h (Client, b) v (cb ++ b ∷ []) sb w g.causal;
-        bounded = bounded_lift limits small h (Client, b) v (cb ++ b ∷ []) sb w (load_here limits h v cb sb g) g.bounded;
-        client_size = omega (arith, fits, ap length (side_bytes-same Client h b), length_push (side_bytes Client h) b);
-        server_size = omega (arith, g.server_size, ap length (other-bytes Client h b));
-      }
+      good_with Client v (cb ++ b ∷ []) sb g.conversation w g.causal g.bounded (load_here limits h v cb sb g)
 
   pub good_more_server : IsBeginning limits.server (sb ++ b ∷ []) → length (side_bytes Server h) + 1 < 2 ^ 62 → Good limits (h ++ (Server, b) ∷ []) v cb (sb ++ b ∷ [])
-  good_more_server begin fits =
+  good_more_server begin =
       let w = whole_server limits h b v.client v.server v.server cb sb (sb ++ b ∷ []) g.whole (cut_more limits.server _ b _ sb g.whole.server_cut begin) in
-      record {
-        conversation = g.conversation;
-        whole = w;
-        causal = causal_lift limits small h (Server, b) v cb (sb ++ b ∷ []) w g.causal;
-        bounded = bounded_lift limits small h (Server, b) v cb (sb ++ b ∷ []) w (load_here limits h v cb sb g) g.bounded;
-        client_size = omega (arith, g.client_size, ap length (other-bytes Server h b));
-        server_size = omega (arith, fits, ap length (side_bytes-same Server h b), length_push (side_bytes Server h) b);
-      }
+      good_with Server v cb (sb ++ b ∷ []) g.conversation w g.causal g.bounded (load_here limits h v cb sb g)
 
   -- ---- A byte that makes a frame whole
   pub good_client : (f : ClientFrame) → cb ++ b ∷ [] ≡ frame (client_payload f) → length (client_payload f) ≤ limits.client → ClientMay limits.profile v.client f → load (v.client ++ f ∷ []) v.server ≤ limits.waiting → length (side_bytes Client h) + 1 < 2 ^ 62 →
       Good limits (h ++ (Client, b) ∷ []) (with_client v f) [] sb
-  good_client f e l may fits size =
+  good_client f e l may fits =
       let cut = cut_whole limits.client _ b _ cb (client_payload f) g.whole.client_cut e l in
       let named = subst (λ z. IsCut limits.client (side_bytes Client h ++ b ∷ []) z []) (sym (map-append client_payload v.client (f ∷ []))) cut in
       let w = whole_client limits h b v.client (v.client ++ f ∷ []) v.server cb sb [] g.whole named in
       let shorter : length cb < length (frame (client_payload f)) = omega (arith, ap length e, length_push cb b) in
-      record {
-        conversation = conversation_client limits.profile v f g.conversation may;
-        whole = w;
-        causal = causal_lift limits small h (Client, b) (with_client v f) [] sb w (causal_client limits h v cb sb g.whole f g.conversation may g.causal);
-        bounded = bounded_lift limits small h (Client, b) (with_client v f) [] sb w fits (bounded_client limits h v cb sb g.whole f shorter g.bounded);
-        client_size = omega (arith, size, ap length (side_bytes-same Client h b), length_push (side_bytes Client h) b);
-        server_size = omega (arith, g.server_size, ap length (other-bytes Client h b));
-      }
+      good_with Client (with_client v f) [] sb (conversation_client limits.profile v f g.conversation may) w (causal_client limits h v cb sb g.whole f g.conversation may g.causal) (bounded_client limits h v cb sb g.whole f shorter g.bounded) fits
 
   pub good_server : (s : ServerFrame) → sb ++ b ∷ [] ≡ frame (server_payload s) → length (server_payload s) ≤ limits.server → ServerMay v.client v.server s → length (side_bytes Server h) + 1 < 2 ^ 62 →
       Good limits (h ++ (Server, b) ∷ []) (with_server v s) cb []
-  good_server s e l may size =
+  good_server s e l may =
       let cut = cut_whole limits.server _ b _ sb (server_payload s) g.whole.server_cut e l in
       let named = subst (λ z. IsCut limits.server (side_bytes Server h ++ b ∷ []) z []) (sym (map-append server_payload v.server (s ∷ []))) cut in
       let w = whole_server limits h b v.client v.server (v.server ++ s ∷ []) cb sb [] g.whole named in
       let shorter : length sb < length (frame (server_payload s)) = omega (arith, ap length e, length_push sb b) in
-      record {
-        conversation = conversation_server limits.profile v s g.conversation may;
-        whole = w;
-        causal = causal_lift limits small h (Server, b) (with_server v s) cb [] w (causal_server limits h v cb sb g.whole s shorter g.causal);
-        bounded = bounded_lift limits small h (Server, b) (with_server v s) cb [] w (omega (arith, load_reply v.client v.server s, load_here limits h v cb sb g)) (bounded_server limits h v cb sb g.whole s shorter g.bounded);
-        client_size = omega (arith, g.client_size, ap length (other-bytes Server h b));
-        server_size = omega (arith, size, ap length (side_bytes-same Server h b), length_push (side_bytes Server h) b);
-      }
+      let loads : load v.client (v.server ++ s ∷ []) ≤ limits.waiting = omega (arith, load_reply v.client v.server s, load_here limits h v cb sb g) in
+      good_with Server (with_server v s) cb [] (conversation_server limits.profile v s g.conversation may) w (causal_server limits h v cb sb g.whole s shorter g.causal) (bounded_server limits h v cb sb g.whole s shorter g.bounded) loads
 
   -- ---- A byte that nothing good goes on with
   pub bad_length : (side : Side) → IsBadLength (side_limit limits side) (rest_on side cb sb ++ b ∷ []) → IsGood limits (h ++ (side, b) ∷ []) → ⊥

@@ -20,39 +20,17 @@ use Rattle.zk_talk.proofs.Queues.{queue_ask, queue_skip, queue_keep, queue_pop}
 
 pub put_on : (l k : Lane) (r : Request) (w x : Lanes) → IsPut l r w x → queue_on k x ≡ cond (same_lane k l) (queue_on k w ++ r ∷ []) (queue_on k w)
 put_on Ping Ping r w x e = ap (queue_on Ping) e
-put_on Ping Auth r w x e = ap (queue_on Auth) e
-put_on Ping Watches r w x e = ap (queue_on Watches) e
-put_on Ping Plain r w x e = ap (queue_on Plain) e
-put_on Auth Ping r w x e = ap (queue_on Ping) e
 put_on Auth Auth r w x e = ap (queue_on Auth) e
-put_on Auth Watches r w x e = ap (queue_on Watches) e
-put_on Auth Plain r w x e = ap (queue_on Plain) e
-put_on Watches Ping r w x e = ap (queue_on Ping) e
-put_on Watches Auth r w x e = ap (queue_on Auth) e
 put_on Watches Watches r w x e = ap (queue_on Watches) e
-put_on Watches Plain r w x e = ap (queue_on Plain) e
-put_on Plain Ping r w x e = ap (queue_on Ping) e
-put_on Plain Auth r w x e = ap (queue_on Auth) e
-put_on Plain Watches r w x e = ap (queue_on Watches) e
 put_on Plain Plain r w x e = ap (queue_on Plain) e
+put_on _ k r w x e = ap (queue_on k) e
 
 pub drop_on : (l k : Lane) (w x : Lanes) → IsDropped l w x → queue_on k x ≡ cond (same_lane k l) (drop 1 (queue_on k w)) (queue_on k w)
 drop_on Ping Ping w x e = ap (queue_on Ping) e
-drop_on Ping Auth w x e = ap (queue_on Auth) e
-drop_on Ping Watches w x e = ap (queue_on Watches) e
-drop_on Ping Plain w x e = ap (queue_on Plain) e
-drop_on Auth Ping w x e = ap (queue_on Ping) e
 drop_on Auth Auth w x e = ap (queue_on Auth) e
-drop_on Auth Watches w x e = ap (queue_on Watches) e
-drop_on Auth Plain w x e = ap (queue_on Plain) e
-drop_on Watches Ping w x e = ap (queue_on Ping) e
-drop_on Watches Auth w x e = ap (queue_on Auth) e
 drop_on Watches Watches w x e = ap (queue_on Watches) e
-drop_on Watches Plain w x e = ap (queue_on Plain) e
-drop_on Plain Ping w x e = ap (queue_on Ping) e
-drop_on Plain Auth w x e = ap (queue_on Auth) e
-drop_on Plain Watches w x e = ap (queue_on Watches) e
 drop_on Plain Plain w x e = ap (queue_on Plain) e
+drop_on _ k w x e = ap (queue_on k) e
 
 pub front_some : {X : Type 0} (xs : List X) (x : X) → slice_get xs 0 ≡ Some x → (rest : List X) × (xs ≡ x ∷ rest)
 front_some [] x e = absurd (cc)

@@ -1,5 +1,5 @@
 -- What a talk does with a piece, over plain values.
-use Rattle.std.proofs.Common.{◌≡◌, ℕ, ◌+◌, ◌<◌, ◌≤◌, ◌^◌, ◌⊎◌, inl, inr, List, [], ◌∷◌, ◌++◌, length, drop, refl, sym, ap, ◌∙◌, subst, arith, append_assoc, take, get_or, Option}
+use Rattle.std.proofs.Common.{◌≡◌, ℕ, ◌+◌, ◌<◌, ◌≤◌, ◌^◌, inl, List, [], ◌∷◌, ◌++◌, length, drop, refl, sym, ap, ◌∙◌, subst, arith, append_assoc, take, get_or, Option}
 use Rattle.std.proofs.lemmas.List.{append-nil, length_push, take-append-drop, drop_more, length-take-le}
 use Rattle.zk_jute.specs.declared.fault.Reason.{Reason}
 use Rattle.zk_jute.specs.declared.fault.Reason.TheVariants.{StreamEnd, LengthRange}
@@ -13,36 +13,32 @@ use Rattle.zk_talk.specs.Held.{Message}
 use Rattle.zk_talk.specs.History.{History, on}
 use Rattle.zk_talk.specs.declared.replied.Replied.{Replied}
 use Rattle.zk_talk.specs.Conversation.{Conversation, IsConversation, load}
-use Rattle.zk_talk.specs.Fault.{IsPayloadFault, fault_of, side_limit}
+use Rattle.zk_talk.specs.Fault.{IsCause, IsOfItems, IsPayloadFault, fault_of, side_limit}
 use Rattle.zk_talk.specs.Fault.IsCause.{stream_end, length_range, payload_fault}
 use Rattle.zk_talk.specs.Queues.{IsQueue}
 use Rattle.zk_talk.specs.Stands.{TalkState, Stands, Refuses, held_on, frames_on, size_on}
 use Rattle.zk_talk.specs.Describes.{Describes}
 use Rattle.zk_talk.specs.Taking.{GoesOn}
 use Rattle.zk_talk.proofs.GoodSteps.{load_here}
-use Rattle.zk_talk.proofs.Lists.{by_last, IsPushed}
-use Rattle.zk_talk.proofs.Standing.{frame_front}
-use Rattle.zk_talk.proofs.Talks.{grown, refusing, counted, message_payload, with_message, MayOn, IsKnownAfter, more, whole, refuse}
+use Rattle.zk_talk.proofs.Lists.{IsPushed, last_of}
+use Rattle.zk_talk.specs.Said.{payload_of}
+use Rattle.zk_talk.proofs.Standing.{frame_front, with_message, MayOn}
+use Rattle.zk_talk.proofs.Talks.{grown, refusing, counted, IsKnownAfter, more, whole, refuse}
 
 pub described : (t : TalkState) (h : History) (M : List Message) (st : Stands t h M) → Describes t.client_frames t.server_frames t.waiting st.conversation
 described t h M st = record { client = st.client_frames; server = st.server_frames; may = st.good.conversation.server; queues = st.queues }
 
--- the last byte of a piece
-last_of : (part : List ℕ) → 0 < length part → IsPushed part
-last_of part l = go (by_last part)
-  where
-    go : ((part ≡ []) ⊎ IsPushed part) → IsPushed part
-    go (inl n) = absurd (omega (arith, ap length n))
-    go (inr p) = p
-
 module _ (side : Side) (t : TalkState) where
+  last_here : (part : List ℕ) (q : IsPushed part) → (held_on side t ++ q.init) ++ q.last ∷ [] ≡ held_on side t ++ part
+  last_here part q = append_assoc (held_on side t) q.init (q.last ∷ []) ∙ ap (λ z. held_on side t ++ z) (sym q.is)
+
   pub go_more : (part : List ℕ) (n : ℕ) → n ≡ length part → IsBeginning (side_limit t.limits side) (held_on side t ++ part) → size_on side t + n < 2 ^ 62 → GoesOn t side part [] (grown side t (held_on side t ++ part) (size_on side t + n))
   go_more part n e begin size h M st =
       subst (λ z. Stands (grown side t (held_on side t ++ part) (size_on side t + z)) (h ++ on side part) (M ++ [])) (sym e)
       (subst (Stands (grown side t (held_on side t ++ part) (size_on side t + length part)) (h ++ on side part)) (sym (append-nil M)) (more t h M st side part begin (omega (arith, e, size))))
 
   pub go_whole : (k : List ℕ) (o : Option Replied) (part : List ℕ) (n : ℕ) (p : List ℕ) (m : Message) (w : Lanes) → n ≡ length part → 0 < length part → held_on side t ++ part ≡ frame p → length p ≤ side_limit t.limits side → size_on side t + n < 2 ^ 62 →
-      ((v : Conversation) → Describes t.client_frames t.server_frames t.waiting v → load v.client v.server ≤ t.limits.waiting → (message_payload m ≡ p) × MayOn side t.limits v m) →
+      ((v : Conversation) → Describes t.client_frames t.server_frames t.waiting v → load v.client v.server ≤ t.limits.waiting → (payload_of m ≡ p) × MayOn side t.limits v m) →
       ((v : Conversation) → Describes t.client_frames t.server_frames t.waiting v → (lane : Lane) → IsQueue lane (with_message v m) (queue_on lane w)) →
       ((v : Conversation) → Describes t.client_frames t.server_frames t.waiting v → IsConversation t.limits.profile v → IsKnownAfter Server t t.server_kept t.answered v t.waiting → IsKnownAfter side t k o (with_message v m) w) → GoesOn t side part (m ∷ []) (counted side t k (size_on side t + n) w o)
   go_whole k o part n p m w e l is fits size judged queues after h M st =
@@ -50,7 +46,7 @@ module _ (side : Side) (t : TalkState) where
       let d = described t h M st in
       let j = judged v d (load_here t.limits h v t.client_held t.server_held st.good) in
       let q = last_of part l in
-      let last : (held_on side t ++ q.init) ++ q.last ∷ [] ≡ frame (message_payload m) = append_assoc (held_on side t) q.init (q.last ∷ []) ∙ ap (λ z. held_on side t ++ z) (sym q.is) ∙ is ∙ ap frame (sym j.0) in
+      let last : (held_on side t ++ q.init) ++ q.last ∷ [] ≡ frame (payload_of m) = last_here part q ∙ is ∙ ap frame (sym j.0) in
       let long : length part ≡ length q.init + 1 = ap length q.is ∙ length_push q.init q.last in
       let r = whole t h M st side k o q.init q.last m w last (omega (arith, ap length j.0, fits)) j.1 (omega (arith, e, long, size)) (queues v d) (after v d st.good.conversation (st.numbers, st.newest)) in
       let size' : size_on side t + n ≡ size_on side t + (length q.init + 1) = omega (arith, e, long) in
@@ -59,36 +55,36 @@ module _ (side : Side) (t : TalkState) where
 
   -- ---- Refusals
   module _ (held : List ℕ) where
+    fail_last : (place told : ℕ) → told ≡ told_place place → (reason : Reason) (part later : List ℕ) (n : ℕ) → n ≡ length part → (q : IsPushed part) → size_on side t + n < 2 ^ 62 → IsBeginning (side_limit t.limits side) (held_on side t ++ q.init) →
+        (IsOfItems reason → held ≡ held_on side t ++ part) → (h : History) (M : List Message) (st : Stands t h M) → IsCause t.limits st.conversation side (size_on side t + length q.init) (held_on side t ++ q.init) q.last place reason →
+        Refuses (refusing side t held (fault_of side (frames_on side t) (size_on side t + n) told reason)) (h ++ on side (part ++ later)) M (fault_of side (frames_on side t) (size_on side t + n) told reason)
+    fail_last place told is_told reason part later n e q size begin kept h M st cause =
+        let long : length part ≡ length q.init + 1 = ap length q.is ∙ length_push q.init q.last in
+        let small : size_on side t + length q.init < 2 ^ 62 = omega (arith, e, long, size) in
+        let r = refuse t h M st side held place told is_told reason q.init q.last later begin small (λ i. kept i ∙ sym (last_here part q)) cause in
+        let size' : size_on side t + length q.init + 1 ≡ size_on side t + n = omega (arith, e, long) in
+        let bytes : q.init ++ q.last ∷ later ≡ part ++ later = sym (append_assoc q.init (q.last ∷ []) later) ∙ ap (λ z. z ++ later) (sym q.is) in
+        subst (λ z. Refuses (refusing side t held (fault_of side (frames_on side t) z told reason)) (h ++ on side (part ++ later)) M (fault_of side (frames_on side t) z told reason)) size'
+        (subst (λ z. Refuses (refusing side t held (fault_of side (frames_on side t) (size_on side t + length q.init + 1) told reason)) (h ++ on side z) M (fault_of side (frames_on side t) (size_on side t + length q.init + 1) told reason)) bytes r)
+
     pub fail_here : (place told : ℕ) → told ≡ told_place place → (reason : Reason) (part later : List ℕ) (n : ℕ) → n ≡ length part → 0 < length part → size_on side t + n < 2 ^ 62 →
         (p : List ℕ) → held_on side t ++ part ≡ frame p → held ≡ held_on side t ++ part → length p ≤ side_limit t.limits side → (h : History) (M : List Message) (st : Stands t h M) → IsPayloadFault t.limits st.conversation side p place reason →
         Refuses (refusing side t held (fault_of side (frames_on side t) (size_on side t + n) told reason)) (h ++ on side (part ++ later)) M (fault_of side (frames_on side t) (size_on side t + n) told reason)
     fail_here place told is_told reason part later n e l size p is kept fits h M st judged =
         let q = last_of part l in
-        let last : (held_on side t ++ q.init) ++ q.last ∷ [] ≡ frame p = append_assoc (held_on side t) q.init (q.last ∷ []) ∙ ap (λ z. held_on side t ++ z) (sym q.is) ∙ is in
-        let long : length part ≡ length q.init + 1 = ap length q.is ∙ length_push q.init q.last in
-        let small : size_on side t + length q.init < 2 ^ 62 = omega (arith, e, long, size) in
-        let cause = payload_fault (omega (arith, e, long, size)) p last fits judged in
-        let r = refuse t h M st side held place told is_told reason q.init q.last later (frame_front (side_limit t.limits side) (held_on side t ++ q.init) [] p q.last fits last) small (λ _. kept ∙ is ∙ sym last) cause in
-        let size' : size_on side t + length q.init + 1 ≡ size_on side t + n = omega (arith, e, long) in
-        let bytes : q.init ++ q.last ∷ later ≡ part ++ later = sym (append_assoc q.init (q.last ∷ []) later) ∙ ap (λ z. z ++ later) (sym q.is) in
-        subst (λ z. Refuses (refusing side t held (fault_of side (frames_on side t) z told reason)) (h ++ on side (part ++ later)) M (fault_of side (frames_on side t) z told reason)) size'
-        (subst (λ z. Refuses (refusing side t held (fault_of side (frames_on side t) (size_on side t + length q.init + 1) told reason)) (h ++ on side z) M (fault_of side (frames_on side t) (size_on side t + length q.init + 1) told reason)) bytes r)
+        let last = last_here part q ∙ is in
+        let cause = payload_fault (omega (arith, e, ap length q.is, length_push q.init q.last, size)) p last fits judged in
+        fail_last place told is_told reason part later n e q size (frame_front (side_limit t.limits side) (held_on side t ++ q.init) [] p q.last fits last) (λ _. kept) h M st cause
 
     pub fail_length : (part later : List ℕ) (n : ℕ) → n ≡ length part → 0 < length part → size_on side t + n < 2 ^ 62 → length (held_on side t) < 4 → IsBadLength (side_limit t.limits side) (held_on side t ++ part) →
         (h : History) (M : List Message) → Stands t h M →
         Refuses (refusing side t held (fault_of side (frames_on side t) (size_on side t + n) 0 LengthRange)) (h ++ on side (part ++ later)) M (fault_of side (frames_on side t) (size_on side t + n) 0 LengthRange)
     fail_length part later n e l size few bad h M st =
         let q = last_of part l in
-        let last : (held_on side t ++ q.init) ++ q.last ∷ [] ≡ held_on side t ++ part = append_assoc (held_on side t) q.init (q.last ∷ []) ∙ ap (λ z. held_on side t ++ z) (sym q.is) in
-        let long : length part ≡ length q.init + 1 = ap length q.is ∙ length_push q.init q.last in
-        let small : size_on side t + length q.init < 2 ^ 62 = omega (arith, e, long, size) in
+        let last = last_here part q in
         let begin : IsBeginning (side_limit t.limits side) (held_on side t ++ q.init) = inl (omega (arith, bad.0, ap length last, length_push (held_on side t ++ q.init) q.last)) in
-        let cause = length_range (omega (arith, e, long, size)) (subst (IsBadLength (side_limit t.limits side)) (sym last) bad) refl refl in
-        let r = refuse t h M st side held 0 0 refl LengthRange q.init q.last later begin small (λ i. absurd cc) cause in
-        let size' : size_on side t + length q.init + 1 ≡ size_on side t + n = omega (arith, e, long) in
-        let bytes : q.init ++ q.last ∷ later ≡ part ++ later = sym (append_assoc q.init (q.last ∷ []) later) ∙ ap (λ z. z ++ later) (sym q.is) in
-        subst (λ z. Refuses (refusing side t held (fault_of side (frames_on side t) z 0 LengthRange)) (h ++ on side (part ++ later)) M (fault_of side (frames_on side t) z 0 LengthRange)) size'
-        (subst (λ z. Refuses (refusing side t held (fault_of side (frames_on side t) (size_on side t + length q.init + 1) 0 LengthRange)) (h ++ on side z) M (fault_of side (frames_on side t) (size_on side t + length q.init + 1) 0 LengthRange)) bytes r)
+        let cause = length_range (omega (arith, e, ap length q.is, length_push q.init q.last, size)) (subst (IsBadLength (side_limit t.limits side)) (sym last) bad) refl refl in
+        fail_last 0 0 refl LengthRange part later n e q size begin (λ i. absurd cc) h M st cause
 
     pub fail_end : (piece : List ℕ) (k : ℕ) → k < length piece → size_on side t + k + 1 ≡ 2 ^ 62 → IsBeginning (side_limit t.limits side) (held_on side t ++ take k piece) → (h : History) (M : List Message) → Stands t h M →
         Refuses (refusing side t held (fault_of side (frames_on side t) (size_on side t + (k + 1)) 0 StreamEnd)) (h ++ on side piece) M (fault_of side (frames_on side t) (size_on side t + (k + 1)) 0 StreamEnd)

@@ -10,7 +10,8 @@ use Rattle.zk_talk.specs.Held.{Message}
 use Rattle.zk_talk.specs.declared.message.MessageOf.TheVariants.{Client as FromClient, Server as FromServer}
 use Rattle.zk_talk.specs.Payloads.{client_payload, server_payload}
 use Rattle.zk_talk.specs.History.{History, side_bytes, on}
-use Rattle.zk_talk.specs.Conversation.{Conversation, with_client, with_server}
+use Rattle.zk_talk.specs.Conversation.{Conversation}
+use Rattle.zk_talk.specs.Fault.{rest_on, side_limit}
 use Rattle.zk_talk.specs.Good.{Good, IsGood, IsOrder, clients, servers, client_payloads, server_payloads, client_bytes, server_bytes}
 use Rattle.zk_talk.specs.Said.{AreSaid, MaySay, said, conversation_of}
 use Rattle.zk_talk.proofs.Small.{small_limits}
@@ -18,13 +19,13 @@ use Rattle.zk_talk.proofs.Lists.{EachAfter-push, EachAfter-nil}
 use Rattle.zk_talk.proofs.Cuts.{cut_front, Shorter}
 use Rattle.zk_talk.proofs.Cuts.Shorter.{within_frame, frame_end}
 use Rattle.zk_talk.proofs.Histories.{no_bytes, side_bytes-append, side_bytes-same}
-use Rattle.zk_talk.proofs.GoodSteps.{good_more_client, good_more_server, good_client, good_server, found_client, found_server}
+use Rattle.zk_talk.proofs.GoodSteps.{good_more_client, good_more_server}
 use Rattle.zk_talk.proofs.GoodFronts.{good_front}
-use Rattle.zk_talk.proofs.Standing.{Runs, clients-append, servers-append, order_more, order_same, other-on}
+use Rattle.zk_talk.proofs.Standing.{own, Runs, runs_message, found_message, order_same, other-on}
 use Rattle.zk_talk.proofs.Headline.{same_good}
 use Rattle.zk_talk.proofs.OrderOnce.{order_once}
-use Rattle.zk_talk.proofs.Speaking.{one_client, one_server}
-use Rattle.zk_talk.proofs.Spoken.{none_spoken}
+use Rattle.zk_talk.proofs.Speaking.{one_message}
+use Rattle.zk_talk.proofs.Spoken.{none_spoken, may_be_said}
 
 -- a history whose messages may be said
 record Replay (limits : Limits) (g : History) : Type 0 where
@@ -47,49 +48,41 @@ module _ (limits : Limits) (g : History) (b : ℕ) (r : Replay limits g) where
   room Client n = omega (arith, n.3.client_size, ap length (side_bytes-same Client g b), length_push (side_bytes Client g) b)
   room Server n = omega (arith, n.3.server_size, ap length (side_bytes-same Server g b), length_push (side_bytes Server g) b)
 
+  -- a byte within a frame
+  same : (side : Side) (cb sb : List ℕ) → Good limits (g ++ (side, b) ∷ []) v cb sb → Replay limits (g ++ (side, b) ∷ [])
+  same side cb sb next = record {
+    messages = r.messages;
+    client_rest = cb;
+    server_rest = sb;
+    runs = record { good = next; order = order_same limits g (side, b) v cb sb r.messages r.runs.order next.whole };
+    are = r.are;
+  }
+
+  -- a byte that makes a frame whole
+  whole : (side : Side) (p : List ℕ) → rest_on side r.client_rest r.server_rest ++ b ∷ [] ≡ frame p → length p ≤ side_limit limits side → IsGood limits (g ++ (side, b) ∷ []) → Replay limits (g ++ (side, b) ∷ [])
+  whole side p is l n =
+      let f = found_message limits (small_limits limits) g b v r.messages r.client_rest r.server_rest r.runs side p is l n in
+      let within = subst (λ z. length z ≤ side_limit limits side) (sym f.1) l in
+      let next = runs_message limits (small_limits limits) g b v r.messages r.client_rest r.server_rest r.runs side f.0 (is ∙ ap frame (sym f.1)) within f.2 (room side n) in
+      record {
+        messages = r.messages ++ f.0 ∷ [];
+        client_rest = own Client side [] r.client_rest;
+        server_rest = own Server side [] r.server_rest;
+        runs = subst (λ z. Runs limits (g ++ (side, b) ∷ []) z (r.messages ++ f.0 ∷ []) (own Client side [] r.client_rest) (own Server side [] r.server_rest)) (sym (one_message r.messages f.0)) next;
+        are = EachAfter-push (MaySay limits) r.messages f.0 r.are (may_be_said limits r.messages side f.0 f.2 within).1;
+      }
+
   more_client : (n : IsGood limits (g ++ (Client, b) ∷ [])) → Shorter limits.client (side_bytes Client g) b (client_payloads n.0.client) n.1 → Replay limits (g ++ (Client, b) ∷ [])
   more_client n (within_frame c e cut) =
       let begin = subst (IsBeginning limits.client) (e ∙ one_rest limits.client (small_limits limits).0 r.client_rest c cut r.runs.good.whole.client_cut b) n.3.whole.client_cut.beginning in
-      let next = good_more_client limits (small_limits limits) g b v r.client_rest r.server_rest r.runs.good begin (room Client n) in
-      let order = order_same limits g (Client, b) v (r.client_rest ++ b ∷ []) r.server_rest r.messages r.runs.order next.whole in
-      record { messages = r.messages; client_rest = r.client_rest ++ b ∷ []; server_rest = r.server_rest; runs = record { good = next; order = order }; are = r.are }
-  more_client n (frame_end Q p c e none l is cut) =
-      let M = r.messages in
-      let whole : r.client_rest ++ b ∷ [] ≡ frame p = sym (one_rest limits.client (small_limits limits).0 r.client_rest c cut r.runs.good.whole.client_cut b) ∙ is in
-      let f = found_client limits (small_limits limits) g b v r.client_rest r.server_rest r.runs.good p whole l n in
-      let within = subst (λ z. length z ≤ limits.client) (sym f.payload) l in
-      let next = good_client limits (small_limits limits) g b v r.client_rest r.server_rest r.runs.good f.found (whole ∙ ap frame (sym f.payload)) within f.may f.fits (room Client n) in
-      let order = order_more limits g (Client, b) v (with_client v f.found) [] r.server_rest M (FromClient f.found ∷ []) r.runs.order
-      (clients-append M (FromClient f.found ∷ [])) (servers-append M (FromClient f.found ∷ []) ∙ append-nil (servers M)) next.whole in
-      record {
-        messages = M ++ FromClient f.found ∷ [];
-        client_rest = [];
-        server_rest = r.server_rest;
-        runs = subst (λ z. Runs limits (g ++ (Client, b) ∷ []) z (M ++ FromClient f.found ∷ []) [] r.server_rest) (sym (one_client M f.found)) (record { good = next; order = order });
-        are = EachAfter-push (MaySay limits) M (FromClient f.found) r.are (f.may, within, f.fits);
-      }
+      same Client (r.client_rest ++ b ∷ []) r.server_rest (good_more_client limits (small_limits limits) g b v r.client_rest r.server_rest r.runs.good begin (room Client n))
+  more_client n (frame_end Q p c e none l is cut) = whole Client p (sym (one_rest limits.client (small_limits limits).0 r.client_rest c cut r.runs.good.whole.client_cut b) ∙ is) l n
 
   more_server : (n : IsGood limits (g ++ (Server, b) ∷ [])) → Shorter limits.server (side_bytes Server g) b (server_payloads n.0.server) n.2 → Replay limits (g ++ (Server, b) ∷ [])
   more_server n (within_frame c e cut) =
       let begin = subst (IsBeginning limits.server) (e ∙ one_rest limits.server (small_limits limits).1 r.server_rest c cut r.runs.good.whole.server_cut b) n.3.whole.server_cut.beginning in
-      let next = good_more_server limits (small_limits limits) g b v r.client_rest r.server_rest r.runs.good begin (room Server n) in
-      let order = order_same limits g (Server, b) v r.client_rest (r.server_rest ++ b ∷ []) r.messages r.runs.order next.whole in
-      record { messages = r.messages; client_rest = r.client_rest; server_rest = r.server_rest ++ b ∷ []; runs = record { good = next; order = order }; are = r.are }
-  more_server n (frame_end Q p c e none l is cut) =
-      let M = r.messages in
-      let whole : r.server_rest ++ b ∷ [] ≡ frame p = sym (one_rest limits.server (small_limits limits).1 r.server_rest c cut r.runs.good.whole.server_cut b) ∙ is in
-      let s = found_server limits (small_limits limits) g b v r.client_rest r.server_rest r.runs.good p whole l n in
-      let within = subst (λ z. length z ≤ limits.server) (sym s.payload) l in
-      let next = good_server limits (small_limits limits) g b v r.client_rest r.server_rest r.runs.good s.found (whole ∙ ap frame (sym s.payload)) within s.may (room Server n) in
-      let order = order_more limits g (Server, b) v (with_server v s.found) r.client_rest [] M (FromServer s.found ∷ []) r.runs.order
-      (clients-append M (FromServer s.found ∷ []) ∙ append-nil (clients M)) (servers-append M (FromServer s.found ∷ [])) next.whole in
-      record {
-        messages = M ++ FromServer s.found ∷ [];
-        client_rest = r.client_rest;
-        server_rest = [];
-        runs = subst (λ z. Runs limits (g ++ (Server, b) ∷ []) z (M ++ FromServer s.found ∷ []) r.client_rest []) (sym (one_server M s.found)) (record { good = next; order = order });
-        are = EachAfter-push (MaySay limits) M (FromServer s.found) r.are (s.may, within);
-      }
+      same Server r.client_rest (r.server_rest ++ b ∷ []) (good_more_server limits (small_limits limits) g b v r.client_rest r.server_rest r.runs.good begin (room Server n))
+  more_server n (frame_end Q p c e none l is cut) = whole Server p (sym (one_rest limits.server (small_limits limits).1 r.server_rest c cut r.runs.good.whole.server_cut b) ∙ is) l n
 
 one_more : (limits : Limits) (g : History) (side : Side) (b : ℕ) → Replay limits g → IsGood limits (g ++ (side, b) ∷ []) → Replay limits (g ++ (side, b) ∷ [])
 one_more limits g Client b r n =

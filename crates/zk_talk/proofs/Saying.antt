@@ -16,7 +16,7 @@ use Rattle.zk_waiting.specs.Lane.{lane_of}
 use Rattle.zk_waiting.specs.Waiting.{Lanes, Request, queue_on, weight_of, asked_parts}
 use Rattle.zk_talk.specs.declared.limits.Limits.{Limits}
 use Rattle.zk_talk.specs.declared.say.SayFault.{SayFault}
-use Rattle.zk_talk.specs.declared.say.SayFault.TheVariants.{NotFirst, Unasked, XidOrder, Misfit, TooLong, QueueFull, NoMemory}
+use Rattle.zk_talk.specs.declared.say.SayFault.TheVariants.{XidOrder, Misfit, NoMemory}
 use Rattle.zk_talk.specs.Payloads.{client_payload, server_payload}
 use Rattle.zk_talk.specs.Conversation.{Conversation, with_client, with_server, is_ask_on, replies_on, ClientMay, ServerMay, IsAnswered, load, weight}
 use Rattle.zk_talk.specs.Describes.{Describes}
@@ -213,18 +213,13 @@ module _ (limits : Limits) (asked welcomed : Bool) (w : Lanes) (v : Conversation
 
 pub is_wanting : (e : SayFault) → (e ≡ NoMemory) ⊎ (e ≡ NoMemory → ⊥)
 is_wanting NoMemory = inl refl
-is_wanting NotFirst = inr (λ q. cc)
-is_wanting Unasked = inr (λ q. cc)
-is_wanting (XidOrder x y) = inr (λ q. cc)
-is_wanting Misfit = inr (λ q. cc)
-is_wanting TooLong = inr (λ q. cc)
-is_wanting QueueFull = inr (λ q. cc)
+is_wanting _ = inr (λ (e : _). cc)
 
 -- want of memory, or a refusal whatever came before
-pub either : (e : SayFault) (H : Conversation → Type 0) (P : Conversation → Type 0) → ((v : Conversation) → H v → (e ≡ NoMemory) ⊎ P v) → (e ≡ NoMemory) ⊎ ((v : Conversation) → H v → P v)
-either e H P all = go (is_wanting e)
+pub either : {X : Type 0} (e : SayFault) (H P : X → Type 0) → ((x : X) → H x → (e ≡ NoMemory) ⊎ P x) → (e ≡ NoMemory) ⊎ ((x : X) → H x → P x)
+either {X} e H P all = go (is_wanting e)
   where
-    go : ((e ≡ NoMemory) ⊎ (e ≡ NoMemory → ⊥)) → (e ≡ NoMemory) ⊎ ((v : Conversation) → H v → P v)
+    go : ((e ≡ NoMemory) ⊎ (e ≡ NoMemory → ⊥)) → (e ≡ NoMemory) ⊎ ((x : X) → H x → P x)
     go (inl m) = inl m
     go (inr n) = inr (λ v h. keep (all v h))
       where

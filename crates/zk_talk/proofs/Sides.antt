@@ -29,7 +29,9 @@ use Rattle.zk_talk.specs.Taking.{GoesOn, IsRefused}
 use Rattle.zk_talk.proofs.Judging.{in_turn, next_load}
 use Rattle.zk_talk.proofs.Lanes.{remembered, forgotten}
 use Rattle.zk_talk.proofs.Numbers.{numbers_after_client, numbers_after_server, newest_still, newest_after}
-use Rattle.zk_talk.proofs.Talks.{grown, refusing, counted, message_payload, with_message, MayOn, IsKnownAfter}
+use Rattle.zk_talk.specs.Said.{payload_of}
+use Rattle.zk_talk.proofs.Standing.{with_message, MayOn}
+use Rattle.zk_talk.proofs.Talks.{grown, refusing, counted, IsKnownAfter}
 use Rattle.zk_talk.proofs.Pieces.{described, go_more, go_whole, fail_here, fail_length, fail_end}
 
 -- what a whole frame carries stands behind its length
@@ -57,7 +59,7 @@ TellsOn Server profile asked count waiting p e = TellsServer asked count waiting
 
 -- what the side's next message is to the conversation before it
 module _ (t : TalkState) (max : t.waiting.max ≡ t.limits.waiting) (v : Conversation) (d : Describes t.client_frames t.server_frames t.waiting v) (p : List ℕ) where
-  next_may : (side : Side) (m : Message) (w : Lanes) → IsNextOn side t.limits.profile t.client_frames (frames_on side t) t.waiting p m w → load v.client v.server ≤ t.limits.waiting → (message_payload m ≡ p) × MayOn side t.limits v m
+  next_may : (side : Side) (m : Message) (w : Lanes) → IsNextOn side t.limits.profile t.client_frames (frames_on side t) t.waiting p m w → load v.client v.server ≤ t.limits.waiting → (payload_of m ≡ p) × MayOn side t.limits v m
   next_may Client (FromClient f) w n l =
       (n.0.is, (in_turn t.client_frames t.server_frames t.waiting v d t.limits.profile f n.0.turn n.0.sent, omega (arith, max, next_load t.client_frames t.server_frames t.waiting v d t.client_frames w f n.1 (omega (arith, max, l)))))
   next_may Server (FromServer s) w n l = (n.0.is, n.0.may v d)

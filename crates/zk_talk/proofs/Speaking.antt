@@ -17,10 +17,10 @@ use Rattle.zk_talk.specs.Good.{clients, servers}
 use Rattle.zk_talk.specs.Ending.{unanswered, unwelcomed}
 use Rattle.zk_talk.specs.Said.{SpeakerState, Says, Heard, HasSpoken, MaySay, MayStand, IsSayFault, IsSaidClient, IsSaidServer, StandsClient, StandsServer, IsClientRefusal, IsServerRefusal, conversation_of}
 use Rattle.zk_talk.proofs.Lists.{EachAfter-push, EachAfter-nil}
-use Rattle.zk_talk.proofs.Standing.{clients-append, servers-append}
+use Rattle.zk_talk.proofs.Standing.{with_message, clients-append, servers-append}
 use Rattle.zk_talk.proofs.Queues.{count_is_waiting}
 use Rattle.zk_talk.proofs.Start.{no_lanes, no_queue}
-use Rattle.zk_talk.proofs.Saying.{is_wanting}
+use Rattle.zk_talk.proofs.Saying.{either}
 
 pub small_payload : (limit : ℕ) (f : ClientFrame) → limit ≤ 16777216 → Fit limit (asks.frame_items f) → length (client_payload f) < 2 ^ 32
 unfolding client_payload
@@ -54,34 +54,34 @@ one_server M s =
     let t = servers-append M (FromServer s ∷ []) in
     λ i. record { client = c i; server = t i }
 
+pub one_message : (M : List Message) (m : Message) → conversation_of (M ++ m ∷ []) ≡ with_message (conversation_of M) m
+one_message M (FromClient f) = one_client M f
+one_message M (FromServer s) = one_server M s
+
 module _ (s : SpeakerState) (m : Message) where
+  -- the speaker that has said it too
+  ok_said : (asked welcomed : Bool) (x : Lanes) → x.max ≡ s.waiting.max → (before : List Message) → Says s before → MaySay s.limits before m × Heard asked welcomed x (with_message (conversation_of before) m) →
+      MaySay s.limits before m × Says (record { limits = s.limits; asked = asked; welcomed = welcomed; waiting = x }) (before ++ m ∷ [])
+  ok_said asked welcomed x max before says step = (
+    step.0,
+    record {
+      said = EachAfter-push (MaySay s.limits) before m says.said step.0;
+      heard = subst (Heard asked welcomed x) (sym (one_message before m)) step.1;
+      room = max ∙ says.room;
+    },
+  )
+
   pub ok_client : (f : ClientFrame) (x : Lanes) → m ≡ FromClient f → x.max ≡ s.waiting.max →
       ((welcomed : Bool) (v : Conversation) → Heard s.asked welcomed s.waiting v → IsSaidClient s.limits v f × Heard true welcomed x (with_client v f)) →
       (before : List Message) → Says s before → MaySay s.limits before m × Says (record { limits = s.limits; asked = true; welcomed = s.welcomed; waiting = x }) (before ++ m ∷ [])
   ok_client f x e max all before says =
-      let step = all s.welcomed (conversation_of before) says.heard in
-      let may = subst (MaySay s.limits before) (sym e) step.0 in (
-        may,
-        record {
-          said = EachAfter-push (MaySay s.limits) before m says.said may;
-          heard = subst (λ z. Heard true s.welcomed x (conversation_of (before ++ z ∷ []))) (sym e) (subst (Heard true s.welcomed x) (sym (one_client before f)) step.1);
-          room = max ∙ says.room;
-        },
-      )
+      ok_said true s.welcomed x max before says (subst (λ z. MaySay s.limits before z × Heard true s.welcomed x (with_message (conversation_of before) z)) (sym e) (all s.welcomed (conversation_of before) says.heard))
 
   pub ok_server : (f : ServerFrame) (x : Lanes) → m ≡ FromServer f → x.max ≡ s.waiting.max →
       ((v : Conversation) → Heard s.asked s.welcomed s.waiting v → IsSaidServer s.limits v f × Heard s.asked true x (with_server v f)) →
       (before : List Message) → Says s before → MaySay s.limits before m × Says (record { limits = s.limits; asked = s.asked; welcomed = true; waiting = x }) (before ++ m ∷ [])
   ok_server f x e max all before says =
-      let step = all (conversation_of before) says.heard in
-      let may = subst (MaySay s.limits before) (sym e) step.0 in (
-        may,
-        record {
-          said = EachAfter-push (MaySay s.limits) before m says.said may;
-          heard = subst (λ z. Heard s.asked true x (conversation_of (before ++ z ∷ []))) (sym e) (subst (Heard s.asked true x) (sym (one_server before f)) step.1);
-          room = max ∙ says.room;
-        },
-      )
+      ok_said s.asked true x max before says (subst (λ z. MaySay s.limits before z × Heard s.asked true x (with_message (conversation_of before) z)) (sym e) (all (conversation_of before) says.heard))
 
   pub err_client : (f : ClientFrame) (e : SayFault) → m ≡ FromClient f →
       ((e ≡ NoMemory) ⊎ ((welcomed : Bool) (v : Conversation) → Heard s.asked welcomed s.waiting v → IsClientRefusal s.limits v f e)) →
@@ -103,15 +103,7 @@ module _ (s : SpeakerState) (m : Message) where
 
 -- want of memory, or a refusal whatever is known of the other side
 pub either_way : (e : SayFault) (H P : Bool → Conversation → Type 0) → ((b : Bool) (v : Conversation) → H b v → (e ≡ NoMemory) ⊎ P b v) → (e ≡ NoMemory) ⊎ ((b : Bool) (v : Conversation) → H b v → P b v)
-either_way e H P all = go (is_wanting e)
-  where
-    go : ((e ≡ NoMemory) ⊎ (e ≡ NoMemory → ⊥)) → (e ≡ NoMemory) ⊎ ((b : Bool) (v : Conversation) → H b v → P b v)
-    go (inl m) = inl m
-    go (inr n) = inr (λ b v h. keep (all b v h))
-      where
-        keep : {Q : Type 0} → ((e ≡ NoMemory) ⊎ Q) → Q
-        keep (inl m) = absurd (n m)
-        keep (inr q) = q
+either_way e H P all = elim (either e (λ (x : Bool × Conversation). H x.0 x.1) (λ x. P x.0 x.1) (λ x h. all x.0 x.1 h)) [ inl m ↦ inl m | inr k ↦ inr (λ b v h. k (b, v) h) ]
 
 -- ---- what has no answer
 unwelcomed_is : (C : List ClientFrame) (S : List ServerFrame) (asked welcomed : Bool) → HasSpoken asked C → HasSpoken welcomed S → unwelcomed C S ≡ cond asked (cond {A = ℕ} welcomed 0 1) 0

@@ -2,8 +2,6 @@
 use Rattle.std.proofs.Common.{Option, Some, None, ◌≡◌, ℕ, ◌+◌, ◌<◌, ◌≤◌, ◌^◌, inl, inr, List, [], ◌∷◌, ◌++◌, length, refl, sym, ap, ◌∙◌, subst, arith, append_assoc}
 use Rattle.std.proofs.lemmas.List.{append-nil, append_cancel_left, length_push}
 use Rattle.std.proofs.lemmas.List.Concat.{flat_map-append}
-use Rattle.zk_asks.specs.Held.{ClientFrame}
-use Rattle.zk_answers.specs.Held.{ServerFrame}
 use Rattle.zk_frames.specs.Framing.{frame, AreWithin}
 use Rattle.zk_frames.proofs.Cuts.{length-frame}
 use Rattle.zk_talk.specs.declared.limits.Limits.{Limits}
@@ -16,19 +14,18 @@ use Rattle.zk_talk.specs.declared.message.Ending.TheVariants.{Whole}
 use Rattle.zk_talk.specs.Payloads.{client_payload, server_payload}
 use Rattle.zk_talk.specs.History.{History, side_bytes, on}
 use Rattle.zk_talk.specs.Conversation.{Conversation, with_client, with_server}
-use Rattle.zk_talk.specs.Fault.{side_limit}
+use Rattle.zk_talk.specs.Fault.{rest_on, side_limit}
 use Rattle.zk_talk.specs.Good.{Good, IsGood, IsOrder, client_payloads, server_payloads, clients, servers}
 use Rattle.zk_talk.specs.Ending.{IsEnding, unanswered}
 use Rattle.zk_talk.specs.Answer.{AreMessages}
-use Rattle.zk_talk.specs.Said.{AreSaid, AreSized, AreFrames, IsWithin, MaySay, IsSaidClient, IsSaidServer, said, side_of, payload_of, conversation_of}
+use Rattle.zk_talk.specs.Said.{AreSaid, AreSized, AreFrames, IsWithin, MaySay, said, side_of, payload_of, conversation_of}
 use Rattle.zk_talk.proofs.Small.{small_limits}
 use Rattle.zk_talk.proofs.Lists.{by_last, IsPushed}
 use Rattle.zk_talk.proofs.Histories.{front-length}
-use Rattle.zk_talk.proofs.GoodSteps.{good_client, good_server, found_client, found_server}
 use Rattle.zk_talk.proofs.GoodFronts.{good_front}
 use Rattle.zk_talk.proofs.Lists.{EachAfter-push, EachAfter-nil}
 use Rattle.std.specs.List.{flat_map, AllByRecursion}
-use Rattle.zk_talk.proofs.Standing.{Runs, runs_client, runs_server, frame_front, clients-append, servers-append, order_more, bytes-on, last-on}
+use Rattle.zk_talk.proofs.Standing.{own, own_rest, with_message, MayOn, Runs, runs_client, runs_server, runs_message, found_message, frame_front, bytes-on, last-on}
 use Rattle.zk_talk.proofs.Start.{start, no_conversation}
 use Rattle.zk_talk.proofs.Headline.{answer_whole, same_good}
 use Rattle.zk_talk.proofs.OrderOnce.{order_once}
@@ -47,42 +44,28 @@ last_of p = elim (by_last (frame p)) [ inl n ↦ absurd (omega (arith, ap length
 whole-on : (side : Side) (h : History) (p : List ℕ) (q : IsPushed (frame p)) → (h ++ on side q.init) ++ (side, q.last) ∷ [] ≡ h ++ on side (frame p)
 whole-on side h p q = last-on side h q.init q.last ∙ ap (λ z. h ++ on side z) (sym q.is)
 
-abbrev own_rest : Side → Side → List ℕ → List ℕ
-own_rest Client Client bs = bs
-own_rest Server Server bs = bs
-own_rest Client Server bs = []
-own_rest Server Client bs = []
-
 module _ (limits : Limits) (h : History) (v : Conversation) (M : List Message) (r : Runs limits h v M [] []) where
   before_last : (side : Side) (p : List ℕ) (q : IsPushed (frame p)) → length p ≤ side_limit limits side → length (side_bytes side h) + length (frame p) < 2 ^ 62 →
-      Runs limits (h ++ on side q.init) v M (own_rest Client side q.init) (own_rest Server side q.init) × (length (side_bytes side (h ++ on side q.init)) + 1 < 2 ^ 62)
+      Runs limits (h ++ on side q.init) v M (own Client side q.init []) (own Server side q.init []) × (length (side_bytes side (h ++ on side q.init)) + 1 < 2 ^ 62)
   before_last side p q l size =
       let long : length (frame p) ≡ length q.init + 1 = ap length q.is ∙ length_push q.init q.last in
       (go side l (omega (arith, size, long)), omega (arith, size, long, bytes-on side q.init h))
     where
-      go : (side : Side) → length p ≤ side_limit limits side → length (side_bytes side h) + length q.init < 2 ^ 62 → Runs limits (h ++ on side q.init) v M (own_rest Client side q.init) (own_rest Server side q.init)
+      go : (side : Side) → length p ≤ side_limit limits side → length (side_bytes side h) + length q.init < 2 ^ 62 → Runs limits (h ++ on side q.init) v M (own Client side q.init []) (own Server side q.init [])
       go Client l room = runs_client limits (small_limits limits) v M q.init h [] [] r (frame_front limits.client q.init [] p q.last l (sym q.is)) room
       go Server l room = runs_server limits (small_limits limits) v M q.init h [] [] r (frame_front limits.server q.init [] p q.last l (sym q.is)) room
 
-  step_client : (f : ClientFrame) → IsSaidClient limits v f → length (side_bytes Client h) + length (frame (client_payload f)) < 2 ^ 62 → Runs limits (h ++ on Client (frame (client_payload f))) (with_client v f) (M ++ FromClient f ∷ []) [] []
-  step_client f may size =
+  -- one message more
+  pub step : (m : Message) → length (payload_of m) ≤ side_limit limits (side_of m) → MayOn (side_of m) limits v m → length (side_bytes (side_of m) h) + length (frame (payload_of m)) < 2 ^ 62 →
+      Runs limits (h ++ on (side_of m) (frame (payload_of m))) (with_message v m) (M ++ m ∷ []) [] []
+  step (FromClient f) fits may size =
       let q = last_of (client_payload f) in
-      let r' = before_last Client (client_payload f) q may.1 size in
-      let h' = h ++ on Client q.init in
-      let g = good_client limits (small_limits limits) h' q.last v q.init [] r'.0.good f (sym q.is) may.1 may.0 may.2 r'.1 in
-      let o = order_more limits h' (Client, q.last) v (with_client v f) [] [] M (FromClient f ∷ []) r'.0.order
-      (clients-append M (FromClient f ∷ []) ∙ ap (λ z. z ++ f ∷ []) r.order.client) (servers-append M (FromClient f ∷ []) ∙ append-nil (servers M) ∙ r.order.server) g.whole in
-      subst (λ z. Runs limits z (with_client v f) (M ++ FromClient f ∷ []) [] []) (whole-on Client h (client_payload f) q) (record { good = g; order = o })
-
-  step_server : (s : ServerFrame) → IsSaidServer limits v s → length (side_bytes Server h) + length (frame (server_payload s)) < 2 ^ 62 → Runs limits (h ++ on Server (frame (server_payload s))) (with_server v s) (M ++ FromServer s ∷ []) [] []
-  step_server s may size =
+      let r' = before_last Client (client_payload f) q fits size in
+      subst (λ z. Runs limits z (with_client v f) (M ++ FromClient f ∷ []) [] []) (whole-on Client h (client_payload f) q) (runs_message limits (small_limits limits) (h ++ on Client q.init) q.last v M q.init [] r'.0 Client (FromClient f) (sym q.is) fits may r'.1)
+  step (FromServer s) fits may size =
       let q = last_of (server_payload s) in
-      let r' = before_last Server (server_payload s) q may.1 size in
-      let h' = h ++ on Server q.init in
-      let g = good_server limits (small_limits limits) h' q.last v [] q.init r'.0.good s (sym q.is) may.1 may.0 r'.1 in
-      let o = order_more limits h' (Server, q.last) v (with_server v s) [] [] M (FromServer s ∷ []) r'.0.order
-      (clients-append M (FromServer s ∷ []) ∙ append-nil (clients M) ∙ r.order.client) (servers-append M (FromServer s ∷ []) ∙ ap (λ z. z ++ s ∷ []) r.order.server) g.whole in
-      subst (λ z. Runs limits z (with_server v s) (M ++ FromServer s ∷ []) [] []) (whole-on Server h (server_payload s) q) (record { good = g; order = o })
+      let r' = before_last Server (server_payload s) q fits size in
+      subst (λ z. Runs limits z (with_server v s) (M ++ FromServer s ∷ []) [] []) (whole-on Server h (server_payload s) q) (runs_message limits (small_limits limits) (h ++ on Server q.init) q.last v M [] q.init r'.0 Server (FromServer s) (sym q.is) fits may r'.1)
 
 abbrev Spoken : Limits → List Message → Type 0
 Spoken limits M = Runs limits (said M) (conversation_of M) M [] []
@@ -100,9 +83,9 @@ sized_on Server M z = z.1
 step_message : (limits : Limits) (M : List Message) (m : Message) → Spoken limits M → MaySay limits M m → length (side_bytes (side_of m) (said M)) + length (frame (payload_of m)) < 2 ^ 62 →
     Runs limits (said M ++ on (side_of m) (frame (payload_of m))) (conversation_of (M ++ m ∷ [])) (M ++ m ∷ []) [] []
 step_message limits M (FromClient f) r may size =
-    subst (λ x. Runs limits (said M ++ on Client (frame (client_payload f))) x (M ++ FromClient f ∷ []) [] []) (sym (one_client M f)) (step_client limits (said M) (conversation_of M) M r f may size)
+    subst (λ x. Runs limits (said M ++ on Client (frame (client_payload f))) x (M ++ FromClient f ∷ []) [] []) (sym (one_client M f)) (step limits (said M) (conversation_of M) M r (FromClient f) may.1 (may.0, may.2) size)
 step_message limits M (FromServer s) r may size =
-    subst (λ x. Runs limits (said M ++ on Server (frame (server_payload s))) x (M ++ FromServer s ∷ []) [] []) (sym (one_server M s)) (step_server limits (said M) (conversation_of M) M r s may size)
+    subst (λ x. Runs limits (said M ++ on Server (frame (server_payload s))) x (M ++ FromServer s ∷ []) [] []) (sym (one_server M s)) (step limits (said M) (conversation_of M) M r (FromServer s) may.1 may.0 size)
 
 one_more : (limits : Limits) (M : List Message) (m : Message) → Spoken limits M → MaySay limits M m → AreSized (M ++ m ∷ []) → Spoken limits (M ++ m ∷ [])
 one_more limits M m r may z =
@@ -149,9 +132,16 @@ good_size : (limits : Limits) (h : History) (side : Side) → IsGood limits h �
 good_size limits h Client n = n.3.client_size
 good_size limits h Server n = n.3.server_size
 
+-- what may come next on a side may be said
+pub may_be_said : (limits : Limits) (M : List Message) (side : Side) (m : Message) → MayOn side limits (conversation_of M) m → length (payload_of m) ≤ side_limit limits side → (side_of m ≡ side) × MaySay limits M m
+may_be_said limits M Client (FromClient f) may l = (refl, (may.0, l, may.1))
+may_be_said limits M Server (FromServer s) may l = (refl, (may, l))
+may_be_said limits M Client (FromServer s) may l = absurd may
+may_be_said limits M Server (FromClient f) may l = absurd may
+
 module _ (limits : Limits) (M : List Message) (r : Spoken limits M) where
   up_to_last : (side : Side) (p : List ℕ) (q : IsPushed (frame p)) → length p ≤ side_limit limits side → IsGood limits (said M ++ on side (frame p)) →
-      Runs limits (said M ++ on side q.init) (conversation_of M) M (own_rest Client side q.init) (own_rest Server side q.init) × IsGood limits ((said M ++ on side q.init) ++ (side, q.last) ∷ [])
+      Runs limits (said M ++ on side q.init) (conversation_of M) M (own Client side q.init []) (own Server side q.init []) × IsGood limits ((said M ++ on side q.init) ++ (side, q.last) ∷ [])
   up_to_last side p q l good = (
     (before_last limits (said M) (conversation_of M) M r side p q l (omega (arith, good_size limits (said M ++ on side (frame p)) side good, bytes-on side (frame p) (said M)))).0,
     subst (IsGood limits) (sym (whole-on side (said M) p q)) good,
@@ -159,16 +149,13 @@ module _ (limits : Limits) (M : List Message) (r : Spoken limits M) where
 
   -- the message whose payload leaves the history good may be said
   next_message : (side : Side) (p : List ℕ) → length p ≤ side_limit limits side → IsGood limits (said M ++ on side (frame p)) → (m : Message) × (side_of m ≡ side) × (payload_of m ≡ p) × MaySay limits M m
-  next_message Client p l good =
+  next_message side p l good =
       let q = last_of p in
-      let x = up_to_last Client p q l good in
-      let f = found_client limits (small_limits limits) (said M ++ on Client q.init) q.last (conversation_of M) q.init [] x.0.good p (sym q.is) l x.1 in
-      (FromClient f.found, refl, f.payload, (f.may, subst (λ z. length z ≤ limits.client) (sym f.payload) l, f.fits))
-  next_message Server p l good =
-      let q = last_of p in
-      let x = up_to_last Server p q l good in
-      let s = found_server limits (small_limits limits) (said M ++ on Server q.init) q.last (conversation_of M) [] q.init x.0.good p (sym q.is) l x.1 in
-      (FromServer s.found, refl, s.payload, (s.may, subst (λ z. length z ≤ limits.server) (sym s.payload) l))
+      let x = up_to_last side p q l good in
+      let whole : rest_on side (own Client side q.init []) (own Server side q.init []) ++ q.last ∷ [] ≡ frame p = ap (λ z. z ++ q.last ∷ []) (own_rest side q.init [] []) ∙ sym q.is in
+      let f = found_message limits (small_limits limits) (said M ++ on side q.init) q.last (conversation_of M) M (own Client side q.init []) (own Server side q.init []) x.0 side p whole l x.1 in
+      let m = may_be_said limits M side f.0 f.2 (subst (λ z. length z ≤ side_limit limits side) (sym f.1) l) in
+      (f.0, m.0, f.1, m.1)
 
 said_from : (limits : Limits) (M : List Message) (fs : List (Side × List ℕ)) → Spoken limits M → AreSaid limits M → AllByRecursion (IsWithin limits) fs → IsGood limits (said M ++ framed fs) → (N : List Message) × AreSaid limits N × Spoken limits N × (said N ≡ said M ++ framed fs)
 unfolding framed

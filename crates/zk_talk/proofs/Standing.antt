@@ -1,48 +1,59 @@
 -- A talk goes on with its history.
-use Rattle.std.proofs.Common.{◌≡◌, ℕ, ◌+◌, ◌<◌, ◌≤◌, ◌^◌, ◌⊎◌, inl, inr, List, [], ◌∷◌, ◌++◌, length, refl, sym, ap, ◌∙◌, subst, arith, append_assoc, length-append}
+use Rattle.std.proofs.Common.{◌≡◌, ℕ, ◌+◌, ◌<◌, ◌≤◌, ◌^◌, List, [], ◌∷◌, ◌++◌, length, refl, sym, ap, ◌∙◌, subst, arith, append_assoc}
 use Rattle.std.proofs.lemmas.List.{append-nil, length_push}
 use Rattle.zk_talk.specs.declared.message.Side.{Side}
 use Rattle.zk_talk.specs.declared.message.Side.TheVariants.{Client, Server}
 use Rattle.zk_talk.specs.declared.limits.Limits.{Limits}
 use Rattle.zk_talk.specs.History.{History, side_bytes}
 use Rattle.zk_frames.specs.Framing.{frame, IsBeginning}
-use Rattle.zk_talk.specs.Conversation.{Conversation}
+use Rattle.zk_talk.specs.Conversation.{Conversation, with_client, with_server, ClientMay, ServerMay, load}
 use Rattle.zk_talk.specs.Good.{IsWhole, AreWholeIn, Good, IsGood}
 use Rattle.zk_talk.proofs.Small.{AreSmall}
-use Rattle.zk_frames.proofs.Cuts.{length-frame}
 use Rattle.zk_talk.proofs.Histories.{side_bytes-same, other-bytes}
-use Rattle.std.proofs.Common.{take}
-use Rattle.std.proofs.lemmas.List.{map_push, take-append-le}
-use Rattle.std.proofs.lemmas.Bool.{cases_lt}
+use Rattle.std.proofs.lemmas.List.{map_push}
 use Rattle.zk_jute.specs.declared.fault.Reason.{Reason}
 use Rattle.zk_talk.specs.Held.{Message}
 use Rattle.zk_talk.specs.declared.message.MessageOf.TheVariants.{Client as FromClient, Server as FromServer}
 use Rattle.zk_talk.specs.History.{on}
 use Rattle.zk_talk.specs.Good.{clients, servers, IsOrder}
-use Rattle.zk_talk.specs.Fault.{IsCause, rest_on}
+use Rattle.zk_talk.specs.Fault.{IsCause, rest_on, side_limit}
+use Rattle.zk_talk.specs.Said.{payload_of}
 use Rattle.zk_talk.specs.Viewed.{other_side}
 use Rattle.zk_talk.specs.Fault.IsCause.{stream_end, length_range, payload_fault}
 use Rattle.zk_talk.proofs.Lists.{FrontOfPushed, front_of_pushed}
 use Rattle.zk_talk.proofs.Lists.FrontOfPushed.{all_of_it, front_of}
-use Rattle.zk_frames.proofs.Cuts.{take-frame}
-use Rattle.zk_talk.proofs.GoodSteps.{good_more_client, good_more_server, bad_length, side_full}
+use Rattle.zk_frames.proofs.Taking as frames
+use Rattle.zk_talk.proofs.GoodSteps.{good_more_client, good_more_server, good_client, good_server, found_client, found_server, bad_length, side_full}
 use Rattle.zk_talk.proofs.Refusals.{refused}
 
--- ---- Beginnings
-pub beginning_left : (limit : ℕ) (c d : List ℕ) → IsBeginning limit (c ++ d) → IsBeginning limit c
-beginning_left limit c d (inl short) = inl (omega (arith, length-append c d))
-beginning_left limit c d (inr w) = go (cases_lt (length c) 4)
-  where
-    go : ((length c < 4) ⊎ (4 ≤ length c)) → IsBeginning limit c
-    go (inl short) = inl short
-    go (inr long) = inr (w.0, sym (take-append-le 4 c d long) ∙ w.1, w.2, omega (arith, w.3, length-append c d))
+-- ---- Sides
+-- what a side has, where one side has something new
+abbrev pub own : {X : Type 0} → Side → Side → X → X → X
+own Client Client new old = new
+own Server Server new old = new
+own Client Server new old = old
+own Server Client new old = old
 
+-- a side has the new of itself
+pub own_rest : (side : Side) (new a b : List ℕ) → rest_on side (own Client side new a) (own Server side new b) ≡ new
+own_rest Client new a b = refl
+own_rest Server new a b = refl
+
+-- the conversation with one more message
+abbrev pub with_message : Conversation → Message → Conversation
+with_message v (FromClient f) = with_client v f
+with_message v (FromServer s) = with_server v s
+
+-- the message may come next on the side
+abbrev pub MayOn : Side → Limits → Conversation → Message → Type 0
+MayOn Client limits v (FromClient f) = ClientMay limits.profile v.client f × (load (v.client ++ f ∷ []) v.server ≤ limits.waiting)
+MayOn Server limits v (FromServer s) = ServerMay v.client v.server s
+MayOn Client limits v (FromServer s) = ⊥
+MayOn Server limits v (FromClient f) = ⊥
+
+-- ---- Beginnings
 pub frame_front : (limit : ℕ) (c d q : List ℕ) (y : ℕ) → length q ≤ limit → c ++ y ∷ d ≡ frame q → IsBeginning limit c
-frame_front limit c d q y l e = go (cases_lt (length c) 4)
-  where
-    go : ((length c < 4) ⊎ (4 ≤ length c)) → IsBeginning limit c
-    go (inl short) = inl short
-    go (inr long) = inr (length q, sym (take-append-le 4 c (y ∷ d) long) ∙ ap (take 4) (e ∙ sym (append-nil (frame q))) ∙ take-frame q [], l, omega (arith, length-frame q, ap length e, length-append c (y ∷ d)))
+frame_front limit c d q y l e = frames.frame_front limit c (y ∷ d) (omega arith) (q, e, l)
 
 -- ---- Order
 pub clients-append : (M N : List Message) → clients (M ++ N) ≡ clients M ++ clients N
@@ -95,7 +106,7 @@ module _ (limits : Limits) (small : AreSmall limits) (v : Conversation) (M : Lis
   runs_client [] h cb sb r begin size = subst (λ z. Runs limits z v M (cb ++ []) sb) (sym (append-nil h)) (subst (λ z. Runs limits h v M z sb) (sym (append-nil cb)) r)
   runs_client (b ∷ bs) h cb sb r begin size =
       let begin' = subst (IsBeginning limits.client) (sym (append_assoc cb (b ∷ []) bs)) begin in
-      let g = good_more_client limits small h b v cb sb r.good (beginning_left limits.client (cb ++ b ∷ []) bs begin') (omega arith) in
+      let g = good_more_client limits small h b v cb sb r.good (frames.beginning_front limits.client (cb ++ b ∷ []) bs begin') (omega arith) in
       let o = order_same limits h (Client, b) v (cb ++ b ∷ []) sb M r.order g.whole in
       let next = runs_client bs (h ++ (Client, b) ∷ []) (cb ++ b ∷ []) sb (record { good = g; order = o }) begin' (omega (arith, size, ap length (side_bytes-same Client h b), length_push (side_bytes Client h) b)) in
       subst (λ z. Runs limits z v M (cb ++ b ∷ bs) sb) (append_assoc h ((Client, b) ∷ []) (on Client bs)) (subst (λ z. Runs limits ((h ++ (Client, b) ∷ []) ++ on Client bs) v M z sb) (append_assoc cb (b ∷ []) bs) next)
@@ -104,10 +115,32 @@ module _ (limits : Limits) (small : AreSmall limits) (v : Conversation) (M : Lis
   runs_server [] h cb sb r begin size = subst (λ z. Runs limits z v M cb (sb ++ [])) (sym (append-nil h)) (subst (λ z. Runs limits h v M cb z) (sym (append-nil sb)) r)
   runs_server (b ∷ bs) h cb sb r begin size =
       let begin' = subst (IsBeginning limits.server) (sym (append_assoc sb (b ∷ []) bs)) begin in
-      let g = good_more_server limits small h b v cb sb r.good (beginning_left limits.server (sb ++ b ∷ []) bs begin') (omega arith) in
+      let g = good_more_server limits small h b v cb sb r.good (frames.beginning_front limits.server (sb ++ b ∷ []) bs begin') (omega arith) in
       let o = order_same limits h (Server, b) v cb (sb ++ b ∷ []) M r.order g.whole in
       let next = runs_server bs (h ++ (Server, b) ∷ []) cb (sb ++ b ∷ []) (record { good = g; order = o }) begin' (omega (arith, size, ap length (side_bytes-same Server h b), length_push (side_bytes Server h) b)) in
       subst (λ z. Runs limits z v M cb (sb ++ b ∷ bs)) (append_assoc h ((Server, b) ∷ []) (on Server bs)) (subst (λ z. Runs limits ((h ++ (Server, b) ∷ []) ++ on Server bs) v M cb z) (append_assoc sb (b ∷ []) bs) next)
+
+-- ---- A byte that makes a frame whole
+module _ (limits : Limits) (small : AreSmall limits) (h : History) (b : ℕ) (v : Conversation) (M : List Message) (cb sb : List ℕ) (r : Runs limits h v M cb sb) where
+  pub runs_message : (side : Side) (m : Message) → rest_on side cb sb ++ b ∷ [] ≡ frame (payload_of m) → length (payload_of m) ≤ side_limit limits side → MayOn side limits v m → length (side_bytes side h) + 1 < 2 ^ 62 →
+      Runs limits (h ++ (side, b) ∷ []) (with_message v m) (M ++ m ∷ []) (own Client side [] cb) (own Server side [] sb)
+  runs_message Client (FromClient f) e l may size =
+      let g = good_client limits small h b v cb sb r.good f e l may.0 may.1 size in
+      let clients-now = clients-append M (FromClient f ∷ []) ∙ ap (λ z. z ++ f ∷ []) r.order.client in
+      let servers-now = servers-append M (FromClient f ∷ []) ∙ append-nil (servers M) ∙ r.order.server in
+      record { good = g; order = order_more limits h (Client, b) v (with_client v f) [] sb M (FromClient f ∷ []) r.order clients-now servers-now g.whole }
+  runs_message Server (FromServer s) e l may size =
+      let g = good_server limits small h b v cb sb r.good s e l may size in
+      let clients-now = clients-append M (FromServer s ∷ []) ∙ append-nil (clients M) ∙ r.order.client in
+      let servers-now = servers-append M (FromServer s ∷ []) ∙ ap (λ z. z ++ s ∷ []) r.order.server in
+      record { good = g; order = order_more limits h (Server, b) v (with_server v s) cb [] M (FromServer s ∷ []) r.order clients-now servers-now g.whole }
+  runs_message Client (FromServer s) e l may size = absurd may
+  runs_message Server (FromClient f) e l may size = absurd may
+
+  -- the message of a payload that leaves the history good
+  pub found_message : (side : Side) (p : List ℕ) → rest_on side cb sb ++ b ∷ [] ≡ frame p → length p ≤ side_limit limits side → IsGood limits (h ++ (side, b) ∷ []) → (m : Message) × (payload_of m ≡ p) × MayOn side limits v m
+  found_message Client p e l n = let f = found_client limits small h b v cb sb r.good p e l n in (FromClient f.found, f.payload, (f.may, f.fits))
+  found_message Server p e l n = let s = found_server limits small h b v cb sb r.good p e l n in (FromServer s.found, s.payload, s.may)
 
 -- the bytes of a piece on its own side and on the other
 pub bytes-on : (side : Side) (bs : List ℕ) (h : History) → length (side_bytes side (h ++ on side bs)) ≡ length (side_bytes side h) + length bs

@@ -1,16 +1,11 @@
 -- What a talk stands for after a piece.
 use Rattle.std.proofs.Common.{◌≡◌, ℕ, ◌+◌, ◌<◌, ◌≤◌, ◌^◌, List, [], ◌∷◌, ◌++◌, length, refl, sym, ap, ◌∙◌, subst, arith, append_assoc}
-use Rattle.std.proofs.lemmas.List.{append-nil, map-append, length_push}
-use Rattle.zk_asks.specs.Held.{ClientFrame}
-use Rattle.zk_answers.specs.Held.{ServerFrame}
-use Rattle.zk_talk.specs.Payloads.{client_payload, server_payload}
-use Rattle.zk_talk.specs.declared.limits.Limits.{Limits}
+use Rattle.std.proofs.lemmas.List.{map-append, length_push}
 use Rattle.zk_talk.specs.declared.message.Side.{Side}
 use Rattle.zk_talk.specs.declared.message.Side.TheVariants.{Client, Server}
 use Rattle.zk_talk.specs.History.{History, side_bytes}
 use Rattle.zk_frames.specs.Framing.{frame, IsBeginning}
-use Rattle.zk_talk.specs.Conversation.{Conversation, with_client, with_server, ClientMay, ServerMay, load}
-use Rattle.zk_talk.specs.Good.{Good}
+use Rattle.zk_talk.specs.Conversation.{Conversation}
 use Rattle.std.proofs.Common.{Option, Some}
 use Rattle.zk_jute.specs.declared.fault.Reason.{Reason}
 use Rattle.zk_waiting.specs.declared.lane.Lane.{Lane}
@@ -18,8 +13,7 @@ use Rattle.zk_talk.specs.Held.{Message}
 use Rattle.zk_talk.specs.declared.message.MessageOf.TheVariants.{Client as FromClient, Server as FromServer}
 use Rattle.zk_talk.specs.History.{on}
 use Rattle.zk_talk.specs.declared.message.Fault.{Fault}
-use Rattle.zk_talk.specs.Good.{clients, servers, IsOrder}
-use Rattle.zk_talk.specs.Fault.{IsCause, IsOfItems, fault_of, side_limit, rest_on, frame_count}
+use Rattle.zk_talk.specs.Fault.{IsCause, IsOfItems, fault_of, side_limit, frame_count}
 use Rattle.zk_waiting.specs.Waiting.{Lanes, queue_on}
 use Rattle.zk_talk.specs.Queues.{IsQueue}
 use Rattle.zk_talk.specs.Numbers.{AreNumbered, IsNewest}
@@ -29,15 +23,8 @@ use Rattle.zk_talk.specs.Streams.{StreamState}
 use Rattle.zk_jute.specs.Reading.{told_place}
 use Rattle.zk_talk.proofs.Small.{small_limits}
 use Rattle.zk_talk.proofs.Queues.{weight_is_load}
-use Rattle.zk_talk.proofs.GoodSteps.{good_client, good_server}
-use Rattle.zk_talk.proofs.Standing.{Runs, frame_front, clients-append, servers-append, order_more, runs_client, runs_server, bytes-on, other-on, last-on, cause_bad}
-
--- what a side has, where one side has something new
-abbrev pub own : {X : Type 0} → Side → Side → X → X → X
-own Client Client new old = new
-own Server Server new old = new
-own Client Server new old = old
-own Server Client new old = old
+use Rattle.zk_talk.specs.Said.{payload_of}
+use Rattle.zk_talk.proofs.Standing.{own, own_rest, with_message, MayOn, Runs, frame_front, runs_client, runs_server, runs_message, bytes-on, other-on, last-on, cause_bad}
 
 -- the talk with this in place of what is held and kept of the side, how many frames were whole, how many bytes came, what
 -- waits, what was answered, and the fault
@@ -71,26 +58,9 @@ refusing side t held fault = set_on side t held (kept_on side t) (frames_on side
 abbrev pub counted : Side → TalkState → List ℕ → ℕ → Lanes → Option Replied → TalkState
 counted side t kept size w o = set_on side t [] kept (frames_on side t + 1) size w o t.fault
 
-abbrev pub message_payload : Message → List ℕ
-message_payload (FromClient f) = client_payload f
-message_payload (FromServer s) = server_payload s
-
--- the conversation with one more message
-abbrev pub with_message : Conversation → Message → Conversation
-with_message v (FromClient f) = with_client v f
-with_message v (FromServer s) = with_server v s
-
--- the message may come next on the side
-abbrev pub MayOn : Side → Limits → Conversation → Message → Type 0
-MayOn Client limits v (FromClient f) = ClientMay limits.profile v.client f × (load (v.client ++ f ∷ []) v.server ≤ limits.waiting)
-MayOn Server limits v (FromServer s) = ServerMay v.client v.server s
-MayOn Client limits v (FromServer s) = ⊥
-MayOn Server limits v (FromClient f) = ⊥
-
 -- what the server keeps, where the side keeps this
 abbrev pub server_keeps : Side → TalkState → List ℕ → List ℕ
-server_keeps Client t kept = t.server_kept
-server_keeps Server t kept = kept
+server_keeps side t kept = own Server side kept t.server_kept
 
 -- the requests that wait have their numbers, and what is told of the server's newest frame, if it is kept, is so
 abbrev pub IsKnownAfter : Side → TalkState → List ℕ → Option Replied → Conversation → Lanes → Type 0
@@ -148,10 +118,6 @@ module _ (t : TalkState) (h : History) (M : List Message) (st : Stands t h M) wh
         no_fault = st.no_fault;
       }
 
-  rest_is : (side : Side) (held : List ℕ) → rest_on side (own Client side held t.client_held) (own Server side held t.server_held) ≡ held
-  rest_is Client held = refl
-  rest_is Server held = refl
-
   held_is : (side : Side) (held : List ℕ) (fault : Fault) → held_on side (refusing side t held fault) ≡ held
   held_is Client held fault = refl
   held_is Server held fault = refl
@@ -165,7 +131,7 @@ module _ (t : TalkState) (h : History) (M : List Message) (st : Stands t h M) wh
       let h' = h ++ on side bs in
       let begun = held_on side t ++ bs in
       let n : size_on side t + length bs ≡ length (side_bytes side h') = omega (arith, bytes-on side bs h, size_is side) in
-      let cause' = subst (λ z. IsCause t.limits v side (length (side_bytes side h')) z b place reason) (sym (rest_is side begun)) (subst (λ z. IsCause t.limits v side z begun b place reason) n cause) in
+      let cause' = subst (λ z. IsCause t.limits v side (length (side_bytes side h')) z b place reason) (sym (own_rest side begun t.client_held t.server_held)) (subst (λ z. IsCause t.limits v side z begun b place reason) n cause) in
       record {
         kept = refl;
         is = record {
@@ -189,63 +155,41 @@ module _ (t : TalkState) (h : History) (M : List Message) (st : Stands t h M) wh
         server_frames = (all_frames side).1;
         newest = newest_still side;
         load = weight_is_load v t.waiting st.queues;
-        held = λ items. held_is side held (fault_of side (frames_on side t) (size_on side t + length bs + 1) told reason) ∙ kept items ∙ ap (λ z. z ++ b ∷ []) (sym (rest_is side begun));
+        held = λ items. held_is side held (fault_of side (frames_on side t) (size_on side t + length bs + 1) told reason) ∙ kept items ∙ ap (λ z. z ++ b ∷ []) (sym (own_rest side begun t.client_held t.server_held));
       }
 
   -- ---- A whole frame
-  whole_client : (k : List ℕ) (o : Option Replied) (bs : List ℕ) (b : ℕ) (f : ClientFrame) (w : Lanes) → (t.client_held ++ bs) ++ b ∷ [] ≡ frame (client_payload f) → length (client_payload f) ≤ t.limits.client → ClientMay t.limits.profile st.conversation.client f →
-      load (st.conversation.client ++ f ∷ []) st.conversation.server ≤ t.limits.waiting → t.client_size + (length bs + 1) < 2 ^ 62 → ((lane : Lane) → IsQueue lane (with_client st.conversation f) (queue_on lane w)) → IsKnownAfter Client t k o (with_client st.conversation f) w →
-      Stands (counted Client t k (t.client_size + (length bs + 1)) w o) (h ++ on Client (bs ++ b ∷ [])) (M ++ FromClient f ∷ [])
-  whole_client k o bs b f w e l may fits size qs after =
-      let v = st.conversation in
-      let r = runs_on Client bs (frame_front t.limits.client (t.client_held ++ bs) [] (client_payload f) b l e) (omega (arith, size)) in
-      let h' = h ++ on Client bs in
-      let g = good_client t.limits (small_limits t.limits) h' b v (t.client_held ++ bs) t.server_held r.good f e l may fits (omega (arith, size, st.client_size, bytes-on Client bs h)) in
-      let o = order_more t.limits h' (Client, b) v (with_client v f) [] t.server_held M (FromClient f ∷ []) r.order
-      (clients-append M (FromClient f ∷ []) ∙ ap (λ z. z ++ f ∷ []) st.order.client) (servers-append M (FromClient f ∷ []) ∙ append-nil (servers M) ∙ st.order.server) g.whole in
-      let whole : h' ++ (Client, b) ∷ [] ≡ h ++ on Client (bs ++ b ∷ []) = last-on Client h bs b in
-      record {
-        conversation = with_client v f;
-        good = subst (λ z. Good t.limits z (with_client v f) [] t.server_held) whole g;
-        order = subst (λ z. IsOrder t.limits z (with_client v f) (M ++ FromClient f ∷ [])) whole o;
-        client_frames = omega (arith, st.client_frames, length_push v.client f);
-        server_frames = st.server_frames;
-        client_size = omega (arith, st.client_size, bytes-on Client (bs ++ b ∷ []) h, length_push bs b);
-        server_size = st.server_size ∙ ap length (sym (other-on Client (bs ++ b ∷ []) h));
-        queues = qs;
-        numbers = after.0;
-        newest = after.1;
-        no_fault = st.no_fault;
-      }
+  frames_after : (side : Side) (m : Message) → MayOn side t.limits st.conversation m → (own Client side (frames_on side t + 1) t.client_frames ≡ length (with_message st.conversation m).client) × (own Server side (frames_on side t + 1) t.server_frames ≡ length (with_message st.conversation m).server)
+  frames_after Client (FromClient f) may = (omega (arith, st.client_frames, length_push st.conversation.client f), st.server_frames)
+  frames_after Server (FromServer s) may = (st.client_frames, omega (arith, st.server_frames, length_push st.conversation.server s))
+  frames_after Client (FromServer s) may = absurd may
+  frames_after Server (FromClient f) may = absurd may
 
-  whole_server : (k : List ℕ) (o : Option Replied) (bs : List ℕ) (b : ℕ) (s : ServerFrame) (w : Lanes) → (t.server_held ++ bs) ++ b ∷ [] ≡ frame (server_payload s) → length (server_payload s) ≤ t.limits.server → ServerMay st.conversation.client st.conversation.server s →
-      t.server_size + (length bs + 1) < 2 ^ 62 → ((lane : Lane) → IsQueue lane (with_server st.conversation s) (queue_on lane w)) → IsKnownAfter Server t k o (with_server st.conversation s) w →
-      Stands (counted Server t k (t.server_size + (length bs + 1)) w o) (h ++ on Server (bs ++ b ∷ [])) (M ++ FromServer s ∷ [])
-  whole_server k o bs b s w e l may size qs after =
-      let v = st.conversation in
-      let r = runs_on Server bs (frame_front t.limits.server (t.server_held ++ bs) [] (server_payload s) b l e) (omega (arith, size)) in
-      let h' = h ++ on Server bs in
-      let g = good_server t.limits (small_limits t.limits) h' b v t.client_held (t.server_held ++ bs) r.good s e l may (omega (arith, size, st.server_size, bytes-on Server bs h)) in
-      let o = order_more t.limits h' (Server, b) v (with_server v s) t.client_held [] M (FromServer s ∷ []) r.order
-      (clients-append M (FromServer s ∷ []) ∙ append-nil (clients M) ∙ st.order.client) (servers-append M (FromServer s ∷ []) ∙ ap (λ z. z ++ s ∷ []) st.order.server) g.whole in
-      let whole : h' ++ (Server, b) ∷ [] ≡ h ++ on Server (bs ++ b ∷ []) = last-on Server h bs b in
-      record {
-        conversation = with_server v s;
-        good = subst (λ z. Good t.limits z (with_server v s) t.client_held []) whole g;
-        order = subst (λ z. IsOrder t.limits z (with_server v s) (M ++ FromServer s ∷ [])) whole o;
-        client_frames = st.client_frames;
-        server_frames = omega (arith, st.server_frames, length_push v.server s);
-        client_size = st.client_size ∙ ap length (sym (other-on Server (bs ++ b ∷ []) h));
-        server_size = omega (arith, st.server_size, bytes-on Server (bs ++ b ∷ []) h, length_push bs b);
-        queues = qs;
-        numbers = after.0;
-        newest = after.1;
-        no_fault = st.no_fault;
-      }
+  runs_whole : (side : Side) (bs : List ℕ) (b : ℕ) (m : Message) → (held_on side t ++ bs) ++ b ∷ [] ≡ frame (payload_of m) → length (payload_of m) ≤ side_limit t.limits side → MayOn side t.limits st.conversation m → size_on side t + (length bs + 1) < 2 ^ 62 →
+      Runs t.limits ((h ++ on side bs) ++ (side, b) ∷ []) (with_message st.conversation m) (M ++ m ∷ []) (own Client side [] t.client_held) (own Server side [] t.server_held)
+  runs_whole Client bs b m e l may size =
+      let r = runs_on Client bs (frame_front t.limits.client (t.client_held ++ bs) [] (payload_of m) b l e) (omega (arith, size)) in
+      runs_message t.limits (small_limits t.limits) (h ++ on Client bs) b st.conversation M (t.client_held ++ bs) t.server_held r Client m e l may (omega (arith, size, st.client_size, bytes-on Client bs h))
+  runs_whole Server bs b m e l may size =
+      let r = runs_on Server bs (frame_front t.limits.server (t.server_held ++ bs) [] (payload_of m) b l e) (omega (arith, size)) in
+      runs_message t.limits (small_limits t.limits) (h ++ on Server bs) b st.conversation M t.client_held (t.server_held ++ bs) r Server m e l may (omega (arith, size, st.server_size, bytes-on Server bs h))
 
-  pub whole : (side : Side) (k : List ℕ) (o : Option Replied) (bs : List ℕ) (b : ℕ) (m : Message) (w : Lanes) → (held_on side t ++ bs) ++ b ∷ [] ≡ frame (message_payload m) → length (message_payload m) ≤ side_limit t.limits side → MayOn side t.limits st.conversation m →
+  pub whole : (side : Side) (k : List ℕ) (o : Option Replied) (bs : List ℕ) (b : ℕ) (m : Message) (w : Lanes) → (held_on side t ++ bs) ++ b ∷ [] ≡ frame (payload_of m) → length (payload_of m) ≤ side_limit t.limits side → MayOn side t.limits st.conversation m →
       size_on side t + (length bs + 1) < 2 ^ 62 → ((lane : Lane) → IsQueue lane (with_message st.conversation m) (queue_on lane w)) → IsKnownAfter side t k o (with_message st.conversation m) w → Stands (counted side t k (size_on side t + (length bs + 1)) w o) (h ++ on side (bs ++ b ∷ [])) (M ++ m ∷ [])
-  whole Client k o bs b (FromClient f) w e l may size qs after = whole_client k o bs b f w e l may.0 may.1 size qs after
-  whole Server k o bs b (FromServer s) w e l may size qs after = whole_server k o bs b s w e l may size qs after
-  whole Client k o bs b (FromServer s) w e l may size qs after = absurd may
-  whole Server k o bs b (FromClient f) w e l may size qs after = absurd may
+  whole side k o bs b m w e l may size qs after =
+      let r = subst (λ z. Runs t.limits z (with_message st.conversation m) (M ++ m ∷ []) (own Client side [] t.client_held) (own Server side [] t.server_held)) (last-on side h bs b) (runs_whole side bs b m e l may size) in
+      let n : length bs + 1 ≡ length (bs ++ b ∷ []) = sym (length_push bs b) in
+      let sizes = sizes_after side (bs ++ b ∷ []) in
+      record {
+        conversation = with_message st.conversation m;
+        good = r.good;
+        order = r.order;
+        client_frames = (frames_after side m may).0;
+        server_frames = (frames_after side m may).1;
+        client_size = ap (λ z. own Client side (size_on side t + z) t.client_size) n ∙ sizes.0;
+        server_size = ap (λ z. own Server side (size_on side t + z) t.server_size) n ∙ sizes.1;
+        queues = qs;
+        numbers = after.0;
+        newest = after.1;
+        no_fault = st.no_fault;
+      }

@@ -16,7 +16,6 @@ returns-in-Ok-clause-some c =
     let k = c.in-Ok.ensures in
     let f = k.found in
     let a = c.in_ok-used-in-Client.ensures.1 in
-    let none : T.client_kept ≡ [] = ap (λ (z : TalkState). z.client_kept) c.self.view_is ∙ subst (λ side. kept_on side c.args.self.now ≡ []) c.in-Client.is c.requires.given_up in
     let next = subst (λ z. IsNextClient z s.count T.waiting (drop 4 s.held) f.0) c.profile-profile.ensures f.1.0 in
     let none : T.client_kept ≡ [] = ap (λ (z : TalkState). z.client_kept) c.self.view_is ∙ subst (λ side. kept_on side c.args.self.now ≡ []) c.in-Client.is c.requires.given_up in
     rw (c.in-Client.is, ← c.self.view_is) (FromClient f.0, (a.1, (λ l. a.0), makes Client T c.args.piece.now s c.pass_client.new.stream c.self.invariant.0.same refl used a c.self.invariant.2 (FromClient f.0) c.pass_client.new.waiting (next, f.1.1) none k.passed))
