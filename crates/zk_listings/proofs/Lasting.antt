@@ -18,8 +18,9 @@ use Rattle.zk_listings.proofs.Decided.{fault-headed, broken-by}
 use Rattle.zk_recordings.proofs.Stages.{damaged-more}
 
 -- equal limits, histories and damages come to the same
-same-outcome : (limits : Limits) (r s : Recording) (messages : List Message) (summary : Summary) → limits_of limits s ≡ limits_of limits r → history_of s ≡ history_of r → damage_of s ≡ damage_of r → IsOutcome limits r messages summary → IsOutcome limits s messages summary
-same-outcome limits r s messages summary l e d i = record {
+pub same-outcome : (limits others : Limits) (r s : Recording) (messages : List Message) (summary : Summary) → limits_of others s ≡ limits_of limits r → history_of s ≡ history_of r → damage_of s ≡ damage_of r →
+    IsOutcome limits r messages summary → IsOutcome others s messages summary
+same-outcome limits others r s messages summary l e d i = record {
   comes_to = subst (λ z. ComesTo z (history_of s) (damage_of s) summary) (sym l) (subst (λ z. ComesTo (limits_of limits r) z (damage_of s) summary) (sym e) (subst (λ z. ComesTo (limits_of limits r) (history_of r) z summary) (sym d) i.comes_to));
   messages_are = subst (λ z. HasMessages z (history_of s) messages summary) (sym l) (subst (λ z. HasMessages (limits_of limits r) z messages summary) (sym e) i.messages_are);
 }
@@ -50,4 +51,4 @@ module _ (limits : Limits) (x more : List ℕ) (r s : Recording) (messages : Lis
       let d = damaged-more b.damage x more r i (broken-by r x b i) in
       let history : history_of d.0 ≡ history_of r = ap (λ p. history_at p ++ begun_history d.0) d.3 ∙ ap (λ h. history_at (place_of r) ++ h) (d.5 ∙ append-nil (begun_history r)) in
       let same = spells-once (x ++ more) s d.0 j d.1 in
-      subst (λ q. IsOutcome limits q messages summary) same (same-outcome limits r d.0 messages summary (ap (limits_at limits) d.3) history (d.2.damage ∙ sym b.is) o)
+      subst (λ q. IsOutcome limits q messages summary) same (same-outcome limits limits r d.0 messages summary (ap (limits_at limits) d.3) history (d.2.damage ∙ sym b.is) o)

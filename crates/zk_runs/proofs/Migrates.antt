@@ -3,12 +3,10 @@ use Rattle.std.proofs.Common.{◌≡◌, ℕ, ◌<◌, ◌≤◌, ◌^◌, List,
 use Rattle.std.specs.List.{All}
 use Rattle.std.specs.Option.{option_map}
 use Rattle.std.specs.Int.{w32, to_be_bytes}
-use Rattle.std.proofs.lemmas.Bool.Decides.{nat_tests}
 use Rattle.zk_talk.specs.declared.limits.Limits.{Limits}
 use Rattle.zk_records.specs.declared.profile.Profile.{Profile as ProfileType}
 use Rattle.zk_records.specs.declared.profile.Profile.TheVariants.{V34, V35}
 use Rattle.zk_records.specs.Codes.{profile_number}
-use Rattle.zk_listings.specs.declared.listing.Listing.{Listing}
 use Rattle.zk_recordings.specs.declared.parts.Damage.{Damage}
 use Rattle.zk_recordings.specs.declared.parts.Damage.TheVariants.{Short}
 use Rattle.zk_recordings.specs.declared.parts.Format.{Format}
@@ -18,20 +16,15 @@ use Rattle.zk_recordings.specs.declared.parts.Part.TheVariants.{SideByte, Time, 
 use Rattle.zk_recordings.specs.Parts.{number, long_number, is_within, is_good, damage_cut, piece_parts}
 use Rattle.zk_recordings.specs.HeadLimits.{profile_by}
 use Rattle.zk_recordings.specs.Recording.{End, Cut, Bad, IsBreakIn, Head, First, Second, IsHead, Piece, IsPiece, no_time, AtLetters, InHead, InPieces, AreIn, Recording, Breaks, Ends, IsRecording, bytes_of, Spells, place_of, front, behind, damage_at, end_damage, history_of, limits_of, damage_of, nothing}
-use Rattle.zk_listings.specs.Outcome.{ComesTo, HasMessages, IsOutcome}
-use Rattle.zk_runs.specs.Migrating.{head_of, migrated, IsListing, IsOf, IsWhole}
+use Rattle.zk_listings.specs.Outcome.{IsOutcome}
+use Rattle.zk_listings.proofs.Lasting.{same-outcome}
+use Rattle.zk_runs.specs.Migrating.{head_of, migrated, ListsAs, IsOf, IsWhole}
 use Rattle.zk_recordings.proofs.Accepts.{limits-some}
 use Rattle.zk_runs.proofs.Moves.{break_with}
 use Rattle.zk_recordings.proofs.Once.{spells-once}
-use Rattle.zk_runs.proofs.Rebuilds.{number_of}
+use Rattle.zk_runs.proofs.Rebuilds.{number_of, number_good}
 
 -- ---- the head of some limits
-
-within-range : (least most n : ℕ) → least ≤ n → n ≤ most → is_within least most n ≡ true
-within-range least most n a b = grind (arith, nat_tests)
-
-of-number : (n least most : ℕ) → least ≤ n → n ≤ most → n < 2 ^ 32 → is_within least most (number (to_be_bytes w32 n)) ≡ true
-of-number n least most a b small = ap (is_within least most) (number_of n small) ∙ within-range least most n a b
 
 number-profile : (p : ProfileType) → number (to_be_bytes w32 (profile_number p)) ≡ profile_number p
 number-profile V34 = number_of 34 (omega arith)
@@ -48,11 +41,11 @@ profile-good V35 = refl
 head-is : (limits : Limits) → IsHead (head_of limits)
 head-is limits =
     let r = limits.in_range in (
-      record { wide = refl; good = of-number limits.client 64 16777216 r.0 r.1 (omega (arith, r.1)) },
+      record { wide = refl; good = number_good limits.client 64 16777216 r.0 r.1 (omega (arith, r.1)) },
       (
-        record { wide = refl; good = of-number limits.server 64 16777216 r.2 r.3 (omega (arith, r.3)) },
+        record { wide = refl; good = number_good limits.server 64 16777216 r.2 r.3 (omega (arith, r.3)) },
         (
-          record { wide = refl; good = of-number limits.waiting 1 1048576 r.4 r.5 (omega (arith, r.5)) },
+          record { wide = refl; good = number_good limits.waiting 1 1048576 r.4 r.5 (omega (arith, r.5)) },
           (record { wide = refl; good = ap (is_within 34 35) (number-profile limits.profile) ∙ profile-good limits.profile }, tt),
         ),
       ),
@@ -114,12 +107,15 @@ whole-first (Ends head ps last) is none first = absurd cc
 
 -- ---- what it is migrated to
 
+-- a recording with the same limits, history and damage has the same listing
+lists-as : (one two : Limits) (x y : List ℕ) (r s : Recording) → Spells x r → Spells y s → limits_of two s ≡ limits_of one r → history_of s ≡ history_of r → damage_of s ≡ damage_of r → ListsAs one x two y
+lists-as one two x y r s p q l h d = λ listing text i.
+    let o = subst (λ z. IsOutcome one z i.messages i.summary) (spells-once x r i.recording p i.spells) i.is in
+    record { recording = s; messages = i.messages; summary = i.summary; spells = q; is = same-outcome one two r s i.messages i.summary l h d o; text_is = i.text_is }
+
 module _ (options other : Limits) (x : List ℕ) (r : Recording) (whole : IsWhole Zkr1 x r) where
   ended : EndsWhole r First
   ended = whole-first r whole.spells.sound whole.undamaged whole.format_is
-
-  abbrev old : Recording
-  old = Breaks (InPieces First ended.pieces) nothing
 
   abbrev new : Recording
   new = Breaks (InPieces (head_of options) ended.pieces) nothing
@@ -130,47 +126,20 @@ module _ (options other : Limits) (x : List ℕ) (r : Recording) (whole : IsWhol
     is = ap (migrated options) ended.is ∙ sym (append-nil (front (InPieces (head_of options) ended.pieces)));
   }
 
-  limits-back : options ≡ limits_of other new
+  limits-back : limits_of other new ≡ limits_of options r
   limits-back =
-      let r = options.in_range in
-      let c = number_of options.client (omega (arith, r.1)) in
-      let s = number_of options.server (omega (arith, r.3)) in
-      let w = number_of options.waiting (omega (arith, r.5)) in
-      limits-some options _ _ _ _ (sym c, sym s, sym w) (profile-back options.profile ∙ ap profile_by (sym (number-profile options.profile)))
-      (omega (arith, r.0, c), omega (arith, r.1, c), omega (arith, r.2, s), omega (arith, r.3, s), omega (arith, r.4, w), omega (arith, r.5, w)) other
+      let range = options.in_range in
+      let c = number_of options.client (omega (arith, range.1)) in
+      let s = number_of options.server (omega (arith, range.3)) in
+      let w = number_of options.waiting (omega (arith, range.5)) in
+      sym (ap (limits_of options) ended.is ∙ limits-some options _ _ _ _ (sym c, sym s, sym w) (profile-back options.profile ∙ ap profile_by (sym (number-profile options.profile)))
+      (omega (arith, range.0, c), omega (arith, range.1, c), omega (arith, range.2, s), omega (arith, range.3, s), omega (arith, range.4, w), omega (arith, range.5, w)) other)
 
-  module _ (listing : Listing) (text : List ℕ) where
-    pub listed : IsListing options listing x text → IsListing other listing (migrated options r) text
-    listed i =
-        let e : i.recording ≡ old = spells-once x r i.recording whole.spells i.spells ∙ ended.is in
-        let o = subst (λ q. IsOutcome options q i.messages i.summary) e i.is in
-        record {
-          recording = new;
-          messages = i.messages;
-          summary = i.summary;
-          spells = spells-new;
-          is = record {
-            comes_to = subst (λ l. ComesTo l (history_of new) (damage_of new) i.summary) limits-back o.comes_to;
-            messages_are = subst (λ l. HasMessages l (history_of new) i.messages i.summary) limits-back o.messages_are;
-          };
-          text_is = i.text_is;
-        }
+  pub listed : ListsAs options x other (migrated options r)
+  listed = lists-as options other x _ r new whole.spells spells-new limits-back (sym (ap history_of ended.is)) (sym (ap damage_of ended.is))
 
-    pub listed-back : IsListing other listing (migrated options r) text → IsListing options listing x text
-    listed-back i =
-        let e : i.recording ≡ new = spells-once (migrated options r) new i.recording spells-new i.spells in
-        let o = subst (λ q. IsOutcome other q i.messages i.summary) e i.is in
-        record {
-          recording = r;
-          messages = i.messages;
-          summary = i.summary;
-          spells = whole.spells;
-          is = subst (λ q. IsOutcome options q i.messages i.summary) (sym ended.is) (record {
-            comes_to = subst (λ l. ComesTo l (history_of new) (damage_of new) i.summary) (sym limits-back) o.comes_to;
-            messages_are = subst (λ l. HasMessages l (history_of new) i.messages i.summary) (sym limits-back) o.messages_are;
-          });
-          text_is = i.text_is;
-        }
+  pub listed-back : ListsAs other (migrated options r) options x
+  listed-back = lists-as other options _ x new r spells-new whole.spells (sym limits-back) (ap history_of ended.is) (ap damage_of ended.is)
 
 -- ---- a recording of the second format stays as it is
 

@@ -96,8 +96,12 @@ pub number_of : (n : ℕ) → n < 2 ^ 32 → number (to_be_bytes w32 n) ≡ n
 unfolding number
 number_of n h = from_be_bytes-to_be_bytes_4 n h
 
-in_range : (n : ℕ) → 1 ≤ n → n ≤ 16777220 → is_within 1 16777220 n ≡ true
-in_range n least most = grind (arith, nat_tests)
+within_range : (least most n : ℕ) → least ≤ n → n ≤ most → is_within least most n ≡ true
+within_range least most n a b = grind (arith, nat_tests)
+
+-- four bytes of a number that is within a range
+pub number_good : (n least most : ℕ) → least ≤ n → n ≤ most → n < 2 ^ 32 → is_within least most (number (to_be_bytes w32 n)) ≡ true
+number_good n least most a b small = ap (is_within least most) (number_of n small) ∙ within_range least most n a b
 
 side_good : (m : Message) → is_good SideByte (side_byte (side_of m) ∷ []) ≡ true
 side_good (FromClient f) = refl
@@ -106,14 +110,11 @@ side_good (FromServer s) = refl
 is_piece : (m : Message) → length (payload_of m) ≤ 16777216 → IsPiece Zkr1 (piece_of m)
 is_piece m l =
     let n = length (frame (payload_of m)) in
-    let same : number (to_be_bytes w32 n) ≡ n = number_of n (omega (arith, l, length-frame (payload_of m))) in
-    let good : is_within 1 16777220 n ≡ true = in_range n (omega (arith, length-frame (payload_of m))) (omega (arith, l, length-frame (payload_of m))) in
+    let most : n ≤ 16777220 = omega (arith, l, length-frame (payload_of m)) in
+    let good = number_good n 1 16777220 (omega (arith, length-frame (payload_of m))) most (omega (arith, most)) in
     record {
-      begun = record {
-        values = (record { wide = refl; good = side_good m }, (record { wide = refl; good = ap (is_within 1 16777220) same ∙ good }, tt));
-        timed = refl;
-      };
-      sized = same;
+      begun = record { values = (record { wide = refl; good = side_good m }, (record { wide = refl; good = good }, tt)); timed = refl };
+      sized = number_of n (omega (arith, most));
     }
 
 each_piece : (limits : Limits) (messages : List Message) → AreSaid limits messages → All (IsPiece Zkr1) (map piece_of messages)
