@@ -15,6 +15,61 @@ const LONGEST: usize = 65_536;
 /// The bytes of a piece's head.
 const HEAD: usize = 5;
 
+/// What is read piece by piece.
+pub(crate) trait Puts {
+    /// Puts the next bytes into `room`, which isn't empty, and returns how many; 0 at the end, or where too little room is.
+    fn put(&mut self, room: &mut [u8]) -> usize
+        ensures { result ≤ length room.new };
+}
+
+/// A source of what `from` puts.
+#[derive(Drop)]
+pub(crate) struct Given<P> {
+    from: P,
+    reads: u64,
+}
+
+impl<P: Puts> Given<P> {
+    pub(crate) fn new(from: P) -> Self
+        ensures { ⟦<Given<P> as Source>⟧.read_count result ≡ 0 }
+    {
+        Given { from, reads: 0 }
+    }
+}
+
+impl<P: Puts> Source for Given<P> {
+    ghost remaining = { λ _. None };
+
+    ghost read_count = { λ s. s.reads };
+
+    ghost has_failed = { λ _. false };
+
+    fn read(&mut self, buf: &mut [u8]) -> Result<usize, Failed> {
+        let reads = self.reads.saturating_add(1);
+        let mut filled = 0;
+        for _ in 0..buf.len() {
+            if filled >= buf.len() {
+                break;
+            }
+            let count = self.from.put(&mut buf[filled..]);
+            if count == 0 {
+                break;
+            }
+            filled += count;
+        }
+        self.reads = reads;
+        Ok(filled.min(buf.len()))
+    }
+
+    fn reads(&self) -> u64 {
+        self.reads
+    }
+
+    fn failed(&self) -> bool {
+        false
+    }
+}
+
 /// A recording: the pieces of a conversation of many turns.
 #[derive(Drop)]
 pub(crate) struct Feed {
@@ -32,7 +87,6 @@ pub(crate) struct Feed {
     /// What is left of a piece of this side.
     side: Side,
     left: usize,
-    reads: u64,
 }
 
 fn letter(side: Side) -> u8 {
@@ -74,10 +128,7 @@ impl Feed {
         cut: Cut,
         seed: u64,
         turns: u64,
-    ) -> Result<Feed, AllocError>
-        ensures count { IfOk result (λ f. ⟦<Feed as Source>⟧.read_count f ≡ 0) }
-        ensures live { IfOk result (λ f. ⟦<Feed as Source>⟧.has_failed f ≡ false) }
-    {
+    ) -> Result<Feed, AllocError> {
         let opening = opening(alloc, &streams)?;
         Ok(Feed {
             streams,
@@ -92,7 +143,6 @@ impl Feed {
             server: 0,
             side: Side::Client,
             left: 0,
-            reads: 0,
         })
     }
 
@@ -157,11 +207,10 @@ impl Feed {
             }
         }
     }
+}
 
-    /// Puts the next bytes into `room`, which isn't empty, and returns how many; 0 at the end, or if a head doesn't fit.
-    fn put(&mut self, room: &mut [u8]) -> usize
-        ensures { result ≤ length room.new }
-    {
+impl Puts for Feed {
+    fn put(&mut self, room: &mut [u8]) -> usize {
         if let Some(rest) = self.opening.get(self.opened..) {
             if !rest.is_empty() {
                 let count = copy(rest, room);
@@ -185,39 +234,6 @@ impl Feed {
     }
 }
 
-impl Source for Feed {
-    ghost remaining = { λ _. None };
-
-    ghost read_count = { λ s. s.reads };
-
-    ghost has_failed = { λ _. false };
-
-    fn read(&mut self, buf: &mut [u8]) -> Result<usize, Failed> {
-        let reads = self.reads.saturating_add(1);
-        let mut filled = 0;
-        for _ in 0..buf.len() {
-            if filled >= buf.len() {
-                break;
-            }
-            let count = self.put(&mut buf[filled..]);
-            if count == 0 {
-                break;
-            }
-            filled += count;
-        }
-        self.reads = reads;
-        Ok(filled.min(buf.len()))
-    }
-
-    fn reads(&self) -> u64 {
-        self.reads
-    }
-
-    fn failed(&self) -> bool {
-        false
-    }
-}
-
 /// The lines of a conversation of many turns.
 #[derive(Drop)]
 pub(crate) struct Lines {
@@ -227,15 +243,11 @@ pub(crate) struct Lines {
     at: usize,
     turn: u64,
     turns: u64,
-    reads: u64,
 }
 
 impl Lines {
     /// The lines of `turns` turns of a script's conversation.
-    pub(crate) fn new(alloc: Global, script: Script, turns: u64) -> Result<Lines, AllocError>
-        ensures count { IfOk result (λ f. ⟦<Lines as Source>⟧.read_count f ≡ 0) }
-        ensures live { IfOk result (λ f. ⟦<Lines as Source>⟧.has_failed f ≡ false) }
-    {
+    pub(crate) fn new(alloc: Global, script: Script, turns: u64) -> Result<Lines, AllocError> {
         let text = Vec::from_slice(alloc, script.lines.as_bytes())?;
         Ok(Lines {
             text,
@@ -244,14 +256,12 @@ impl Lines {
             at: 0,
             turn: 0,
             turns,
-            reads: 0,
         })
     }
+}
 
-    /// Puts the next bytes into `room`, which isn't empty, and returns how many; 0 at the end.
-    fn put(&mut self, room: &mut [u8]) -> usize
-        ensures { result ≤ length room.new }
-    {
+impl Puts for Lines {
+    fn put(&mut self, room: &mut [u8]) -> usize {
         if let Some(rest) = GREETING.as_bytes().get(self.opened..) {
             if !rest.is_empty() {
                 let count = copy(rest, room);
@@ -270,38 +280,5 @@ impl Lines {
         let count = copy(self.text.get(self.at..).unwrap_or(&[]), room);
         self.at = self.at.saturating_add(count);
         count
-    }
-}
-
-impl Source for Lines {
-    ghost remaining = { λ _. None };
-
-    ghost read_count = { λ s. s.reads };
-
-    ghost has_failed = { λ _. false };
-
-    fn read(&mut self, buf: &mut [u8]) -> Result<usize, Failed> {
-        let reads = self.reads.saturating_add(1);
-        let mut filled = 0;
-        for _ in 0..buf.len() {
-            if filled >= buf.len() {
-                break;
-            }
-            let count = self.put(&mut buf[filled..]);
-            if count == 0 {
-                break;
-            }
-            filled += count;
-        }
-        self.reads = reads;
-        Ok(filled.min(buf.len()))
-    }
-
-    fn reads(&self) -> u64 {
-        self.reads
-    }
-
-    fn failed(&self) -> bool {
-        false
     }
 }

@@ -2,7 +2,7 @@
 ghost use Rattle.std.specs.Prelude.{◌≡◌, IfOk};
 
 use crate::digest::Digest;
-use crate::feed::{Feed, Lines};
+use crate::feed::{Feed, Given, Lines};
 use crate::life::{dissect, relay};
 use crate::script::{Mix, Script};
 use crate::streams::{Cut, Streams, limits};
@@ -28,12 +28,12 @@ fn add_status(digest: &mut Digest, status: Status) {
 }
 
 /// The recording of a conversation of `turns` turns.
-fn recording(alloc: Global, mix: Mix, cut: Cut, seed: u64, turns: u64) -> Result<Feed>
-    ensures { IfOk result (λ f. ⟦<Feed as Source>⟧.read_count f ≡ 0) }
+fn recording(alloc: Global, mix: Mix, cut: Cut, seed: u64, turns: u64) -> Result<Given<Feed>>
+    ensures { IfOk result (λ f. ⟦<Given<Feed> as Source>⟧.read_count f ≡ 0) }
 {
     let script = Script::new(alloc, mix, seed, ROUNDS)?;
     let streams = Streams::new(alloc, &script, cut)?;
-    Ok(Feed::new(alloc, streams, cut, seed, turns)?)
+    Ok(Given::new(Feed::new(alloc, streams, cut, seed, turns)?))
 }
 
 /// A check of a night's recording.
@@ -72,7 +72,7 @@ pub(crate) fn show(alloc: Global, seed: u64, turns: u64) -> Result<u64> {
 pub(crate) fn build(alloc: Global, seed: u64, turns: u64) -> Result<u64> {
     let mut digest = Digest::new();
     let script = Script::new(alloc, Mix::Night, seed, ROUNDS)?;
-    let mut lines = Lines::new(alloc, script, turns)?;
+    let mut lines = Given::new(Lines::new(alloc, script, turns)?);
     let built = build_run(alloc, limits()?, &mut lines, &mut digest)?;
     digest.add_number(u64::from(matches!(built, Built::Whole)));
     Ok(digest.sum())

@@ -9,7 +9,6 @@ mod digest;
 mod feed;
 mod jobs;
 mod life;
-mod memory;
 mod place;
 mod random;
 mod script;

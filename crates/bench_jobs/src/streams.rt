@@ -1,12 +1,12 @@
 //! `Streams`: the two byte streams of a turn, and in which order their stretches come.
 ghost use Rattle.std.specs.Prelude.{◌≡◌, ◌<◌, ◌^◌, false, None};
 
-use crate::memory::{Bytes, Collected};
 use crate::place::{FIRST_XID, Number, Place, number_frames, put};
 use crate::script::{GREETING, Script};
 use anyhow::{Result, ensure};
 use std::alloc::{AllocError, Global};
-use zk_runs::build_run;
+use std::io::Read;
+use zk_runs::{FromRead, FromWrite, build_run};
 use zk_talk::{Limits, Side};
 
 /// What a stretch is.
@@ -126,9 +126,11 @@ fn number_of(digits: &[u8; 4]) -> u64 {
 impl Streams {
     /// The streams of a script's conversation.
     pub(crate) fn new(alloc: Global, script: &Script, cut: Cut) -> Result<Streams> {
-        let mut lines = Bytes::new(GREETING.as_bytes(), script.lines.as_bytes());
-        let mut recording = Collected::new(alloc);
-        let _built = build_run(alloc, limits()?, &mut lines, &mut recording)?;
+        let lines = GREETING.as_bytes().chain(script.lines.as_bytes());
+        let mut reader = FromRead::new(lines);
+        let mut recording = Vec::new(alloc);
+        let mut writer = FromWrite::new(&mut recording);
+        let _built = build_run(alloc, limits()?, &mut reader, &mut writer)?;
         let mut streams = Streams {
             greeting: Vec::new(alloc),
             welcome: Vec::new(alloc),
@@ -136,7 +138,7 @@ impl Streams {
             server: Stream::new(alloc),
             stretches: Vec::new(alloc),
         };
-        let mut rest = recording.bytes.get(4..).unwrap_or(&[]);
+        let mut rest = recording.get(4..).unwrap_or(&[]);
         for number in 0..rest.len() {
             let Some((side, frame, behind)) = split_piece(rest) else {
                 break;

@@ -99,60 +99,47 @@ pub(crate) struct MemorySink {
 }
 
 impl MemorySink {
-    pub(crate) fn new(alloc: Global) -> Self
+    /// Takes at most `step` bytes a call, fails at the call `fails_at`, the first being 1, and takes none at `takes_none_at`.
+    fn of(alloc: Global, step: usize, fails_at: u64, takes_none_at: u64) -> Self
         ensures contents { ⟦<MemorySink as Sink>⟧.contents result ≡ Some [] }
         ensures live { ⟦<MemorySink as Sink>⟧.has_failed result ≡ false }
     {
         MemorySink {
             bytes: Vec::new(alloc),
-            step: usize::MAX,
-            fails_at: 0,
-            takes_none_at: 0,
+            step,
+            fails_at,
+            takes_none_at,
             writes: 0,
             failed: false,
         }
+    }
+
+    pub(crate) fn new(alloc: Global) -> Self
+        ensures contents { ⟦<MemorySink as Sink>⟧.contents result ≡ Some [] }
+        ensures live { ⟦<MemorySink as Sink>⟧.has_failed result ≡ false }
+    {
+        MemorySink::of(alloc, usize::MAX, 0, 0)
     }
 
     /// Takes at most `step` bytes a call; with a step of 0 the first call fails.
     pub(crate) fn by_steps(alloc: Global, step: usize) -> Self
         ensures { ⟦<MemorySink as Sink>⟧.has_failed result ≡ false }
     {
-        MemorySink {
-            bytes: Vec::new(alloc),
-            step,
-            fails_at: 0,
-            takes_none_at: 0,
-            writes: 0,
-            failed: false,
-        }
+        MemorySink::of(alloc, step, 0, 0)
     }
 
     /// Takes a byte a call, and fails at the call `call`, the first being 1.
     pub(crate) fn failing_at(alloc: Global, call: u64) -> Self
         ensures { ⟦<MemorySink as Sink>⟧.has_failed result ≡ false }
     {
-        MemorySink {
-            bytes: Vec::new(alloc),
-            step: 1,
-            fails_at: call,
-            takes_none_at: 0,
-            writes: 0,
-            failed: false,
-        }
+        MemorySink::of(alloc, 1, call, 0)
     }
 
     /// Takes a byte a call, and none at the call `call`, the first being 1.
     pub(crate) fn taking_none_at(alloc: Global, call: u64) -> Self
         ensures { ⟦<MemorySink as Sink>⟧.has_failed result ≡ false }
     {
-        MemorySink {
-            bytes: Vec::new(alloc),
-            step: 1,
-            fails_at: 0,
-            takes_none_at: call,
-            writes: 0,
-            failed: false,
-        }
+        MemorySink::of(alloc, 1, 0, call)
     }
 
     /// What was written.
