@@ -26,29 +26,32 @@ const OPERATIONS: &str = "\
 -11 closeSession
 13 -
 10 -
-16 -
+9998 -
 0 -
 -1 -
 -10 -
-102 -";
+9999 -";
+
+/// A row's number; and again, with the row's name, if it has one.
+fn parsed(row: &str) -> Result<(i32, Option<(i32, &str)>), Fail> {
+    let (digits, name) = row.split_once(' ').ok_or("no row")?;
+    let number: i32 = digits.parse()?;
+    match name {
+        "-" => Ok((number, None)),
+        _ => Ok((number, Some((number, name)))),
+    }
+}
 
 /// The operation's number and name.
 fn op_told(profile: Profile, number: i32) -> Option<(i32, &'static str)> {
-    match op_of(profile, number) {
-        Some(op) => Some((op_number(op), op_name(op))),
-        None => None,
-    }
+    let op = op_of(profile, number)?;
+    Some((op_number(op), op_name(op)))
 }
 
 #[test]
 fn operations(rt: HostRuntime) -> Result<(), Fail> {
     for row in OPERATIONS.lines() {
-        let (digits, name) = row.split_once(' ').ok_or("no row")?;
-        let number: i32 = digits.parse()?;
-        let want = match name {
-            "-" => None,
-            _ => Some((number, name)),
-        };
+        let (number, want) = parsed(row)?;
         let older = match number {
             15 => None,
             _ => want,
@@ -73,21 +76,14 @@ const PARTS: &str = "\
 
 /// The part's number and name.
 fn part_told(number: i32) -> Option<(i32, &'static str)> {
-    match part_of(number) {
-        Some(op) => Some((part_number(op), part_name(op))),
-        None => None,
-    }
+    let op = part_of(number)?;
+    Some((part_number(op), part_name(op)))
 }
 
 #[test]
 fn operations_of_parts(rt: HostRuntime) -> Result<(), Fail> {
     for row in PARTS.lines() {
-        let (digits, name) = row.split_once(' ').ok_or("no row")?;
-        let number: i32 = digits.parse()?;
-        let want = match name {
-            "-" => None,
-            _ => Some((number, name)),
-        };
+        let (number, want) = parsed(row)?;
         assert_eq!(rt; part_told(number), want, "of {row}");
     }
     Ok(())

@@ -56,26 +56,12 @@ fn value_told(alloc: Global, name: &str, bytes: &[u8]) -> Result<String, Fail> {
         "Text" => told::<Text>(alloc, bytes),
         "Blob" => told::<Blob>(alloc, bytes),
         "List" => told::<List<Text>>(alloc, bytes),
-        _ => record_told(alloc, name, bytes),
-    }
-}
-
-/// The same of a record within others, or of a header.
-fn record_told(alloc: Global, name: &str, bytes: &[u8]) -> Result<String, Fail> {
-    match name {
         "Id" => told::<Id>(alloc, bytes),
         "Acl" => told::<Acl>(alloc, bytes),
         "Stat" => told::<Stat>(alloc, bytes),
         "RequestHeader" => told::<RequestHeader>(alloc, bytes),
         "ReplyHeader" => told::<ReplyHeader>(alloc, bytes),
         "MultiHeader" => told::<MultiHeader>(alloc, bytes),
-        _ => answer_told(alloc, name, bytes),
-    }
-}
-
-/// The same of a record that a server sends.
-fn answer_told(alloc: Global, name: &str, bytes: &[u8]) -> Result<String, Fail> {
-    match name {
         "CreateBody" => told::<CreateBody>(alloc, bytes),
         "DataBody" => told::<DataBody>(alloc, bytes),
         "AclBody" => told::<AclBody>(alloc, bytes),
@@ -94,13 +80,6 @@ fn ask_told(alloc: Global, name: &str, bytes: &[u8]) -> Result<String, Fail> {
         "PathAsk" => told::<PathAsk>(alloc, bytes),
         "AuthAsk" => told::<AuthAsk>(alloc, bytes),
         "SetWatchesAsk" => told::<SetWatchesAsk>(alloc, bytes),
-        _ => change_told(alloc, name, bytes),
-    }
-}
-
-/// The same of a request that changes a node, or of a check.
-fn change_told(alloc: Global, name: &str, bytes: &[u8]) -> Result<String, Fail> {
-    match name {
         "CreateAsk" => told::<CreateAsk>(alloc, bytes),
         "DeleteAsk" => told::<DeleteAsk>(alloc, bytes),
         "SetDataAsk" => told::<SetDataAsk>(alloc, bytes),

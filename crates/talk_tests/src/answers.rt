@@ -1,6 +1,6 @@
 //! Tests of which of the client's frames a reply answers, by `Talk::answered`.
-use crate::calls::called;
-use crate::frames::{parts, piece, usual};
+use crate::calls::told;
+use crate::frames::{keeps, usual};
 use std::alloc::Global;
 use std::process::Abort;
 use std::test::Fail;
@@ -39,36 +39,18 @@ const REFUSED: &str = "\
 step C 000000080000000500000000 = Some(9)
 step S 00000010fffffffe000000000000000500000000 = None";
 
-/// Whether the call of a row refuses its piece.
-fn is_refused(alloc: Global, talk: &mut Talk, asked: &str) -> Result<bool, Fail> {
-    let (call, asked) = asked.split_once(' ').ok_or("no call")?;
-    let (side, bytes) = piece(alloc, asked)?;
-    Ok(called(talk, call, side, &bytes).is_err())
-}
-
-/// The number after the call of a row is what the row says.
-fn row_answers(rt: &impl Abort, alloc: Global, talk: &mut Talk, row: &str) -> Result<(), Fail> {
-    let (asked, want) = parts(row)?;
-    let fault = is_refused(alloc, talk, asked)?;
-    let found = format!(in alloc; "{:?}", talk.answered())?;
-    assert!(rt; found.as_str() == want, "{row}: {found}, refused: {fault}");
-    Ok(())
-}
-
-/// The number after the call of each row is what the row says.
-fn answers(rt: &impl Abort, alloc: Global, talk: &mut Talk, rows: &str) -> Result<(), Fail> {
-    for row in rows.lines() {
-        row_answers(rt, alloc, talk, row)?;
-    }
-    Ok(())
+/// The number after the call of a row.
+fn answered(alloc: Global, talk: &mut Talk, asked: &str) -> Result<String, Fail> {
+    told(alloc, talk, asked)?;
+    Ok(format!(in alloc; "{:?}", talk.answered())?)
 }
 
 /// A new conversation has no number, and then those of the rows; and so has the next one, after `renew`.
 fn answers_anew(rt: &impl Abort, alloc: Global, talk: &mut Talk) -> Result<(), Fail> {
     for _ in 0..2 {
         assert!(rt; talk.answered().is_none());
-        answers(rt, alloc, talk, ANSWERED)?;
-        answers(rt, alloc, talk, REFUSED)?;
+        keeps(rt, ANSWERED, |row| answered(alloc, talk, row))?;
+        keeps(rt, REFUSED, |row| answered(alloc, talk, row))?;
         talk.renew();
     }
     Ok(())

@@ -1,5 +1,5 @@
 //! Tests of `Talk`, call by call: what each returns, and what the sides then hold.
-use crate::frames::{begins, parts, piece, usual};
+use crate::frames::{keeps, piece, usual};
 use std::alloc::Global;
 use std::process::Abort;
 use std::test::Fail;
@@ -15,12 +15,7 @@ fn took(talk: &mut Talk, side: Side, piece: &[u8]) -> Result<(usize, bool), Faul
 }
 
 /// How much of the piece is used, and whether a message came, by the call of this name.
-pub(crate) fn called(
-    talk: &mut Talk,
-    call: &str,
-    side: Side,
-    piece: &[u8],
-) -> Result<(usize, bool), Fault> {
+fn called(talk: &mut Talk, call: &str, side: Side, piece: &[u8]) -> Result<(usize, bool), Fault> {
     if call == "take" {
         return took(talk, side, piece);
     }
@@ -45,7 +40,7 @@ fn shown(talk: &Talk) -> (bool, bool) {
 
 /// What the call of a row returns, how much is then held of the client and of the server, what waits, and whether a
 /// message of either is shown.
-fn told(alloc: Global, talk: &mut Talk, asked: &str) -> Result<String, Fail> {
+pub(crate) fn told(alloc: Global, talk: &mut Talk, asked: &str) -> Result<String, Fail> {
     let (call, row) = asked.split_once(' ').ok_or("no call")?;
     let (side, bytes) = piece(alloc, row)?;
     let answer = called(talk, call, side, &bytes);
@@ -53,26 +48,10 @@ fn told(alloc: Global, talk: &mut Talk, asked: &str) -> Result<String, Fail> {
     Ok(format!(in alloc; "{answer:?} held {held:?} waiting {waiting} shown {shown:?}")?)
 }
 
-/// The call of a row returns what the row says.
-fn goes_on(rt: &impl Abort, alloc: Global, talk: &mut Talk, row: &str) -> Result<(), Fail> {
-    let (asked, want) = parts(row)?;
-    let told = told(alloc, talk, asked)?;
-    begins(rt, asked, &told, want);
-    Ok(())
-}
-
-/// Each call of the rows returns what its row says.
-fn keeps(rt: &impl Abort, alloc: Global, talk: &mut Talk, rows: &str) -> Result<(), Fail> {
-    for row in rows.lines() {
-        goes_on(rt, alloc, talk, row)?;
-    }
-    Ok(())
-}
-
 /// Each call of a new conversation returns what its row says.
 fn goes(rt: &impl Abort, alloc: Global, rows: &str) -> Result<(), Fail> {
     let mut talk = Talk::new(alloc, usual()?)?;
-    let kept = keeps(rt, alloc, &mut talk, rows);
+    let kept = keeps(rt, rows, |row| told(alloc, &mut talk, row));
     drop(talk);
     kept
 }

@@ -42,14 +42,20 @@ pub(crate) fn hex(alloc: Global, digits: &str) -> Result<Vec<u8>, Fail> {
     Ok(hex::decode(alloc, digits)?)
 }
 
-/// What a row asks, and what it says of the answer.
-pub(crate) fn parts(row: &str) -> Result<(&str, &str), Fail> {
-    Ok(row.split_once(" = ").ok_or("no row")?)
-}
-
-/// The answer to `asked` begins with `want`.
-pub(crate) fn begins(rt: &impl Abort, asked: &str, told: &str, want: &str) {
-    assert!(rt; told.starts_with(want), "{asked} = {told}");
+/// What `told` tells of each row, in its order, is what the row says of it, or begins so.
+pub(crate) fn keeps<F: FnMut(&str) -> Result<String, Fail>>(
+    rt: &impl Abort,
+    rows: &str,
+    mut told: F,
+) -> Result<(), Fail>
+    requires { F.IsAlwaysCallable told }
+{
+    for row in rows.lines() {
+        let (asked, want) = row.split_once(" = ").ok_or("no row")?;
+        let found = told(asked)?;
+        assert!(rt; found.as_str().starts_with(want), "{asked} = {found}");
+    }
+    Ok(())
 }
 
 /// The side of a row, `C` or `S`, and the bytes of the hexadecimal digits after it.

@@ -15,6 +15,9 @@ use zk_talk::{
     Taken, Talk, read_all,
 };
 
+/// A piece of a side.
+type Piece<'a> = (Side, &'a [u8]);
+
 fn talk(alloc: Global, limits: Limits) -> Result<Talk, AllocError> {
     Talk::new(alloc, limits).or_else(|_| Talk::new(alloc, limits))
 }
@@ -23,7 +26,7 @@ fn speaker(alloc: Global, limits: Limits) -> Result<Speaker, AllocError> {
     Speaker::new(alloc, limits).or_else(|_| Speaker::new(alloc, limits))
 }
 
-fn taken(talk: &mut Talk, side: Side, piece: &[u8]) -> Result<Taken, Fault> {
+fn taken(talk: &mut Talk, (side, piece): Piece<'_>) -> Result<Taken, Fault> {
     talk.take(side, piece).or_else(|fault| match fault.reason {
         Reason::NoMemory => talk.take(side, piece),
         _ => Err(fault),
@@ -80,7 +83,7 @@ fn last_line(alloc: Global, ending: &Ending) -> Result<Vec<u8>, AllocError> {
     ending_line(alloc, ending).or_else(|_| ending_line(alloc, ending))
 }
 
-fn all(alloc: Global, limits: Limits, pieces: &[(Side, &[u8])]) -> Result<Ended, AllocError> {
+fn all(alloc: Global, limits: Limits, pieces: &[Piece<'_>]) -> Result<Ended, AllocError> {
     read_all(alloc, limits, pieces).or_else(|_| read_all(alloc, limits, pieces))
 }
 
@@ -111,10 +114,20 @@ fn line_again(alloc: Global, shown: &[u8]) -> Result<Vec<u8>, AllocError> {
 /// A conversation that is read by `take` and by `step`, and said again by its messages and by its payloads.
 #[derive(Drop)]
 struct Reading {
+    alloc: Global,
     taking: Talk,
     stepping: Talk,
     speaker: Speaker,
     payloads: Speaker,
+    told: Told,
+}
+
+/// The bytes that were said by messages, and by payloads, and the lines of the messages.
+#[derive(Drop)]
+struct Told {
+    bytes: Vec<u8>,
+    payloads: Vec<u8>,
+    lines: Vec<u8>,
 }
 
 /// Both values, if neither was refused.
@@ -129,20 +142,19 @@ fn begun(alloc: Global, limits: Limits) -> Result<Reading, AllocError> {
     let talks = both(talk(alloc, limits), talk(alloc, limits));
     let speakers = both(speaker(alloc, limits), speaker(alloc, limits));
     let ((taking, stepping), (speaker, payloads)) = both(talks, speakers)?;
+    let told = Told {
+        bytes: Vec::new(alloc),
+        payloads: Vec::new(alloc),
+        lines: Vec::new(alloc),
+    };
     Ok(Reading {
+        alloc,
         taking,
         stepping,
         speaker,
         payloads,
+        told,
     })
-}
-
-/// The bytes that were said by messages, and by payloads, and the lines of the messages.
-#[derive(Drop)]
-struct Told {
-    bytes: Vec<u8>,
-    payloads: Vec<u8>,
-    lines: Vec<u8>,
 }
 
 /// The message's line, once it is said.
@@ -183,7 +195,7 @@ fn shows(rt: &impl Abort, alloc: Global, shown: &MessageRef<'_>, line: &[u8]) ->
 }
 
 /// How much of the piece a step uses, and whether a frame is whole.
-fn steps(talk: &mut Talk, side: Side, piece: &[u8]) -> Option<(usize, bool)> {
+fn steps(talk: &mut Talk, (side, piece): Piece<'_>) -> Option<(usize, bool)> {
     let stepped = talk.step(side, piece).ok()?;
     Some((stepped.used, stepped.whole))
 }
@@ -191,16 +203,14 @@ fn steps(talk: &mut Talk, side: Side, piece: &[u8]) -> Option<(usize, bool)> {
 /// A step uses as much as was taken, and its frame shows the message of this line; with no line it made no frame whole.
 fn steps_too(
     rt: &impl Abort,
-    alloc: Global,
-    talk: &mut Talk,
-    side: Side,
-    piece: &[u8],
-    took: (usize, &[u8]),
+    reading: &mut Reading,
+    piece: Piece<'_>,
+    (used, line): (usize, &[u8]),
 ) -> Result<(), Fail> {
-    let (used, line) = took;
-    assert_eq!(rt; steps(talk, side, piece), Some((used, line.len() > 0)));
-    match talk.view(side) {
-        Some(message) => shows(rt, alloc, &message, line),
+    let stepped = steps(&mut reading.stepping, piece);
+    assert_eq!(rt; stepped, Some((used, line.len() > 0)));
+    match reading.stepping.view(piece.0) {
+        Some(message) => shows(rt, reading.alloc, &message, line),
         None => {
             assert_eq!(rt; line.len(), 0);
             Ok(())
@@ -208,109 +218,71 @@ fn steps_too(
     }
 }
 
-/// A step is refused for the same fault.
-fn refused_too(rt: &impl Abort, talk: &mut Talk, side: Side, piece: &[u8], fault: Fault) {
-    assert_eq!(rt; talk.step(side, piece).err(), Some(fault));
-}
-
 /// Says the payload that the step kept, if it did.
-fn said_too(talk: &Talk, side: Side, speaker: &mut Speaker, out: &mut Vec<u8>) -> Result<(), Fail> {
-    match talk.payload(side) {
-        Some(payload) => Ok(said_payload(speaker, side, payload, out)?),
+fn said_too(reading: &mut Reading, side: Side) -> Result<(), Fail> {
+    let out = &mut reading.told.payloads;
+    match reading.stepping.payload(side) {
+        Some(payload) => Ok(said_payload(&mut reading.payloads, side, payload, out)?),
         None => Ok(()),
     }
 }
 
-/// Says what was taken, steps through it, and returns its line, and how much was used.
+/// Says what was taken of the piece, steps through it, and returns how much was used.
 fn heard(
     rt: &impl Abort,
-    alloc: Global,
     reading: &mut Reading,
-    told: &mut Told,
-    side: Side,
-    piece: &[u8],
+    piece: Piece<'_>,
     taken: Taken,
 ) -> Result<usize, Fail> {
     let used = taken.used;
-    let line = taken_line(alloc, &mut reading.speaker, taken.message, &mut told.bytes)?;
-    steps_too(rt, alloc, &mut reading.stepping, side, piece, (used, &line))?;
-    let out = &mut told.payloads;
-    said_too(&reading.stepping, side, &mut reading.payloads, out)?;
+    let out = &mut reading.told.bytes;
+    let line = taken_line(reading.alloc, &mut reading.speaker, taken.message, out)?;
+    steps_too(rt, reading, piece, (used, &line))?;
+    said_too(reading, piece.0)?;
     if line.len() > 0 {
-        append(&mut told.lines, &line)?;
-        append(&mut told.lines, b"\n")?;
+        append(&mut reading.told.lines, &line)?;
+        append(&mut reading.told.lines, b"\n")?;
     }
     Ok(used)
 }
 
-/// How much of a piece is read up to the end of a frame; all of it if it is refused.
-fn hear_next(
-    rt: &impl Abort,
-    alloc: Global,
-    reading: &mut Reading,
-    told: &mut Told,
-    side: Side,
-    piece: &[u8],
-) -> Result<usize, Fail> {
-    match taken(&mut reading.taking, side, piece) {
-        Ok(taken) => heard(rt, alloc, reading, told, side, piece, taken),
+/// How much of a piece is read up to the end of a frame; all of it if it is refused, which a step is for the same fault.
+fn hear_next(rt: &impl Abort, reading: &mut Reading, piece: Piece<'_>) -> Result<usize, Fail> {
+    match taken(&mut reading.taking, piece) {
+        Ok(taken) => heard(rt, reading, piece, taken),
         Err(fault) => {
-            refused_too(rt, &mut reading.stepping, side, piece, fault);
-            Ok(piece.len())
+            let (side, bytes) = piece;
+            assert_eq!(rt; reading.stepping.step(side, bytes).err(), Some(fault));
+            Ok(bytes.len())
         }
     }
 }
 
-fn hear(
-    rt: &impl Abort,
-    alloc: Global,
-    reading: &mut Reading,
-    told: &mut Told,
-    side: Side,
-    piece: &[u8],
-) -> Result<(), Fail> {
+fn hear(rt: &impl Abort, reading: &mut Reading, (side, piece): Piece<'_>) -> Result<(), Fail> {
     let mut rest = piece;
     for _ in 0..piece.len() {
-        let used = hear_next(rt, alloc, reading, told, side, rest)?;
+        let used = hear_next(rt, reading, (side, rest))?;
         rest = rest.get(used..).unwrap_or(&[]);
     }
     Ok(())
 }
 
-fn hear_all(
-    rt: &impl Abort,
-    alloc: Global,
-    reading: &mut Reading,
-    told: &mut Told,
-    pieces: &[(Side, &[u8])],
-) -> Result<(), Fail> {
-    for (side, piece) in pieces {
-        hear(rt, alloc, reading, told, *side, piece)?;
+fn hear_all(rt: &impl Abort, reading: &mut Reading, pieces: &[Piece<'_>]) -> Result<(), Fail> {
+    for piece in pieces {
+        hear(rt, reading, *piece)?;
     }
     let ending = reading.taking.finish();
     assert_eq!(rt; reading.stepping.finish(), ending);
-    let last = last_line(alloc, &ending)?;
-    Ok(append(&mut told.lines, &last)?)
+    let last = last_line(reading.alloc, &ending)?;
+    Ok(append(&mut reading.told.lines, &last)?)
 }
 
-/// The bytes that were said, and the lines of the messages, of pieces that are taken one by one.
-fn asked(
-    rt: &impl Abort,
-    alloc: Global,
-    limits: Limits,
-    pieces: &[(Side, &[u8])],
-) -> Result<Told, Fail> {
-    let mut told = Told {
-        bytes: Vec::new(alloc),
-        payloads: Vec::new(alloc),
-        lines: Vec::new(alloc),
-    };
-    let mut reading = begun(alloc, limits)?;
-    let heard = hear_all(rt, alloc, &mut reading, &mut told, pieces);
-    drop(reading);
-    heard?;
-    assert_eq!(rt; told.payloads, told.bytes);
-    Ok(told)
+/// The pieces are taken one by one, and their messages said.
+fn asked(rt: &impl Abort, alloc: Global, pieces: &[Piece<'_>]) -> Result<Reading, Fail> {
+    let mut reading = begun(alloc, newer()?)?;
+    hear_all(rt, &mut reading, pieces)?;
+    assert_eq!(rt; reading.told.payloads, reading.told.bytes);
+    Ok(reading)
 }
 
 /// The lines of what was read at once.
@@ -324,27 +296,26 @@ fn lines_of(alloc: Global, ended: &Ended) -> Result<Vec<u8>, AllocError> {
     Ok(lines)
 }
 
-fn listed(alloc: Global, limits: Limits, pieces: &[(Side, &[u8])]) -> Result<Vec<u8>, AllocError> {
-    let ended = all(alloc, limits, pieces)?;
+fn listed(alloc: Global, pieces: &[Piece<'_>]) -> Result<Vec<u8>, Fail> {
+    let ended = all(alloc, newer()?, pieces)?;
     let lines = lines_of(alloc, &ended);
     drop(ended);
-    lines
+    Ok(lines?)
 }
 
 /// Makes all calls for the pieces, and then those of a conversation once more.
-fn ask(rt: &impl Abort, alloc: Global, pieces: &[(Side, &[u8])]) -> Result<(), Fail> {
-    let limits = newer()?;
-    let some = asked(rt, alloc, limits, pieces)?;
-    let listed = listed(alloc, limits, pieces)?;
-    assert_eq!(rt; listed, some.lines);
-    let others = asked(rt, alloc, limits, pieces)?;
-    assert_eq!(rt; others.lines, some.lines);
-    assert_eq!(rt; others.bytes, some.bytes);
+fn ask(rt: &impl Abort, alloc: Global, pieces: &[Piece<'_>]) -> Result<(), Fail> {
+    let some = asked(rt, alloc, pieces)?;
+    let listed = listed(alloc, pieces)?;
+    assert_eq!(rt; listed, some.told.lines);
+    let others = asked(rt, alloc, pieces)?;
+    assert_eq!(rt; others.told.lines, some.told.lines);
+    assert_eq!(rt; others.told.bytes, some.told.bytes);
     Ok(())
 }
 
 /// The first piece of what a recording has left, and what is then left.
-fn first_piece(recording: &[u8]) -> Option<((Side, &[u8]), &[u8])> {
+fn first_piece(recording: &[u8]) -> Option<(Piece<'_>, &[u8])> {
     let (head, rest) = recording.split_at_checked(5)?;
     let side = match head[0] {
         b'C' => Side::Client,
@@ -356,10 +327,7 @@ fn first_piece(recording: &[u8]) -> Option<((Side, &[u8]), &[u8])> {
     Some(((side, piece), rest))
 }
 
-fn put_piece<'a>(
-    pieces: &mut Vec<(Side, &'a [u8])>,
-    piece: (Side, &'a [u8]),
-) -> Result<(), AllocError> {
+fn put_piece<'a>(pieces: &mut Vec<Piece<'a>>, piece: Piece<'a>) -> Result<(), AllocError> {
     match pieces.push(piece) {
         Ok(()) => Ok(()),
         Err(_) => Ok(pieces.push(piece)?),
@@ -367,7 +335,7 @@ fn put_piece<'a>(
 }
 
 /// The whole pieces of a recording, up to what is none.
-fn pieces_of<'a>(alloc: Global, recording: &'a [u8]) -> Result<Vec<(Side, &'a [u8])>, AllocError> {
+fn pieces_of<'a>(alloc: Global, recording: &'a [u8]) -> Result<Vec<Piece<'a>>, AllocError> {
     let mut pieces = Vec::new(alloc);
     let mut rest = recording.get(4..).unwrap_or(&[]);
     for _ in 0..recording.len() {

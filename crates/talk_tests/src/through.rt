@@ -1,5 +1,5 @@
 //! Tests of `Through`, call by call: what each step returns, what then waits and is left out, and how it ends.
-use crate::frames::{begins, parts, piece, usual};
+use crate::frames::{keeps, piece, usual};
 use std::alloc::Global;
 use std::process::Abort;
 use std::test::Fail;
@@ -27,20 +27,9 @@ const CONNECTED: &str = "\
 C 0000002d000000000000000000000000000075300000000000000000000000100000000000000000000000000000000000 = Ok(Passed { used: 49, went: Message }) waiting 0 out (false, false) ends Whole { unanswered: 1 }
 S 000000250000000000007530010000000000000100000010000102030405060708090a0b0c0d0e0f00 = Ok(Passed { used: 41, went: Message }) waiting 0 out (false, false) ends Whole { unanswered: 0 }";
 
-/// The step of a row returns what the row says.
-fn goes_on(rt: &impl Abort, alloc: Global, through: &mut Through, row: &str) -> Result<(), Fail> {
-    let (asked, want) = parts(row)?;
-    let told = told(alloc, through, asked)?;
-    begins(rt, asked, &told, want);
-    Ok(())
-}
-
 /// Each step of the rows returns what its row says.
-fn keeps(rt: &impl Abort, alloc: Global, through: &mut Through, rows: &str) -> Result<(), Fail> {
-    for row in rows.lines() {
-        goes_on(rt, alloc, through, row)?;
-    }
-    Ok(())
+fn goes_on(rt: &impl Abort, alloc: Global, through: &mut Through, rows: &str) -> Result<(), Fail> {
+    keeps(rt, rows, |row| told(alloc, through, row))
 }
 
 /// No message of either side is shown.
@@ -49,15 +38,10 @@ fn shows_none(rt: &impl Abort, through: &Through) {
 }
 
 /// Each step of the rows returns what its row says, after a connect pair; and so it does again, after `renew`.
-fn keeps_anew(
-    rt: &impl Abort,
-    alloc: Global,
-    through: &mut Through,
-    rows: &str,
-) -> Result<(), Fail> {
+fn twice(rt: &impl Abort, alloc: Global, through: &mut Through, rows: &str) -> Result<(), Fail> {
     for _ in 0..2 {
-        keeps(rt, alloc, through, CONNECTED)?;
-        keeps(rt, alloc, through, rows)?;
+        goes_on(rt, alloc, through, CONNECTED)?;
+        goes_on(rt, alloc, through, rows)?;
         through.renew();
         shows_none(rt, through);
     }
@@ -68,7 +52,7 @@ fn keeps_anew(
 fn goes(rt: &impl Abort, alloc: Global, waiting: u32, rows: &str) -> Result<(), Fail> {
     let limits = Limits::new(4_194_304, 4_194_304, waiting).ok_or("no limits")?;
     let mut through = Through::new(alloc, limits)?;
-    let kept = keeps_anew(rt, alloc, &mut through, rows);
+    let kept = twice(rt, alloc, &mut through, rows);
     drop(through);
     kept
 }
@@ -228,33 +212,12 @@ fn answered(alloc: Global, through: &mut Through, asked: &str) -> Result<String,
     Ok(format!(in alloc; "{:?}", through.answered())?)
 }
 
-/// The step of a row answers the frame that the row says.
-fn row_answers(
-    rt: &impl Abort,
-    alloc: Global,
-    through: &mut Through,
-    row: &str,
-) -> Result<(), Fail> {
-    let (asked, want) = parts(row)?;
-    let found = answered(alloc, through, asked)?;
-    assert!(rt; found.as_str() == want, "{asked} = {found}");
-    Ok(())
-}
-
-/// Each step of `ANSWERS` answers the frame that its row says.
-fn answers(rt: &impl Abort, alloc: Global, through: &mut Through) -> Result<(), Fail> {
-    for row in ANSWERS.lines() {
-        row_answers(rt, alloc, through, row)?;
-    }
-    Ok(())
-}
-
 /// A new passage has no number, and then those of `ANSWERS`; and so has the next one, after `renew`.
 fn answers_anew(rt: &impl Abort, alloc: Global, through: &mut Through) -> Result<(), Fail> {
     for _ in 0..2 {
         assert!(rt; through.answered().is_none());
-        keeps(rt, alloc, through, CONNECTED)?;
-        answers(rt, alloc, through)?;
+        goes_on(rt, alloc, through, CONNECTED)?;
+        keeps(rt, ANSWERS, |row| answered(alloc, through, row))?;
         through.renew();
     }
     Ok(())
@@ -303,23 +266,18 @@ C 0000000f0000000800000003000000022f6101 = Ok(Passed { used: 19, went: Message }
 S 00000010000000060000000000000005ffffff9b = Err(Fault { side: Server, frame: 2, offset: 64, place: 0, reason: XidOrder { expected: 8, got: 6 } }) waiting 1";
 
 /// Each step of a passage that is seen late returns what its row says; begun anew, its first message is the connect request.
-fn keeps_late(
-    rt: &impl Abort,
-    alloc: Global,
-    through: &mut Through,
-    rows: &str,
-) -> Result<(), Fail> {
+fn late(rt: &impl Abort, alloc: Global, through: &mut Through, rows: &str) -> Result<(), Fail> {
     assert!(rt; through.frames(Side::Client) == 1 && through.frames(Side::Server) == 1);
-    keeps(rt, alloc, through, rows)?;
+    goes_on(rt, alloc, through, rows)?;
     through.renew();
-    keeps(rt, alloc, through, CONNECTED)?;
-    keeps(rt, alloc, through, UNASKED)
+    goes_on(rt, alloc, through, CONNECTED)?;
+    goes_on(rt, alloc, through, UNASKED)
 }
 
 /// Each step of a new passage that is seen late, with the usual limits, returns what its row says.
 fn joins(rt: &impl Abort, alloc: Global, rows: &str) -> Result<(), Fail> {
     let mut through = Through::join(alloc, usual()?)?;
-    let kept = keeps_late(rt, alloc, &mut through, rows);
+    let kept = late(rt, alloc, &mut through, rows);
     drop(through);
     kept
 }
