@@ -246,7 +246,7 @@ impl Progress {
         ensures { IsLastingSummary self.now.reader refused result }
     {
         match refused {
-            Some(fault) => Some(Summary::Ended(Ending::Refused(fault))),
+            Some(_) => ended_by(refused),
             None => match self.reader.damage() {
                 Some(damage) => Some(Summary::Broken(damage)),
                 None => None,
