@@ -1,5 +1,5 @@
 //! `Feed`: a recording of many turns, or their lines, as a source.
-ghost use Rattle.std.specs.Prelude.{◌≡◌, ◌≤◌, None, false, IfOk, length};
+ghost use Rattle.std.specs.Prelude.{◌≡◌, ◌≤◌, None, false, length};
 
 use crate::place::{Place, number_lines};
 use crate::random::Random;
@@ -17,7 +17,7 @@ const HEAD: usize = 5;
 
 /// What is read piece by piece.
 pub(crate) trait Puts {
-    /// Puts the next bytes into `room`, which isn't empty, and returns how many; 0 at the end, or where too little room is.
+    /// Puts the next bytes into `room`, which isn't empty, and returns how many; 0 at the end, or if what comes next doesn't fit.
     fn put(&mut self, room: &mut [u8]) -> usize
         ensures { result ≤ length room.new };
 }

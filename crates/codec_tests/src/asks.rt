@@ -1,5 +1,4 @@
 //! Tests of client payloads: a table of payloads, each read, judged in each way, and written again.
-ghost use Rattle.std.specs.Prelude.{[], refl};
 ghost use Rattle.zk_asks.specs.Frames.{MaySend};
 
 use crate::digits::hex;
@@ -8,7 +7,7 @@ use std::alloc::Global;
 use std::process::Abort;
 use std::test::Fail;
 use zk_asks::{
-    Asked, ClientFrame, allowed, ask_laws, asked_laws, first_laws, form_laws, judge_ask,
+    Alone, Asked, ClientFrame, allowed, ask_laws, asked_laws, first_laws, form_laws, judge_ask,
     opening_laws, read_ask, read_first, scan_ask, scan_first, write_client,
 };
 use zk_jute::{ItemFault, Reason, Undecided};
@@ -181,38 +180,13 @@ fn outlines(rt: HostRuntime) -> Result<(), Fail> {
     Ok(())
 }
 
-/// A request for an operation.
-struct Wanted {
-    op: Op,
-}
-
-impl Asked for Wanted {
-    ghost operation = { λ x. x.op };
-
-    ghost part_ops = { λ x. [] };
-
-    fn op(&self) -> Op {
-        self.op
-    }
-
-    fn parts(&self) -> u32 {
-        0
-    }
-
-    fn part(&self, _j: u32) -> Option<PartOp> {
-        None
-    }
-
-    ghost lawful = { λ x other. refl };
-}
-
 fn part_of<T: Asked>(asked: &T) -> (Op, u32, Option<PartOp>) {
     (asked.op(), asked.parts(), asked.part(0))
 }
 
 #[test]
 fn what_was_asked(rt: HostRuntime) {
-    assert!(rt; part_of(&Wanted { op: Op::Sync }) == (Op::Sync, 0, None));
+    assert!(rt; part_of(&Alone { op: Op::Sync }) == (Op::Sync, 0, None));
 }
 
 /// What is kept of a scanned request: its xid, its operation, and its parts.
@@ -240,7 +214,7 @@ fn what_was_scanned(rt: HostRuntime) {
 
 #[test]
 fn laws(_rt: HostRuntime) {
-    asked_laws::<Wanted>();
+    asked_laws::<Alone>();
     first_laws();
     ask_laws();
     form_laws();
