@@ -1,7 +1,5 @@
 //! `Record`: a value that is its fields in order, judged, borrowed and copied as nested pairs of these.
-ghost use Rattle.std.specs.Prelude.{◌≡◌, ◌≤◌, length, IfOk};
-ghost use Rattle.zk_jute.specs.Reading.{items_at};
-ghost use Rattle.zk_jute.specs.Verdict.{Judges};
+ghost use Rattle.std.specs.Prelude.{◌≡◌};
 ghost use Rattle.zk_jute.specs.Wired.{Wired};
 
 use crate::ends::Ends;
@@ -22,16 +20,6 @@ pub trait Record: Sized + Drop {
     fn of(row: Self::Row) -> Self
         ensures { Self.record.items result ≡ Self.Row.wired.items row };
 
-    /// The step of `end`: the fields, one after the other. A record whose size is known may be quicker.
-    #[inline(always)]
-    fn find_fields<V: Verdict>(payload: &[u8], place: usize) -> Result<usize, V>
-        requires { place ≤ length payload.now }
-        ensures exact { Judges V.tells result (items_at Self.record.layout payload.now place) }
-        ensures within { IfOk result (λ end. end ≤ length payload.now) }
-    {
-        Self::Row::find(payload, place)
-    }
-
     ghost in_order: { Self.record.layout ≡ Self.Row.wired.layout };
 }
 
@@ -45,7 +33,7 @@ impl<R: Record> Ends for R {
 
     #[inline(always)]
     fn find<V: Verdict>(payload: &[u8], place: usize) -> Result<usize, V> {
-        R::find_fields(payload, place)
+        R::Row::find(payload, place)
     }
 }
 

@@ -1,11 +1,12 @@
 //! The record `Stat` of zookeeper.jute: what is known of a node.
 ghost use Rattle.std.specs.Prelude.{◌≡◌, refl};
-ghost use Rattle.zk_records.specs.Ordered.{stat_in_order};
+ghost use Rattle.zk_records.specs.Ordered.{stat_row};
 ghost use Rattle.zk_records.specs.Records.{stat};
 
 use crate::fields::pairs;
 use crate::fields_of;
-use zk_jute::{Ends, Output, Record, Spell, Verdict, Written};
+use std::alloc::{AllocError, Global};
+use zk_jute::{Ends, Output, Spell, Verdict, View, Wire};
 
 /// What is known of a node: `Stat`, 68 bytes.
 #[derive(Clone, Copy, Debug)]
@@ -42,57 +43,70 @@ impl Spell for Stat {
     }
 }
 
+/// The fields, as pairs of pairs.
+type Row = (
+    (i64, (i64, (i64, i64))),
+    ((i32, (i32, (i32, i64))), (i32, (i32, i64))),
+);
+
+/// The `Stat` that has these fields.
+#[inline(always)]
+fn stat_of(row: Row) -> Stat
+    ensures { stat.items result ≡ stat_row.items row }
+{
+    let (
+        (czxid, (mzxid, (ctime, mtime))),
+        ((version, (cversion, (aversion, ephemeral_owner))), (data_length, (num_children, pzxid))),
+    ) = row;
+    Stat {
+        czxid,
+        mzxid,
+        ctime,
+        mtime,
+        version,
+        cversion,
+        aversion,
+        ephemeral_owner,
+        data_length,
+        num_children,
+        pzxid,
+    }
+}
+
 /// The bytes of a `Stat`.
 const SIZE: usize = 68;
 
-impl Record for Stat {
-    /// Pairs of pairs, as a bound on ten pairs, each in the other, takes too long to check.
-    type Row = (
-        (i64, (i64, (i64, i64))),
-        ((i32, (i32, (i32, i64))), (i32, (i32, i64))),
-    );
-
-    ghost record = { stat };
-
-    fn of(row: Self::Row) -> Self {
-        let (
-            (czxid, (mzxid, (ctime, mtime))),
-            (
-                (version, (cversion, (aversion, ephemeral_owner))),
-                (data_length, (num_children, pzxid)),
-            ),
-        ) = row;
-        Stat {
-            czxid,
-            mzxid,
-            ctime,
-            mtime,
-            version,
-            cversion,
-            aversion,
-            ephemeral_owner,
-            data_length,
-            num_children,
-            pzxid,
-        }
-    }
+// No `Record`: bounds that lead through its many fields too can't be resolved for a record that holds a `Stat`.
+impl Ends for Stat {
+    ghost wired = { stat };
 
     /// Any 68 bytes are a `Stat`: one look at how many are left replaces reading the fields, unless the place of a fault is
     /// asked for.
     #[inline(always)]
-    fn find_fields<V: Verdict>(payload: &[u8], place: usize) -> Result<usize, V> {
+    fn find<V: Verdict>(payload: &[u8], place: usize) -> Result<usize, V> {
         if payload.len() - place >= SIZE {
             return Ok(place + SIZE);
         }
         match V::silent() {
             Some(verdict) => Err(verdict),
-            None => <Self::Row as Ends>::find(payload, place),
+            None => Row::find(payload, place),
         }
     }
-
-    ghost in_order = { stat_in_order };
 }
 
-impl Written for Stat {
-    ghost same = { refl };
+impl<'a> View<'a> for Stat {
+    #[inline(always)]
+    fn view(src: &'a [u8], place: usize) -> (Self, usize) {
+        let (row, end) = Row::view(src, place);
+        (stat_of(row), end)
+    }
+}
+
+impl Wire for Stat {
+    ghost written = { refl };
+
+    fn copied(alloc: Global, src: &[u8], place: usize) -> Result<(Self, usize), AllocError> {
+        let (row, end) = Row::copied(alloc, src, place)?;
+        Ok((stat_of(row), end))
+    }
 }
