@@ -98,14 +98,19 @@ module _ (t : ThroughState) (h : History) (c k : Came) (M : List Message) (r : R
       let front : IsGood t.talk.limits (told k) = (r.stands.conversation, [], [], its_good t h c k M r) in
       is.bad (good_front t.talk.limits (is.before ++ (f.side, is.byte) ∷ []) u (subst (IsGood t.talk.limits) (e ∙ sym (append_assoc is.before ((f.side, is.byte) ∷ []) u)) front))
 
-  pub server_never : IsFaultOf t.talk.limits (told k ++ on Server (frame q)) f → ⊥
-  server_never is = go (split (told k) (on Server (frame q)) is.before (f.side, is.byte) is.after is.stands)
+  -- the fault is in the frame
+  within_frame : (side : Side) (is : IsFaultOf t.talk.limits (told k ++ on side (frame q)) f) → ((x y : List ℕ) → is.before ≡ told k ++ on side x → f.side ≡ side → frame q ≡ x ++ is.byte ∷ y → ⊥) → ⊥
+  within_frame side is never = go (split (told k) (on side (frame q)) is.before (f.side, is.byte) is.after is.stands)
     where
-      go : (((u : History) × (is.before ≡ told k ++ u) × (on Server (frame q) ≡ u ++ (f.side, is.byte) ∷ is.after)) ⊎ ((u : History) × (told k ≡ is.before ++ (f.side, is.byte) ∷ u))) → ⊥
-      go (inr a) = not_before Server is a.0 a.1
+      go : (((u : History) × (is.before ≡ told k ++ u) × (on side (frame q) ≡ u ++ (f.side, is.byte) ∷ is.after)) ⊎ ((u : History) × (told k ≡ is.before ++ (f.side, is.byte) ∷ u))) → ⊥
+      go (inr a) = not_before side is a.0 a.1
       go (inl a) =
-          let pl = place_on Server (frame q) a.0 (f.side, is.byte) is.after a.2 in
-          server_cause (subst (λ (s : Side). IsCause t.talk.limits is.conversation s (length (side_bytes s is.before)) (rest_on s is.client_rest is.server_rest) is.byte is.place f.reason) pl.3 is.cause) full
+          let pl = place_on side (frame q) a.0 (f.side, is.byte) is.after a.2 in
+          never pl.0 pl.1 (a.1 ∙ ap (λ (z : History). told k ++ z) pl.2) pl.3 pl.4
+
+  pub server_never : IsFaultOf t.talk.limits (told k ++ on Server (frame q)) f → ⊥
+  server_never is =
+      within_frame Server is (λ x y at side parts. server_cause (subst (λ (s : Side). IsCause t.talk.limits is.conversation s (length (side_bytes s is.before)) (rest_on s is.client_rest is.server_rest) is.byte is.place f.reason) side is.cause) full)
 
   module _ (fits : length q ≤ t.talk.limits.client) (none : IsNoRequest t.talk.limits.profile c Client q) (is : IsFaultOf t.talk.limits (told k ++ on Client (frame q)) f) where
     in_it : (x y : List ℕ) → is.before ≡ told k ++ on Client x → f.side ≡ Client → frame q ≡ x ++ is.byte ∷ y → ⊥
@@ -125,10 +130,4 @@ module _ (t : ThroughState) (h : History) (c k : Came) (M : List Message) (r : R
         none (λ empty. omega (arith, begun, client_counts t h c k M r, ap length empty)) cause.size (subst (λ (z : List ℕ). IsRequestOf limits.profile z cause.size) it cause.is)
 
     pub client_never : ⊥
-    client_never = go (split (told k) (on Client (frame q)) is.before (f.side, is.byte) is.after is.stands)
-      where
-        go : (((u : History) × (is.before ≡ told k ++ u) × (on Client (frame q) ≡ u ++ (f.side, is.byte) ∷ is.after)) ⊎ ((u : History) × (told k ≡ is.before ++ (f.side, is.byte) ∷ u))) → ⊥
-        go (inr a) = not_before Client is a.0 a.1
-        go (inl a) =
-            let pl = place_on Client (frame q) a.0 (f.side, is.byte) is.after a.2 in
-            in_it pl.0 pl.1 (a.1 ∙ ap (λ (z : History). told k ++ z) pl.2) pl.3 pl.4
+    client_never = within_frame Client is in_it

@@ -1,6 +1,6 @@
 -- The talk takes a request of the profile that there is room for.
 use Rattle.std.proofs.Common.{◌≡◌, ◌≢◌, ℕ, zero, suc, ◌+◌, ◌<◌, ◌≤◌, ◌^◌, ◌⊎◌, inl, inr, List, [], ◌∷◌, ◌++◌, length, take, refl, sym, ap, ◌∙◌, subst, arith, length-append}
-use Rattle.std.proofs.lemmas.List.{length_push, length-take-le, append-nil, nil_from_length, length-map}
+use Rattle.std.proofs.lemmas.List.{length-take-le, append-nil, nil_from_length, length-map}
 use Rattle.zk_records.specs.declared.profile.Profile.{Profile}
 use Rattle.zk_asks.specs.Held.{ClientFrame}
 use Rattle.zk_asks.specs.declared.frame.ClientFrameOf.TheVariants.{Connect, Ask}
@@ -12,18 +12,17 @@ use Rattle.zk_talk.specs.declared.limits.Limits.{Limits}
 use Rattle.zk_talk.specs.Conversation.{Conversation, ClientMay, with_client, load, weight}
 use Rattle.zk_talk.specs.Good.{Good, IsOrder, client_payloads, server_payloads}
 use Rattle.zk_talk.specs.Held.{Message}
+use Rattle.zk_talk.specs.declared.message.MessageOf.TheVariants.{Client as FromClient}
 use Rattle.zk_talk.specs.History.{History, side_bytes, on}
 use Rattle.zk_talk.specs.Payloads.{client_payload, server_payload}
 use Rattle.zk_talk.proofs.Histories.{side_bytes-append, no_bytes}
-use Rattle.zk_talk.proofs.Lists.{by_last, IsPushed}
 use Rattle.zk_talk.proofs.Loads.{load_ask}
-use Rattle.zk_talk.proofs.GoodSteps.{good_client}
-use Rattle.zk_talk.proofs.Small.{AreSmall, small_limits}
-use Rattle.zk_talk.proofs.Standing.{runs_client, frame_front, bytes-on, other-on}
+use Rattle.zk_talk.proofs.Spoken.{step}
+use Rattle.zk_talk.proofs.Standing.{other-on}
 use Rattle.zk_through.specs.Came.{Came, payloads, told}
 use Rattle.zk_through.specs.LeftOut.{KeptAfter}
 use Rattle.zk_through.specs.Runs.{ThroughState, Runs, IsRequestOf}
-use Rattle.zk_through.proofs.Frames.{payloads-other, no_payloads, pushed, of_client, of_server, past_client, some_server}
+use Rattle.zk_through.proofs.Frames.{payloads-other, no_payloads, of_client, of_server, past_client, some_server}
 use Rattle.zk_through.proofs.Seen.{seen_client, client_counts, counts_none}
 use Rattle.zk_talk.proofs.Replays.{own_bytes}
 
@@ -84,17 +83,11 @@ pub some_weight : (f : ClientFrame) → IsLater f → 0 < weight f
 some_weight (Connect hello read_only) later = absurd later
 some_weight (Ask xid ask) later = omega arith
 
-module _ (limits : Limits) (small : AreSmall limits) (h : History) (v : Conversation) (M : List Message) (g : Good limits h v [] []) (o : IsOrder limits h v M) (p : List ℕ) (fits : length p ≤ limits.client) (size : length (side_bytes Client h) + length (frame p) < 2 ^ 62) where
+module _ (limits : Limits) (h : History) (v : Conversation) (M : List Message) (g : Good limits h v [] []) (o : IsOrder limits h v M) (p : List ℕ) (fits : length p ≤ limits.client) (size : length (side_bytes Client h) + length (frame p) < 2 ^ 62) where
   good_with : (f : ClientFrame) → client_payload f ≡ p → ClientMay limits.profile v.client f → load (v.client ++ f ∷ []) v.server ≤ limits.waiting → Good limits (h ++ on Client (frame p)) (with_client v f) [] []
-  good_with f is may loads = go (by_last (frame p))
-    where
-      go : ((frame p ≡ []) ⊎ IsPushed (frame p)) → Good limits (h ++ on Client (frame p)) (with_client v f) [] []
-      go (inl none) = absurd (omega (arith, ap length none, length-frame p))
-      go (inr q) =
-          let r = runs_client limits small v M q.init h [] [] (record { good = g; order = o }) (frame_front limits.client q.init [] p q.last fits (sym q.is)) (omega (arith, size, ap length q.is, length_push q.init q.last)) in
-          let whole : q.init ++ q.last ∷ [] ≡ frame (client_payload f) = sym q.is ∙ ap frame (sym is) in
-          let x = good_client limits small (h ++ on Client q.init) q.last v q.init [] r.good f whole (omega (arith, fits, ap length is)) may loads (omega (arith, bytes-on Client q.init h, size, ap length q.is, length_push q.init q.last)) in
-          subst (λ z. Good limits z (with_client v f) [] []) (pushed Client h q.init q.last ∙ ap (λ z. h ++ on Client z) (sym q.is)) x
+  good_with f is may loads =
+      let r = step limits h v M (record { good = g; order = o }) (FromClient f) (omega (arith, fits, ap length is)) (may, loads) (omega (arith, size, ap (λ (z : List ℕ). length (frame z)) is)) in
+      subst (λ z. Good limits (h ++ on Client (frame z)) (with_client v f) [] []) is r.good
 
 -- the talk's conversation with the request is good
 module _ (t : ThroughState) (h : History) (c k : Came) (M : List Message) (r : Runs t h c k M) where
@@ -145,5 +138,5 @@ module _ (t : ThroughState) (h : History) (c k : Came) (M : List Message) (r : R
         Good t.talk.limits (told k ++ on Client (frame p)) (with_client r.stands.conversation q.0) [] []
     talk_takes w q loads =
         let v = r.stands.conversation in
-        good_with t.talk.limits (small_limits t.talk.limits) (told k) v M its_good r.stands.order p fits bounded q.0 q.4 (later_may t.talk.limits.profile v.client q.0 (has_begun some) q.1 q.2 q.3)
+        good_with t.talk.limits (told k) v M its_good r.stands.order p fits bounded q.0 q.4 (later_may t.talk.limits.profile v.client q.0 (has_begun some) q.1 q.2 q.3)
         (omega (arith, loads, load_ask v q.0 its_good.conversation.server, q.5))

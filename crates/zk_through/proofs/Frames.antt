@@ -1,20 +1,20 @@
 -- The frames of a history with more bytes.
-use Rattle.std.proofs.Common.{◌≡◌, ℕ, ◌<◌, ◌≤◌, ◌⊎◌, inl, inr, List, [], ◌∷◌, ◌++◌, length, refl, sym, ap, ◌∙◌, subst, arith, append_assoc}
+use Rattle.std.proofs.Common.{◌≡◌, ℕ, ◌<◌, ◌≤◌, List, [], ◌∷◌, ◌++◌, length, refl, sym, ap, ◌∙◌, subst, arith, append_assoc}
 use Rattle.std.proofs.lemmas.List.{append-nil}
 use Rattle.std.proofs.lemmas.List.Concat.{flat_map-append}
-use Rattle.zk_frames.specs.Framing.{frame, frames, IsBeginning, IsCut}
-use Rattle.zk_frames.proofs.Cuts.{AllByRecursion-push}
+use Rattle.zk_frames.specs.Framing.{frame, IsBeginning, IsCut}
 use Rattle.zk_talk.specs.declared.message.Side.{Side}
 use Rattle.zk_talk.specs.declared.message.Side.TheVariants.{Client, Server}
 use Rattle.zk_talk.specs.declared.limits.Limits.{Limits}
 use Rattle.zk_talk.specs.History.{History, side_bytes, on}
 use Rattle.zk_talk.specs.Viewed.{other_side}
 use Rattle.zk_talk.proofs.Histories.{side_bytes-same, other-bytes}
-use Rattle.zk_talk.proofs.Lists.{by_last, IsPushed, FrontOfPushed, front_of_pushed}
+use Rattle.zk_talk.proofs.Cuts.{cut_more, cut_whole}
+use Rattle.zk_talk.proofs.Lists.{last_of, FrontOfPushed, front_of_pushed}
 use Rattle.zk_talk.proofs.Lists.FrontOfPushed.{all_of_it, front_of}
-use Rattle.zk_talk.proofs.Standing.{beginning_left, frame_front, on-push}
+use Rattle.zk_frames.proofs.Taking.{beginning_front}
+use Rattle.zk_talk.proofs.Standing.{frame_front, last-on}
 use Rattle.zk_through.specs.Came.{Came, payload_on, payloads, AreCut, AreFrames, told}
-use Rattle.zk_frames.proofs.Taking.{frames_push}
 
 -- ---- One frame more
 payloads-append : (side : Side) (a b : Came) → payloads side (a ++ b) ≡ payloads side a ++ payloads side b
@@ -61,37 +61,23 @@ pub told-push : (k : Came) (x : Side × List ℕ) → told (k ++ x ∷ []) ≡ t
 told-push k x = flat_map-append (λ (y : Side × List ℕ). on y.0 (frame y.1)) k (x ∷ []) ∙ ap (λ z. told k ++ z) (append-nil (on x.0 (frame x.1)))
 
 -- ---- One byte more
-cut_on : (limit : ℕ) (bytes : List ℕ) (P : List (List ℕ)) (c : List ℕ) (b : ℕ) → IsCut limit bytes P c → IsBeginning limit (c ++ b ∷ []) → IsCut limit (bytes ++ b ∷ []) P (c ++ b ∷ [])
-cut_on limit bytes P c b x begin = record {
-  whole = ap (λ z. z ++ b ∷ []) x.whole ∙ append_assoc (frames P) c (b ∷ []);
-  within = x.within;
-  beginning = begin;
-}
-
-cut_whole : (limit : ℕ) (bytes : List ℕ) (P : List (List ℕ)) (c p : List ℕ) (b : ℕ) → IsCut limit bytes P c → length p ≤ limit → c ++ b ∷ [] ≡ frame p → IsCut limit (bytes ++ b ∷ []) (P ++ p ∷ []) []
-cut_whole limit bytes P c p b x fits is = record {
-  whole = ap (λ z. z ++ b ∷ []) x.whole ∙ append_assoc (frames P) c (b ∷ []) ∙ ap (λ z. frames P ++ z) is ∙ sym (frames_push P p) ∙ sym (append-nil (frames (P ++ p ∷ [])));
-  within = AllByRecursion-push (λ q. length q ≤ limit) P p x.within fits;
-  beginning = inl (omega arith);
-}
-
 module _ (limits : Limits) (h : History) (came : Came) (c s : List ℕ) (b : ℕ) (cut : AreCut limits h came c s) where
   client_on : IsBeginning limits.client (c ++ b ∷ []) → AreCut limits (h ++ (Client, b) ∷ []) came (c ++ b ∷ []) s
   client_on begin = record {
-    client = subst (λ z. IsCut limits.client z (payloads Client came) (c ++ b ∷ [])) (sym (side_bytes-same Client h b)) (cut_on limits.client (side_bytes Client h) (payloads Client came) c b cut.client begin);
+    client = subst (λ z. IsCut limits.client z (payloads Client came) (c ++ b ∷ [])) (sym (side_bytes-same Client h b)) (cut_more limits.client (side_bytes Client h) b (payloads Client came) c cut.client begin);
     server = subst (λ z. IsCut limits.server z (payloads Server came) s) (sym (other-bytes Client h b)) cut.server;
   }
 
   server_on : IsBeginning limits.server (s ++ b ∷ []) → AreCut limits (h ++ (Server, b) ∷ []) came c (s ++ b ∷ [])
   server_on begin = record {
     client = subst (λ z. IsCut limits.client z (payloads Client came) c) (sym (other-bytes Server h b)) cut.client;
-    server = subst (λ z. IsCut limits.server z (payloads Server came) (s ++ b ∷ [])) (sym (side_bytes-same Server h b)) (cut_on limits.server (side_bytes Server h) (payloads Server came) s b cut.server begin);
+    server = subst (λ z. IsCut limits.server z (payloads Server came) (s ++ b ∷ [])) (sym (side_bytes-same Server h b)) (cut_more limits.server (side_bytes Server h) b (payloads Server came) s cut.server begin);
   }
 
   client_whole : (p : List ℕ) → length p ≤ limits.client → c ++ b ∷ [] ≡ frame p → AreCut limits (h ++ (Client, b) ∷ []) (came ++ (Client, p) ∷ []) [] s
   client_whole p fits is = record {
     client = subst (λ z. IsCut limits.client z (payloads Client (came ++ (Client, p) ∷ [])) []) (sym (side_bytes-same Client h b))
-        (subst (λ z. IsCut limits.client (side_bytes Client h ++ b ∷ []) z []) (sym (payloads-same Client came p)) (cut_whole limits.client (side_bytes Client h) (payloads Client came) c p b cut.client fits is));
+        (subst (λ z. IsCut limits.client (side_bytes Client h ++ b ∷ []) z []) (sym (payloads-same Client came p)) (cut_whole limits.client (side_bytes Client h) b (payloads Client came) c p cut.client is fits));
     server = subst (λ z. IsCut limits.server z (payloads Server (came ++ (Client, p) ∷ [])) s) (sym (other-bytes Client h b))
         (subst (λ z. IsCut limits.server (side_bytes Server h) z s) (sym (payloads-other Client came p)) cut.server);
   }
@@ -101,7 +87,7 @@ module _ (limits : Limits) (h : History) (came : Came) (c s : List ℕ) (b : ℕ
     client = subst (λ z. IsCut limits.client z (payloads Client (came ++ (Server, p) ∷ [])) c) (sym (other-bytes Server h b))
         (subst (λ z. IsCut limits.client (side_bytes Client h) z c) (sym (payloads-other Server came p)) cut.client);
     server = subst (λ z. IsCut limits.server z (payloads Server (came ++ (Server, p) ∷ [])) []) (sym (side_bytes-same Server h b))
-        (subst (λ z. IsCut limits.server (side_bytes Server h ++ b ∷ []) z []) (sym (payloads-same Server came p)) (cut_whole limits.server (side_bytes Server h) (payloads Server came) s p b cut.server fits is));
+        (subst (λ z. IsCut limits.server (side_bytes Server h ++ b ∷ []) z []) (sym (payloads-same Server came p)) (cut_whole limits.server (side_bytes Server h) b (payloads Server came) s p cut.server is fits));
   }
 
 -- in their order, with those that the byte makes whole
@@ -120,15 +106,12 @@ order_same limits h x came c s c' s' o cut =
     (order_more limits h x came [] c s c' s' o (subst (λ z. AreCut limits (h ++ x ∷ []) z c' s') (sym (append-nil came)) cut))
 
 -- ---- A piece
-pub pushed : (side : Side) (h : History) (bs : List ℕ) (b : ℕ) → (h ++ on side bs) ++ (side, b) ∷ [] ≡ h ++ on side (bs ++ b ∷ [])
-pushed side h bs b = append_assoc h (on side bs) ((side, b) ∷ []) ∙ ap (λ z. h ++ z) (sym (on-push side bs b))
-
 module _ (limits : Limits) (came : Came) where
   pub within_client : (bs : List ℕ) (h : History) (c s : List ℕ) → AreFrames limits h came c s → IsBeginning limits.client (c ++ bs) → AreFrames limits (h ++ on Client bs) came (c ++ bs) s
   within_client [] h c s o begin = subst (λ z. AreFrames limits z came (c ++ []) s) (sym (append-nil h)) (subst (λ z. AreFrames limits h came z s) (sym (append-nil c)) o)
   within_client (b ∷ bs) h c s o begin =
       let begin' = subst (IsBeginning limits.client) (sym (append_assoc c (b ∷ []) bs)) begin in
-      let cut = client_on limits h came c s b o.cut (beginning_left limits.client (c ++ b ∷ []) bs begin') in
+      let cut = client_on limits h came c s b o.cut (beginning_front limits.client (c ++ b ∷ []) bs begin') in
       let next = within_client bs (h ++ (Client, b) ∷ []) (c ++ b ∷ []) s (order_same limits h (Client, b) came c s (c ++ b ∷ []) s o cut) begin' in
       subst (λ z. AreFrames limits z came (c ++ b ∷ bs) s) (append_assoc h ((Client, b) ∷ []) (on Client bs))
       (subst (λ z. AreFrames limits ((h ++ (Client, b) ∷ []) ++ on Client bs) came z s) (append_assoc c (b ∷ []) bs) next)
@@ -137,35 +120,28 @@ module _ (limits : Limits) (came : Came) where
   within_server [] h c s o begin = subst (λ z. AreFrames limits z came c (s ++ [])) (sym (append-nil h)) (subst (λ z. AreFrames limits h came c z) (sym (append-nil s)) o)
   within_server (b ∷ bs) h c s o begin =
       let begin' = subst (IsBeginning limits.server) (sym (append_assoc s (b ∷ []) bs)) begin in
-      let cut = server_on limits h came c s b o.cut (beginning_left limits.server (s ++ b ∷ []) bs begin') in
+      let cut = server_on limits h came c s b o.cut (beginning_front limits.server (s ++ b ∷ []) bs begin') in
       let next = within_server bs (h ++ (Server, b) ∷ []) c (s ++ b ∷ []) (order_same limits h (Server, b) came c s c (s ++ b ∷ []) o cut) begin' in
       subst (λ z. AreFrames limits z came c (s ++ b ∷ bs)) (append_assoc h ((Server, b) ∷ []) (on Server bs))
       (subst (λ z. AreFrames limits ((h ++ (Server, b) ∷ []) ++ on Server bs) came c z) (append_assoc s (b ∷ []) bs) next)
 
   module _ (part : List ℕ) (h : History) (c s p : List ℕ) (o : AreFrames limits h came c s) (some : 0 < length part) where
-    last : IsPushed part
-    last = go (by_last part)
-      where
-        go : ((part ≡ []) ⊎ IsPushed part) → IsPushed part
-        go (inl n) = absurd (omega (arith, ap length n))
-        go (inr q) = q
-
     pub whole_client : length p ≤ limits.client → c ++ part ≡ frame p → AreFrames limits (h ++ on Client part) (came ++ (Client, p) ∷ []) [] s
     whole_client fits is =
-        let q = last in
+        let q = last_of part some in
         let at_end : (c ++ q.init) ++ q.last ∷ [] ≡ frame p = append_assoc c q.init (q.last ∷ []) ∙ ap (λ z. c ++ z) (sym q.is) ∙ is in
         let before = within_client q.init h c s o (frame_front limits.client (c ++ q.init) [] p q.last fits at_end) in
         let cut = client_whole limits (h ++ on Client q.init) came (c ++ q.init) s q.last before.cut p fits at_end in
         let r = order_more limits (h ++ on Client q.init) (Client, q.last) came ((Client, p) ∷ []) (c ++ q.init) s [] s before cut in
         subst (λ z. AreFrames limits (h ++ on Client z) (came ++ (Client, p) ∷ []) [] s) (sym q.is)
-        (subst (λ z. AreFrames limits z (came ++ (Client, p) ∷ []) [] s) (pushed Client h q.init q.last) r)
+        (subst (λ z. AreFrames limits z (came ++ (Client, p) ∷ []) [] s) (last-on Client h q.init q.last) r)
 
     pub whole_server : length p ≤ limits.server → s ++ part ≡ frame p → AreFrames limits (h ++ on Server part) (came ++ (Server, p) ∷ []) c []
     whole_server fits is =
-        let q = last in
+        let q = last_of part some in
         let at_end : (s ++ q.init) ++ q.last ∷ [] ≡ frame p = append_assoc s q.init (q.last ∷ []) ∙ ap (λ z. s ++ z) (sym q.is) ∙ is in
         let before = within_server q.init h c s o (frame_front limits.server (s ++ q.init) [] p q.last fits at_end) in
         let cut = server_whole limits (h ++ on Server q.init) came c (s ++ q.init) q.last before.cut p fits at_end in
         let r = order_more limits (h ++ on Server q.init) (Server, q.last) came ((Server, p) ∷ []) c (s ++ q.init) c [] before cut in
         subst (λ z. AreFrames limits (h ++ on Server z) (came ++ (Server, p) ∷ []) c []) (sym q.is)
-        (subst (λ z. AreFrames limits z (came ++ (Server, p) ∷ []) c []) (pushed Server h q.init q.last) r)
+        (subst (λ z. AreFrames limits z (came ++ (Server, p) ∷ []) c []) (last-on Server h q.init q.last) r)

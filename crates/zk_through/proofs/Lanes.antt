@@ -229,21 +229,10 @@ module _ (profile : Profile) (turn : Turn) where
 -- ---- The lanes, with one changed
 changed : (k l : Lane) (f : List Turn → List Turn) (t : TurnsState) → waits_on k (with_waits l f t) ≡ cond (same_lane k l) (f (waits_on k t)) (waits_on k t)
 changed Ping Ping f t = refl
-changed Ping Auth f t = refl
-changed Ping Watches f t = refl
-changed Ping Plain f t = refl
-changed Auth Ping f t = refl
 changed Auth Auth f t = refl
-changed Auth Watches f t = refl
-changed Auth Plain f t = refl
-changed Watches Ping f t = refl
-changed Watches Auth f t = refl
 changed Watches Watches f t = refl
-changed Watches Plain f t = refl
-changed Plain Ping f t = refl
-changed Plain Auth f t = refl
-changed Plain Watches f t = refl
 changed Plain Plain f t = refl
+changed _ _ f t = refl
 
 left_stays : (l : Lane) (f : List Turn → List Turn) (t : TurnsState) → with_waits l f t ≡ record (with_waits l f t) { left = t.left }
 left_stays Ping f t = refl
