@@ -42,7 +42,7 @@ pub(crate) fn hex(alloc: Global, digits: &str) -> Result<Vec<u8>, Fail> {
     Ok(hex::decode(alloc, digits)?)
 }
 
-/// What `told` tells of each row, in its order, is what the row says of it, or begins so.
+/// What `told` gives for each row, in order, begins as the row says.
 pub(crate) fn keeps<F: FnMut(&str) -> Result<String, Fail>>(
     rt: &impl Abort,
     rows: &str,
