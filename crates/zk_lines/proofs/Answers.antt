@@ -28,13 +28,13 @@ use Rattle.zk_lines.specs.declared.done.DoneName.{DoneName}
 use Rattle.zk_lines.specs.declared.done.DoneName.TheVariants as names
 use Rattle.zk_lines.specs.Series.{if_passed, list_of}
 use Rattle.zk_lines.specs.Records.{stat}
-use Rattle.zk_lines.specs.Rows.{Content, form_of, remake, row_at}
+use Rattle.zk_lines.specs.Rows.{row_at}
 use Rattle.zk_lines.specs.Answers as answers
 use Rattle.zk_lines.proofs.Named.{IsNames, IsFound, IsRead, named_is, names_of, mapped}
 use Rattle.zk_lines.proofs.LawsPrinted.{Printed}
 use Rattle.zk_lines.proofs.Held.{int_fits}
 use Rattle.zk_lines.proofs.Shown.{error_shown}
-use Rattle.zk_lines.proofs.Rows.{IsItem, IsRow, IsTable, IsMade, ◌with◌, field_of, row_of_fields, row_of_record, row_of_series, nothing_is, table_is, table_opens, table_again, table_sound, table_held, table_shown, named_shown}
+use Rattle.zk_lines.proofs.Rows.{IsItem, IsRow, IsRowOf, IsTable, ◌with◌, field_of, row_of_fields, row_of_record, row_of_series, nothing_is, table_is, table_opens, table_again, table_sound, table_held, table_shown, named_shown}
 use Rattle.zk_lines.proofs.Items.{int_item, long_item, ro_item, blob_item, event_code_item, path_field, blob_field, acl_field, version_field, zxid_field, stat_field, names_field}
 use Rattle.zk_lines.proofs.Asks.{op_names}
 
@@ -90,19 +90,16 @@ done_names : IsNames answers.done_name answers.done_named
 unfolding answers.done_named
 done_names = names_of answers.done_name answers.all_dones done_found
 
-ruleset done_records = (path_row, stat_row, failed_row, nothing_is)
-
 -- what each result holds has the laws
-done_rows : (k : DoneName) → IsRow (form_of (answers.done_line_of k)) (λ x. result_of (remake (answers.done_line_of k) x))
-done_rows names.Create = path_row
-done_rows _ = search done_records
-
-done_made : (k : DoneName) (x : Content (answers.done_line_of k)) → IsMade answers.done_line_of answers.done_written answers.name_of_done k x
-done_made names.Create x = (refl, refl)
-done_made _ x = (refl, refl)
+done_rows : (k : DoneName) → IsRowOf answers.done_line_of answers.done_written answers.name_of_done result_of k
+done_rows names.Create = (path_row, λ x. (refl, refl))
+done_rows names.Delete = (nothing_is _, λ x. (refl, refl))
+done_rows names.SetData = (stat_row, λ x. (refl, refl))
+done_rows names.Check = (nothing_is _, λ x. (refl, refl))
+done_rows names.Fail = (failed_row, λ x. (refl, refl))
 
 done_table : IsTable answers.done_line_of answers.done_written answers.name_of_done result_of
-done_table = record { each = answers.by_done; made = done_made; rows = done_rows }
+done_table = record { each = answers.by_done; rows = done_rows }
 
 done_is : Lawful answers.done_form
 done_is = table_is done_table done_names
@@ -128,16 +125,12 @@ multi_is = row_of_series done_items (marked end_header) done_is done_begins done
 ruleset body_records = (path_row, stat_row, names_row, content_is, acls_is, created_is, children_is, multi_is, nothing_is)
 
 -- what each operation gives has the laws
-body_rows : (k : Op) → IsRow (form_of (answers.line_of k)) (λ x. body_items (remake (answers.line_of k) x))
-body_rows ops.Create = path_row
-body_rows _ = search body_records
-
-body_made : (k : Op) (x : Content (answers.line_of k)) → IsMade answers.line_of answers.body_written op_of_body k x
-body_made ops.Create x = (refl, refl)
-body_made _ x = (refl, refl)
+body_rows : (k : Op) → IsRowOf answers.line_of answers.body_written op_of_body body_items k
+body_rows ops.Create = (path_row, λ x. (refl, refl))
+body_rows _ = (search body_records, λ x. (refl, refl))
 
 body_table : IsTable answers.line_of answers.body_written op_of_body body_items
-body_table = record { each = answers.by_line; made = body_made; rows = body_rows }
+body_table = record { each = answers.by_line; rows = body_rows }
 
 pub body_held : (b : Body) → HaveBytes (body_items b) → (answers.body_written b).fits
 body_held = table_held body_table

@@ -5,7 +5,6 @@ use Rattle.std.proofs.Common.{ltb-true, w32, to_z, of_z, to_z-of_z}
 use Rattle.std.specs.List.{prefix_len}
 use Rattle.std.proofs.lemmas.List.{append-nil}
 use Rattle.zk_jute.specs.Item.{Item, AnInt, bytes_of, HasBytes, HaveBytes}
-use Rattle.zk_records.specs.Records as records
 use Rattle.zk_records.specs.Codes.{op_number, part_number}
 use Rattle.zk_records.specs.declared.op.Op.{Op}
 use Rattle.zk_records.specs.declared.op.Op.TheVariants as ops

@@ -1,5 +1,5 @@
 -- The lines of what a client sends have the laws of lines.
-use Rattle.std.proofs.Common.{◌≡◌, ℕ, List, [], ◌∷◌, ◌++◌, Some, None, refl, ap, ◌∙◌}
+use Rattle.std.proofs.Common.{◌≡◌, ℕ, List, [], ◌∷◌, ◌++◌, Some, None, refl}
 use Rattle.zk_jute.specs.Flagged.{flag_items}
 use Rattle.zk_jute.specs.Item.{HaveBytes}
 use Rattle.zk_records.specs.Records as records
@@ -21,11 +21,11 @@ use Rattle.zk_items.proofs.Forms.{IsField, and_is}
 use Rattle.zk_items.proofs.Numbers.{int_is}
 use Rattle.zk_lines.proofs.Words.{field_is}
 use Rattle.zk_lines.specs.Asks as asks
-use Rattle.zk_lines.specs.Rows.{Content, form_of, remake, row_at}
+use Rattle.zk_lines.specs.Rows.{row_at}
 use Rattle.zk_lines.proofs.Named.{IsNames, IsFound, names_of}
 use Rattle.zk_lines.proofs.Held.{parted}
 use Rattle.zk_lines.proofs.Shown.{Shown}
-use Rattle.zk_lines.proofs.Rows.{IsRow, IsTable, IsMade, ◌with◌, field_of, row_of_record, row_of_series, nothing_is, table_is, table_held, table_sound, named_shown}
+use Rattle.zk_lines.proofs.Rows.{IsRow, IsRowOf, IsTable, ◌with◌, field_of, row_of_record, row_of_series, nothing_is, table_is, table_held, table_sound, named_shown}
 use Rattle.zk_lines.proofs.Items.{int_item, long_item, bit_item, ro_item, text_item, blob_item, texts_item, path_field, blob_field, acl_field, version_field, zxid_field}
 
 -- ---- records
@@ -73,19 +73,15 @@ part_names : IsNames part_name asks.part_named
 unfolding asks.part_named
 part_names = names_of part_name all_parts part_found
 
-ruleset part_records = (create_is, delete_is, set_data_is, check_is)
-
 -- each part's record has the laws
-part_rows : (k : PartOp) → IsRow (form_of (asks.part_line_of k)) (λ x. record_of (remake (asks.part_line_of k) x))
-part_rows parts.Create = create_is
-part_rows _ = search part_records
-
-part_made : (k : PartOp) (x : Content (asks.part_line_of k)) → IsMade asks.part_line_of asks.part_written op_of_part k x
-part_made parts.Create x = (refl, refl)
-part_made _ x = (refl, refl)
+part_rows : (k : PartOp) → IsRowOf asks.part_line_of asks.part_written op_of_part record_of k
+part_rows parts.Create = (create_is, λ x. (refl, refl))
+part_rows parts.Delete = (delete_is, λ x. (refl, refl))
+part_rows parts.SetData = (set_data_is, λ x. (refl, refl))
+part_rows parts.Check = (check_is, λ x. (refl, refl))
 
 part_table : IsTable asks.part_line_of asks.part_written op_of_part record_of
-part_table = record { each = asks.by_part; made = part_made; rows = part_rows }
+part_table = record { each = asks.by_part; rows = part_rows }
 
 -- what is read of a row is of its operation
 pub part_op : (op : PartOp) (bytes rest : List ℕ) (p : Part) → row_at (asks.part_line_of op) bytes ≡ Some (p, rest) → op_of_part p ≡ op
@@ -118,16 +114,12 @@ op_names = names_of op_name all_ops op_found
 ruleset ask_records = (create_is, delete_is, watch_is, set_data_is, path_is, set_acl_is, auth_is, set_watches_is, multi_is, nothing_is)
 
 -- each request's record has the laws
-ask_rows : (k : Op) → IsRow (form_of (asks.line_of k)) (λ x. body_items (remake (asks.line_of k) x))
-ask_rows ops.Create = create_is
-ask_rows _ = search ask_records
-
-ask_made : (k : Op) (x : Content (asks.line_of k)) → IsMade asks.line_of asks.ask_written op_of_ask k x
-ask_made ops.Create x = (refl, refl)
-ask_made _ x = (refl, refl)
+ask_rows : (k : Op) → IsRowOf asks.line_of asks.ask_written op_of_ask body_items k
+ask_rows ops.Create = (create_is, λ x. (refl, refl))
+ask_rows _ = (search ask_records, λ x. (refl, refl))
 
 ask_table : IsTable asks.line_of asks.ask_written op_of_ask body_items
-ask_table = record { each = asks.by_line; made = ask_made; rows = ask_rows }
+ask_table = record { each = asks.by_line; rows = ask_rows }
 
 pub ask_op : (op : Op) (bytes rest : List ℕ) (a : Ask) → row_at (asks.line_of op) bytes ≡ Some (a, rest) → op_of_ask a ≡ op
 ask_op op bytes rest a e = (table_sound ask_table op bytes a rest e).0

@@ -4,7 +4,6 @@ use Rattle.std.specs.Prelude.{pos, negsuc}
 use Rattle.std.specs.List.{prefix_len}
 use Rattle.zk_jute.specs.Item.{Item, AnInt, ALong, bytes_of, HaveBytes}
 use Rattle.zk_jute.specs.Wired as wired
-use Rattle.zk_jute.specs.Wired.{int, long, ustring}
 use Rattle.zk_records.specs.declared.op.Op.{Op}
 use Rattle.zk_answers.specs.Held.{Outcome, Reply}
 use Rattle.zk_answers.specs.declared.frame.OutcomeOf.TheVariants as outcome

@@ -1,18 +1,18 @@
 -- A line that is read into bytes is that of one message, whose payload they are.
-use Rattle.std.proofs.Common.{◌≡◌, ℕ, ℤ, List, [], Option, Some, None, Bool, true, false, refl, sym, ap, ◌∙◌, cond, bytes_eq}
+use Rattle.std.proofs.Common.{◌≡◌, ℕ, ℤ, List, [], Option, Some, None, Bool, true, false, refl, sym, ap, ◌∙◌, bytes_eq}
 use Rattle.std.specs.Prelude.{codes}
-use Rattle.zk_jute.specs.Item.{bytes_of}
+use Rattle.zk_jute.specs.Item.{Item, bytes_of}
 use Rattle.zk_records.specs.Held.{ConnectRequest, ConnectResponse, WatcherEvent}
 use Rattle.zk_records.specs.declared.op.Op.{Op}
-use Rattle.zk_asks.specs.Held.{Ask, ClientFrame}
+use Rattle.zk_asks.specs.Held.{Ask}
 use Rattle.zk_asks.specs.declared.frame.ClientFrameOf.TheVariants as client
 use Rattle.zk_asks.specs.Frames as asked
-use Rattle.zk_answers.specs.Held.{Outcome, ServerFrame}
+use Rattle.zk_answers.specs.Held.{Outcome}
 use Rattle.zk_answers.specs.declared.frame.OutcomeOf.TheVariants as outcome
 use Rattle.zk_answers.specs.declared.frame.ServerFrameOf.TheVariants as server
 use Rattle.zk_answers.specs.Frames.{IsOutcome, op_of_reply, reply_items}
 use Rattle.zk_answers.specs.Frames as answered
-use Rattle.zk_items.specs.Form.{Read, ◌>>=◌, read_map, led, word_at}
+use Rattle.zk_items.specs.Form.{Read, ◌>>=◌, read_map, word_at}
 use Rattle.zk_items.specs.Codes.{is_zero}
 use Rattle.zk_items.specs.Copied.{Copied}
 use Rattle.zk_talk.specs.Held.{Message}
@@ -27,7 +27,7 @@ use Rattle.zk_lines.specs.Answers as answers
 use Rattle.zk_lines.specs.Copied.{CopiedMessage, IsCopied}
 use Rattle.zk_lines.specs.Lines.{letters, client_at, server_at, message_at, Fits, whole, said}
 use Rattle.zk_lines.specs.Series.{if_passed}
-use Rattle.zk_lines.proofs.Lines.{message_found}
+use Rattle.zk_lines.proofs.Lines.{asked_at, answered_at, message_found}
 
 -- ---- a frame that is read, and its kind
 
@@ -37,117 +37,65 @@ CopiedClient kind line rest old new = (c : Copied client_at asked.frame_items li
 abbrev pub CopiedServer : Kind → List ℕ → List ℕ → List ℕ → List ℕ → Type 0
 CopiedServer kind line rest old new = (c : Copied server_at answered.frame_items line rest old new) × (kind_of (message.Server c.value) ≡ kind)
 
+-- a frame is made of what was read
+abbrev framed : {X F : Type 0} {at : List ℕ → Read X} {frame_at : List ℕ → Read F} {line mid rest old new : List ℕ} (items : F → List Item) (make : X → F) → frame_at line ≡ read_map make (at mid)
+    → Copied at (λ x. items (make x)) mid rest old new → Copied frame_at items line rest old new
+framed items make is c = record { value = make c.value; read = is ∙ ap (read_map make) c.read; have = c.have; appended = c.appended }
+
 pub connect_copied : (line mid rest old new : List ℕ) → bytes_eq (letters line) (codes "connect") ≡ true → word_at (codes "connect") line ≡ Some mid
     → Copied asks.connect.at (λ p. asked.frame_items (client.Connect p.0 p.1)) mid rest old new → CopiedClient kinds.Connect line rest old new
 connect_copied line mid rest old new is word c =
-    let make = λ (p : ConnectRequest × Option Bool). client.Connect p.0 p.1 in (
-      record {
-        value = make c.value;
-        read = ap (λ (t : Bool). cond t (read_map make ((led (codes "connect") asks.connect).at line)) (read_map (λ (p : ℤ × Ask). client.Ask p.0 p.1) (asks.request.at line))) is
-            ∙ ap (λ (o : Option (List ℕ)). read_map make (o >>= asks.connect.at)) word ∙ ap (read_map make) c.read;
-        have = c.have;
-        appended = c.appended;
-      },
-      refl,
-    )
+    let make = λ (p : ConnectRequest × Option Bool). client.Connect p.0 p.1 in
+    (framed asked.frame_items make (ap (λ (t : Bool). asked_at t line) is ∙ ap (λ (o : Option (List ℕ)). read_map make (o >>= asks.connect.at)) word) c, refl)
 
 pub ask_copied : (line rest old new : List ℕ) → bytes_eq (letters line) (codes "connect") ≡ false
     → Copied asks.request.at (λ p. asked.frame_items (client.Ask p.0 p.1)) line rest old new → CopiedClient kinds.Ask line rest old new
-ask_copied line rest old new other c =
-    let make = λ (p : ℤ × Ask). client.Ask p.0 p.1 in (
-      record {
-        value = make c.value;
-        read = ap (λ (t : Bool). cond t (read_map (λ (p : ConnectRequest × Option Bool). client.Connect p.0 p.1) ((led (codes "connect") asks.connect).at line)) (read_map make (asks.request.at line))) other
-            ∙ ap (read_map make) c.read;
-        have = c.have;
-        appended = c.appended;
-      },
-      refl,
-    )
+ask_copied line rest old new other c = (framed asked.frame_items (λ (p : ℤ × Ask). client.Ask p.0 p.1) (ap (λ (t : Bool). asked_at t line) other) c, refl)
 
--- what is read of a server's line, by what its letters are
-abbrev chosen : Bool → Bool → List ℕ → Read ServerFrame
-chosen first second line =
-    cond first (read_map (λ (p : ConnectResponse × Option Bool). server.Connected p.0 p.1) ((led (codes "connect") answers.connected).at line))
-    (cond second (read_map (λ (p : ℤ × WatcherEvent). server.Event p.0 p.1) ((led (codes "event") answers.event).at line)) (read_map server.Answered (answers.reply.at line)))
+module _ (line : List ℕ) (first second : Bool) (is : bytes_eq (letters line) (codes "connect") ≡ first) where
+  by_first : server_at line ≡ answered_at first (bytes_eq (letters line) (codes "event")) line
+  by_first = ap (λ (t : Bool). answered_at t (bytes_eq (letters line) (codes "event")) line) is
+
+  by_both : bytes_eq (letters line) (codes "event") ≡ second → server_at line ≡ answered_at first second line
+  by_both also = by_first ∙ ap (λ (t : Bool). answered_at first t line) also
 
 pub connected_copied : (line mid rest old new : List ℕ) → bytes_eq (letters line) (codes "connect") ≡ true → word_at (codes "connect") line ≡ Some mid
     → Copied answers.connected.at (λ p. answered.frame_items (server.Connected p.0 p.1)) mid rest old new → CopiedServer kinds.Connected line rest old new
 connected_copied line mid rest old new is word c =
-    let make = λ (p : ConnectResponse × Option Bool). server.Connected p.0 p.1 in (
-      record {
-        value = make c.value;
-        read = ap (λ (t : Bool). chosen t (bytes_eq (letters line) (codes "event")) line) is
-            ∙ ap (λ (o : Option (List ℕ)). read_map make (o >>= answers.connected.at)) word ∙ ap (read_map make) c.read;
-        have = c.have;
-        appended = c.appended;
-      },
-      refl,
-    )
+    let make = λ (p : ConnectResponse × Option Bool). server.Connected p.0 p.1 in
+    (framed answered.frame_items make (by_first line true true is ∙ ap (λ (o : Option (List ℕ)). read_map make (o >>= answers.connected.at)) word) c, refl)
 
 pub event_copied : (line mid rest old new : List ℕ) → bytes_eq (letters line) (codes "connect") ≡ false → bytes_eq (letters line) (codes "event") ≡ true → word_at (codes "event") line ≡ Some mid
     → Copied answers.event.at (λ p. answered.frame_items (server.Event p.0 p.1)) mid rest old new → CopiedServer kinds.Event line rest old new
 event_copied line mid rest old new other is word c =
-    let make = λ (p : ℤ × WatcherEvent). server.Event p.0 p.1 in (
-      record {
-        value = make c.value;
-        read = ap (λ (t : Bool). chosen t (bytes_eq (letters line) (codes "event")) line) other ∙ ap (λ (t : Bool). chosen false t line) is
-            ∙ ap (λ (o : Option (List ℕ)). read_map make (o >>= answers.event.at)) word ∙ ap (read_map make) c.read;
-        have = c.have;
-        appended = c.appended;
-      },
-      refl,
-    )
+    let make = λ (p : ℤ × WatcherEvent). server.Event p.0 p.1 in
+    (framed answered.frame_items make (by_both line false true other is ∙ ap (λ (o : Option (List ℕ)). read_map make (o >>= answers.event.at)) word) c, refl)
 
 pub reply_copied : (line rest old new : List ℕ) (op : Op) → bytes_eq (letters line) (codes "connect") ≡ false → bytes_eq (letters line) (codes "event") ≡ false
     → (c : Copied answers.reply.at reply_items line rest old new) × (op_of_reply c.value ≡ op) → CopiedServer (kinds.Answered op) line rest old new
-reply_copied line rest old new op other third k =
-    let c = k.0 in (
-      record {
-        value = server.Answered c.value;
-        read = ap (λ (t : Bool). chosen t (bytes_eq (letters line) (codes "event")) line) other ∙ ap (λ (t : Bool). chosen false t line) third ∙ ap (read_map server.Answered) c.read;
-        have = c.have;
-        appended = c.appended;
-      },
-      ap kinds.Answered k.1,
-    )
+reply_copied line rest old new op other third k = (framed answered.frame_items server.Answered (by_both line false false other third) k.0, ap kinds.Answered k.1)
 
 -- ---- the whole line
 
-pub client_whole : (line rest old new : List ℕ) (kind : Kind) → CopiedClient kind line rest old new → rest ≡ [] → CopiedMessage (said message.Client (whole (client_at line))) kind old new
-client_whole line rest old new kind k done = record {
-  message = message.Client k.0.value;
-  is = ap (λ (r : Read ClientFrame). said message.Client (whole r)) (k.0.read ∙ ap (λ (r : List ℕ). Some (k.0.value, r)) done);
-  kind_is = k.1;
-  have = k.0.have;
-  appended = k.0.appended;
-}
-
-pub server_whole : (line rest old new : List ℕ) (kind : Kind) → CopiedServer kind line rest old new → rest ≡ [] → CopiedMessage (said message.Server (whole (server_at line))) kind old new
-server_whole line rest old new kind k done = record {
-  message = message.Server k.0.value;
-  is = ap (λ (r : Read ServerFrame). said message.Server (whole r)) (k.0.read ∙ ap (λ (r : List ℕ). Some (k.0.value, r)) done);
-  kind_is = k.1;
-  have = k.0.have;
-  appended = k.0.appended;
+pub frame_whole : {F : Type 0} {at : List ℕ → Read F} {line rest old new : List ℕ} {kind : Kind} (side : F → Message) (c : Copied at (λ f. items_of (side f)) line rest old new) → kind_of (side c.value) ≡ kind → rest ≡ []
+    → CopiedMessage (said side (whole (at line))) kind old new
+frame_whole {F} side c kind_is done = record {
+  message = side c.value;
+  is = ap (λ (r : Read F). said side (whole r)) (c.read ∙ ap (λ (r : List ℕ). Some (c.value, r)) done);
+  kind_is = kind_is;
+  have = c.have;
+  appended = c.appended;
 }
 
 -- by the side that comes first
 abbrev by_side : Option (List ℕ) → List ℕ → Option Message
 by_side o line = if_passed o (λ rest. said message.Client (whole (client_at rest))) (word_at (codes "S ") line >>= λ rest. said message.Server (whole (server_at rest)))
 
-pub of_client : (line rest old new : List ℕ) (kind : Kind) → word_at (codes "C ") line ≡ Some rest → CopiedMessage (said message.Client (whole (client_at rest))) kind old new → CopiedMessage (message_at line) kind old new
-of_client line rest old new kind word c = record { message = c.message; is = ap (λ (o : Option (List ℕ)). by_side o line) word ∙ c.is; kind_is = c.kind_is; have = c.have; appended = c.appended }
+pub of_client : (line rest : List ℕ) → word_at (codes "C ") line ≡ Some rest → message_at line ≡ said message.Client (whole (client_at rest))
+of_client line rest word = ap (λ (o : Option (List ℕ)). by_side o line) word
 
-pub of_server : (line rest old new : List ℕ) (kind : Kind) → word_at (codes "C ") line ≡ None → word_at (codes "S ") line ≡ Some rest → CopiedMessage (said message.Server (whole (server_at rest))) kind old new
-    → CopiedMessage (message_at line) kind old new
-of_server line rest old new kind other word c = record {
-  message = c.message;
-  is = ap (λ (o : Option (List ℕ)). by_side o line) other ∙ ap (λ (o : Option (List ℕ)). o >>= λ rest. said message.Server (whole (server_at rest))) word ∙ c.is;
-  kind_is = c.kind_is;
-  have = c.have;
-  appended = c.appended;
-}
+pub of_server : (line rest : List ℕ) → word_at (codes "C ") line ≡ None → word_at (codes "S ") line ≡ Some rest → message_at line ≡ said message.Server (whole (server_at rest))
+of_server line rest other word = ap (λ (o : Option (List ℕ)). by_side o line) other ∙ ap (λ (o : Option (List ℕ)). o >>= λ rest. said message.Server (whole (server_at rest))) word
 
 -- ---- the message
 

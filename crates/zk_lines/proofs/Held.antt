@@ -8,7 +8,6 @@ use Rattle.zk_jute.specs.Item.{Item, HasBytes, HaveBytes}
 use Rattle.zk_jute.specs.Wired.{Wired}
 use Rattle.zk_jute.specs.Wired as wired
 use Rattle.zk_records.specs.Records as records
-use Rattle.zk_records.specs.declared.stat.Stat.{Stat}
 use Rattle.zk_items.specs.Form.{Form}
 use Rattle.zk_items.specs.Form as form
 use Rattle.zk_items.specs.Leaf as leaf
@@ -86,12 +85,3 @@ acl_held = record { held = λ a h. (int_held with text_held with text_held).held
 
 pub acls_held : Held (wired.vector records.acl) (list_of lines.acl)
 acls_held = list_held records.acl lines.acl acl_held
-
--- the eleven numbers, and then in the groups of their line
-pub stat_held : (s : Stat) → HaveBytes (records.stat.items s) → lines.stat.fits s
-stat_held s h =
-    let numbers = long_held with long_held with long_held with long_held with int_held with int_held with int_held with long_held with int_held with int_held with long_held in
-    let r = numbers.held (s.czxid, (s.mzxid, (s.ctime, (s.mtime, (s.version, (s.cversion, (s.aversion, (s.ephemeral_owner, (s.data_length, (s.num_children, s.pzxid)))))))))) h in
-    let back = r.1.1.1.1 in
-    let behind = back.1.1.1 in
-    ((r.0, (r.1.0, (r.1.1.0, r.1.1.1.0))), ((back.0, (back.1.0, back.1.1.0)), (behind.0, (behind.1.0, (behind.1.1.0, behind.1.1.1)))))

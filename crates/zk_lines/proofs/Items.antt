@@ -1,5 +1,7 @@
 -- The laws of the items of a line, and of the fields that many records have.
+use Rattle.std.proofs.Common.{List, ◌++◌, refl}
 use Rattle.zk_jute.specs.Flagged.{flag_items}
+use Rattle.zk_jute.specs.Item.{Item}
 use Rattle.zk_jute.specs.Wired.{Wired}
 use Rattle.zk_jute.specs.Wired as wired
 use Rattle.zk_records.specs.Records as records
@@ -12,14 +14,16 @@ use Rattle.zk_items.proofs.Codes.{code_is}
 use Rattle.zk_items.proofs.Flags.{bit_is, ro_is}
 use Rattle.zk_items.proofs.Texts.{text_is}
 use Rattle.zk_items.proofs.Blobs.{blob_is}
-use Rattle.zk_lines.specs.Words.{field}
+use Rattle.zk_items.proofs.Forms.{and_is, closed_is, fields_is}
+use Rattle.zk_lines.specs.Words.{field, word_of}
 use Rattle.zk_lines.specs.declared.word.Word.TheVariants as words
 use Rattle.zk_lines.specs.Series.{list_of}
-use Rattle.zk_lines.specs.Records.{acl, stat}
-use Rattle.zk_lines.proofs.Records.{stat_is}
+use Rattle.zk_lines.specs.Records.{acl, row, numbers_of, stat}
+use Rattle.zk_lines.proofs.Words.{word_stops}
+use Rattle.zk_lines.proofs.LawsPrinted.{joined, word_printed}
 use Rattle.zk_lines.proofs.Lists as lists
-use Rattle.zk_lines.proofs.Held.{Held, int_fits, int_held, long_held, bit_held, text_held, blob_held, names_held, acls_held, stat_held}
-use Rattle.zk_lines.proofs.Shown.{Shown, int_shown, long_shown, bit_shown, ro_shown, text_shown, blob_shown, event_code_shown, texts_shown, acls_shown, stat_shown}
+use Rattle.zk_lines.proofs.Held.{Held, int_fits, int_held, long_held, bit_held, text_held, blob_held, names_held, acls_held, parted}
+use Rattle.zk_lines.proofs.Shown.{Shown, int_shown, long_shown, bit_shown, ro_shown, text_shown, blob_shown, event_code_shown, texts_shown, acls_shown}
 use Rattle.zk_lines.proofs.Rows.{IsItem, IsFields, field_of}
 
 item : {X : Type 0} {w : Wired X} {f : Form X} → Lawful f → Held w f → Shown f → IsItem f w.items
@@ -52,8 +56,26 @@ texts_item = item lists.texts_is names_held texts_shown
 pub acls_item : IsItem (list_of acl) (wired.vector records.acl).items
 acls_item = item lists.acls_is acls_held acls_shown
 
+-- two items with a comma between
+infixr 20 ◌beside◌
+◌beside◌ : {X Y : Type 0} {f : Form X} {g : Form Y} {v : X → List Item} {w : Y → List Item} → IsItem f v → IsItem g w → IsItem (row f g) (λ p. v p.0 ++ w p.1)
+◌beside◌ {f} {g} {v} {w} left right =
+    let others = field_of words.Comma right in
+    record {
+      lawful = and_is f left.lawful (field words.Comma g) others.is.lawful others.is.opens;
+      held = λ p h. let r = parted (v p.0) (w p.1) h in (left.held p.0 r.0, right.held p.1 r.1);
+      shown = λ p fit. joined (f.spell p.0) ((field words.Comma g).spell p.1) (left.shown p.0 fit.0) (others.shown p.1 fit.1);
+    }
+
 pub stat_item : IsItem stat records.stat.items
-stat_item = record { lawful = stat_is; held = stat_held; shown = stat_shown.shown }
+stat_item =
+    let numbers = long_item beside long_item beside long_item beside long_item beside int_item beside int_item beside int_item beside long_item beside int_item beside int_item beside long_item in
+    let opened = field_of words.Open numbers in
+    record {
+      lawful = fields_is _ (closed_is _ opened.is.lawful _ (word_stops words.Close)) _ _ (λ _. refl) (λ _. refl);
+      held = λ s h. opened.held (numbers_of s) h;
+      shown = λ s fit. joined _ (word_of words.Close) (opened.shown (numbers_of s) fit) (word_printed words.Close);
+    }
 
 -- ---- fields
 

@@ -1,6 +1,6 @@
 -- Two endings have two lines: a line is taken apart from the left, a word, a side or a number at a time.
-use Rattle.std.proofs.Common.{◌≡◌, ℕ, ◌+◌, ◌*◌, ◌<◌, ◌^◌, List, ◌++◌, length, take, drop, Bool, true, false, ◌==◌, refl, ap, sym, ◌∙◌, append_assoc, arith}
-use Rattle.std.specs.Prelude.{ℤ, slice_index, codes, if◌then◌else◌}
+use Rattle.std.proofs.Common.{◌≡◌, ℕ, ◌<◌, ◌^◌, List, [], ◌∷◌, ◌++◌, length, take, drop, Some, Bool, true, false, ◌==◌, refl, ap, sym, ◌∙◌, append_assoc, arith}
+use Rattle.std.specs.Prelude.{ℤ, slice_index, codes}
 use Rattle.std.specs.List.{prefix_len, AllByRecursion}
 use Rattle.std.specs.Fmt.{signed_decimal, decimal}
 use Rattle.std.specs.Str.Parse.{signed_digits_value}
@@ -17,6 +17,7 @@ use Rattle.zk_talk.specs.declared.message.Side.TheVariants as sides
 use Rattle.zk_talk.specs.declared.message.Fault.{Fault}
 use Rattle.zk_talk.specs.declared.message.Ending.{Ending}
 use Rattle.zk_talk.specs.declared.message.Ending.TheVariants as ending
+use Rattle.zk_lines.specs.Named.{first_named}
 use Rattle.zk_lines.specs.Endings.{side_name, sided, count, order_text, place_text, reason_text, ending_text, ReasonFits, EndingFits}
 
 -- ---- numbers and sides
@@ -72,28 +73,13 @@ is_order_of : (r : Reason) → is_order r ≡ true → (expected : ℤ) × (got 
 is_order_of (reasons.XidOrder expected got) is = (expected, got, refl)
 is_order_of _ is = absurd cc
 
--- the fourth and the fifth byte tell the others
-abbrev mark : List ℕ → ℕ
-mark name = slice_index name 3 * 256 + slice_index name 4
+-- the others are told by their names
+abbrev others : List Reason
+others =
+    reasons.Short ∷ reasons.BadBool ∷ reasons.BadLength ∷ reasons.BadText ∷ reasons.NoMemory ∷ reasons.Trailing ∷ reasons.UnknownOp ∷ reasons.XidOp
+    ∷ reasons.BadPart ∷ reasons.EventErr ∷ reasons.LengthRange ∷ reasons.QueueFull ∷ reasons.Unasked ∷ reasons.StreamEnd ∷ []
 
-abbrev marked : ℕ → Reason
-marked n =
-    if n == mark (codes "Short") then reasons.Short
-    else if n == mark (codes "BadBool") then reasons.BadBool
-    else if n == mark (codes "BadLength") then reasons.BadLength
-    else if n == mark (codes "BadText") then reasons.BadText
-    else if n == mark (codes "NoMemory") then reasons.NoMemory
-    else if n == mark (codes "Trailing") then reasons.Trailing
-    else if n == mark (codes "UnknownOp") then reasons.UnknownOp
-    else if n == mark (codes "XidOp") then reasons.XidOp
-    else if n == mark (codes "BadPart") then reasons.BadPart
-    else if n == mark (codes "EventErr") then reasons.EventErr
-    else if n == mark (codes "LengthRange") then reasons.LengthRange
-    else if n == mark (codes "QueueFull") then reasons.QueueFull
-    else if n == mark (codes "Unasked") then reasons.Unasked
-    else reasons.StreamEnd
-
-again : (r : Reason) → is_order r ≡ false → marked (mark (named r)) ≡ r
+again : (r : Reason) → is_order r ≡ false → first_named named others (named r) ≡ Some r
 again (reasons.XidOrder expected got) is = absurd cc
 again _ is = refl
 
@@ -115,7 +101,7 @@ reason_apart r s p q e = go (is_order r) (is_order s) refl refl where
   alike = sym (order_told r) ∙ ap (λ (b : List ℕ). slice_index b 4 == 114) e ∙ order_told s
 
   go : (b c : Bool) → is_order r ≡ b → is_order s ≡ c → r ≡ s
-  go false false i j = sym (again r i) ∙ ap (λ (b : List ℕ). marked (mark b)) e ∙ again s j
+  go false false i j = let k : Some r ≡ Some s = sym (again r i) ∙ ap (first_named named others) e ∙ again s j in cc
   go true false i j = absurd (let k : true ≡ false = sym i ∙ alike ∙ j in cc)
   go false true i j = absurd (let k : false ≡ true = sym i ∙ alike ∙ j in cc)
   go true true i j =

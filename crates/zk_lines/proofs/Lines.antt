@@ -51,6 +51,11 @@ whole_some None x e = absurd cc
 whole_some (Some (y, [])) x e = ap (λ (o : Option _). o >>= λ y. Some (y, [])) e
 whole_some (Some (y, b ∷ rest)) x e = absurd cc
 
+-- what is read of a client's line, by what its letters are
+abbrev pub asked_at : Bool → List ℕ → Read ClientFrame
+asked_at first bytes =
+    cond first (read_map (λ (p : ConnectRequest × Option Bool). client.Connect p.0 p.1) ((led (codes "connect") asks.connect).at bytes)) (read_map (λ (p : ℤ × Ask). client.Ask p.0 p.1) (asks.request.at bytes))
+
 connect_again : (p : ConnectRequest × Option Bool) → asks.connect.fits p → client_at ((codes "connect" ++ asks.connect.spell p) ++ []) ≡ Some (client.Connect p.0 p.1, [])
 unfolding word_of
 connect_again p fit = ap (read_map (λ (p : ConnectRequest × Option Bool). client.Connect p.0 p.1)) ((led_is (codes "connect") asks.connect connect_is.lawful).again p [] fit refl)
@@ -60,8 +65,7 @@ unfolding word_of
 ask_again xid a fit =
     let bytes = asks.request.spell (xid, a) in
     ap client_at (append-nil bytes)
-    ∙ ap (λ (t : Bool). cond t (read_map (λ (p : ConnectRequest × Option Bool). client.Connect p.0 p.1) ((led (codes "connect") asks.connect).at bytes)) (read_map (λ (p : ℤ × Ask). client.Ask p.0 p.1) (asks.request.at bytes)))
-    (number_letters 99 (codes "onnect") (omega arith) xid (asks.ask_form.spell a) fit.0)
+    ∙ ap (λ (t : Bool). asked_at t bytes) (number_letters 99 (codes "onnect") (omega arith) xid (asks.ask_form.spell a) fit.0)
     ∙ ap (λ (b : List ℕ). read_map (λ (p : ℤ × Ask). client.Ask p.0 p.1) (asks.request.at b)) (sym (append-nil bytes))
     ∙ ap (read_map (λ (p : ℤ × Ask). client.Ask p.0 p.1)) (request_is.again (xid, a) [] fit refl)
 
@@ -70,7 +74,7 @@ client_sound bytes f e = pick (bytes_eq (letters bytes) (codes "connect")) (whol
   Spelled : ClientFrame → Type 0
   Spelled f = (codes "C " ++ bytes ≡ client_line f) × ClientFits f
 
-  pick : (t : Bool) → cond t (read_map (λ (p : ConnectRequest × Option Bool). client.Connect p.0 p.1) ((led (codes "connect") asks.connect).at bytes)) (read_map (λ (p : ℤ × Ask). client.Ask p.0 p.1) (asks.request.at bytes)) ≡ Some (f, []) → Spelled f
+  pick : (t : Bool) → asked_at t bytes ≡ Some (f, []) → Spelled f
   pick true e =
       let m = mapped (led (codes "connect") asks.connect) (led_is (codes "connect") asks.connect connect_is.lawful) (λ (p : ConnectRequest × Option Bool). client.Connect p.0 p.1) bytes [] f e in
       subst Spelled m.1 (ap (λ (r : List ℕ). codes "C " ++ r) (m.2.0 ∙ append-nil (codes "connect" ++ asks.connect.spell m.0)), m.2.1)
@@ -88,9 +92,9 @@ event_again : (p : ℤ × WatcherEvent) → answers.event.fits p → server_at (
 unfolding word_of
 event_again p fit = ap (read_map (λ (p : ℤ × WatcherEvent). server.Event p.0 p.1)) ((led_is (codes "event") answers.event event_is.lawful).again p [] fit refl)
 
--- by what the letters are
-abbrev chosen : Bool → Bool → List ℕ → Read ServerFrame
-chosen first second bytes =
+-- what is read of a server's line, by what its letters are
+abbrev pub answered_at : Bool → Bool → List ℕ → Read ServerFrame
+answered_at first second bytes =
     cond first (read_map (λ (p : ConnectResponse × Option Bool). server.Connected p.0 p.1) ((led (codes "connect") answers.connected).at bytes))
     (cond second (read_map (λ (p : ℤ × WatcherEvent). server.Event p.0 p.1) ((led (codes "event") answers.event).at bytes)) (read_map server.Answered (answers.reply.at bytes)))
 
@@ -100,8 +104,8 @@ reply_again r fit =
     let bytes = answers.reply.spell r in
     let more = answers.named_outcome.spell (r.zxid, r.outcome) in
     ap server_at (append-nil bytes)
-    ∙ ap (λ (t : Bool). chosen t (bytes_eq (letters bytes) (codes "event")) bytes) (number_letters 99 (codes "onnect") (omega arith) r.xid more fit.0)
-    ∙ ap (λ (t : Bool). chosen false t bytes) (number_letters 101 (codes "vent") (omega arith) r.xid more fit.0)
+    ∙ ap (λ (t : Bool). answered_at t (bytes_eq (letters bytes) (codes "event")) bytes) (number_letters 99 (codes "onnect") (omega arith) r.xid more fit.0)
+    ∙ ap (λ (t : Bool). answered_at false t bytes) (number_letters 101 (codes "vent") (omega arith) r.xid more fit.0)
     ∙ ap (λ (b : List ℕ). read_map server.Answered (answers.reply.at b)) (sym (append-nil bytes))
     ∙ ap (read_map server.Answered) (reply_is.again r [] fit refl)
 
@@ -110,7 +114,7 @@ server_sound bytes f e = pick (bytes_eq (letters bytes) (codes "connect")) (byte
   Spelled : ServerFrame → Type 0
   Spelled f = (codes "S " ++ bytes ≡ server_line f) × ServerFits f
 
-  pick : (t u : Bool) → chosen t u bytes ≡ Some (f, []) → Spelled f
+  pick : (t u : Bool) → answered_at t u bytes ≡ Some (f, []) → Spelled f
   pick true u e =
       let m = mapped (led (codes "connect") answers.connected) (led_is (codes "connect") answers.connected connected_is.lawful) (λ (p : ConnectResponse × Option Bool). server.Connected p.0 p.1) bytes [] f e in
       subst Spelled m.1 (ap (λ (r : List ℕ). codes "S " ++ r) (m.2.0 ∙ append-nil (codes "connect" ++ answers.connected.spell m.0)), m.2.1)
@@ -176,14 +180,8 @@ message_found bytes m e = pick (word_at (codes "C ") bytes) refl e where
       subst Spelled s.2 (word_sound (codes "S ") bytes a.0 a.1 ∙ c.0, c.1)
 
 named_memory : (r : LineReason) → (r ≢ reasons.NoMemory → ⊥) → r ≡ reasons.NoMemory
-named_memory reasons.Word h = absurd (h (λ e. absurd cc))
-named_memory reasons.Number h = absurd (h (λ e. absurd cc))
-named_memory reasons.Text h = absurd (h (λ e. absurd cc))
-named_memory reasons.Blob h = absurd (h (λ e. absurd cc))
-named_memory reasons.Name h = absurd (h (λ e. absurd cc))
-named_memory reasons.Rest h = absurd (h (λ e. absurd cc))
 named_memory reasons.NoMemory h = refl
-named_memory reasons.Ending h = absurd (h (λ e. absurd cc))
+named_memory _ h = absurd (h (λ e. absurd cc))
 
 pub message_only : (bytes : List ℕ) (r : Result Message LineFault) → Answers r (message_at bytes) → (m : Message) → Fits m → bytes ≡ line m → Reads m r
 message_only bytes (Ok n) h m fit e = let k : message_at bytes ≡ Some m = ap message_at e ∙ line_again m fit in let j : Some n ≡ Some m = sym h ∙ k in cc

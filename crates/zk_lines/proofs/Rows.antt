@@ -97,37 +97,40 @@ row_sound (holds make f) is bytes rest y e = mapped f is make bytes rest y e
 abbrev pub IsMade : {K Y : Type 0} (row : K → Row Y) (write : Y → Written) (key : Y → K) (k : K) → Content (row k) → Type 1
 IsMade row write key k x = (write (remake (row k) x) ≡ written row k x) × (key (remake (row k) x) ≡ k)
 
+-- a row has the laws, and what it makes is written by it
+abbrev pub IsRowOf : {K Y : Type 0} (row : K → Row Y) (write : Y → Written) (key : Y → K) (items : Y → List Item) (k : K) → Type 1
+IsRowOf row write key items k = IsRow (form_of (row k)) (λ x. items (remake (row k) x)) × ((x : Content (row k)) → IsMade row write key k x)
+
 -- each value is made by a row
 pub record IsTable {K Y : Type 0} (row : K → Row Y) (write : Y → Written) (key : Y → K) (items : Y → List Item) : Type 1 where
   -- what holds of each value that a row makes holds of all
   pub each : (P : Y → Type 0) → ((k : K) (x : Content (row k)) → P (remake (row k) x)) → (y : Y) → P y
-  pub made : (k : K) (x : Content (row k)) → IsMade row write key k x
-  pub rows : (k : K) → IsRow (form_of (row k)) (λ x. items (remake (row k) x))
+  pub rows : (k : K) → IsRowOf row write key items k
 
 module _ {K Y : Type 0} {row : K → Row Y} {write : Y → Written} {key : Y → K} {items : Y → List Item} (table : IsTable row write key items) where
   -- what holds of all that rows write holds of how each value is written
   cases : (P : Y → Written → Type 0) → ((k : K) (x : Content (row k)) → P (remake (row k) x) (written row k x)) → (y : Y) → P y (write y)
-  cases P h = table.each (λ y. P y (write y)) (λ k x. subst (P (remake (row k) x)) (sym (table.made k x).0) (h k x))
+  cases P h = table.each (λ y. P y (write y)) (λ k x. subst (P (remake (row k) x)) (sym ((table.rows k).1 x).0) (h k x))
 
   pub table_opens : (y : Y) (rest : List ℕ) → stops rest ≡ true → stops ((write y).spell ++ rest) ≡ true
-  table_opens y rest stop = cases (λ y w. stops (w.spell ++ rest) ≡ true) (λ k x. (table.rows k).opens x rest stop) y
+  table_opens y rest stop = cases (λ y w. stops (w.spell ++ rest) ≡ true) (λ k x. (table.rows k).0.opens x rest stop) y
 
   pub table_again : (y : Y) (rest : List ℕ) → (write y).fits → stops rest ≡ true → row_at (row (key y)) ((write y).spell ++ rest) ≡ Some (y, rest)
   table_again y rest = cases (λ y w. w.fits → stops rest ≡ true → row_at (row (key y)) (w.spell ++ rest) ≡ Some (y, rest)) made y where
     made : (k : K) (x : Content (row k)) → (form_of (row k)).fits x → stops rest ≡ true → row_at (row (key (remake (row k) x))) ((form_of (row k)).spell x ++ rest) ≡ Some (remake (row k) x, rest)
-    made k x fit stop = ap (λ (j : K). row_at (row j) ((form_of (row k)).spell x ++ rest)) (table.made k x).1 ∙ row_again (row k) (table.rows k).lawful x rest fit stop
+    made k x fit stop = ap (λ (j : K). row_at (row j) ((form_of (row k)).spell x ++ rest)) ((table.rows k).1 x).1 ∙ row_again (row k) (table.rows k).0.lawful x rest fit stop
 
   pub table_sound : (k : K) (bytes : List ℕ) (y : Y) (rest : List ℕ) → row_at (row k) bytes ≡ Some (y, rest) → (key y ≡ k) × ((bytes ≡ (write y).spell ++ rest) × (write y).fits)
   table_sound k bytes y rest e =
-      let m = row_sound (row k) (table.rows k).lawful bytes rest y e in
+      let m = row_sound (row k) (table.rows k).0.lawful bytes rest y e in
       subst (λ (y : Y). (key y ≡ k) × ((bytes ≡ (write y).spell ++ rest) × (write y).fits)) m.1
-      ((table.made k m.0).1, subst (λ (w : Written). (bytes ≡ w.spell ++ rest) × w.fits) (sym (table.made k m.0).0) m.2)
+      (((table.rows k).1 m.0).1, subst (λ (w : Written). (bytes ≡ w.spell ++ rest) × w.fits) (sym ((table.rows k).1 m.0).0) m.2)
 
   pub table_held : (y : Y) → HaveBytes (items y) → (write y).fits
-  table_held = cases (λ y w. HaveBytes (items y) → w.fits) (λ k x. (table.rows k).held x)
+  table_held = cases (λ y w. HaveBytes (items y) → w.fits) (λ k x. (table.rows k).0.held x)
 
   pub table_shown : (y : Y) → (write y).fits → Printed (write y).spell
-  table_shown = cases (λ y w. w.fits → Printed w.spell) (λ k x. (table.rows k).shown x)
+  table_shown = cases (λ y w. w.fits → Printed w.spell) (λ k x. (table.rows k).0.shown x)
 
   pub table_is : {name : K → List ℕ} {key_at : List ℕ → Option K} → IsNames name key_at → Lawful (named (bodies_of name key_at key row write))
   table_is {name} {key_at} names = named_is (bodies_of name key_at key row write) (record {

@@ -1,11 +1,9 @@
 -- What fits is spelled by printed bytes: numbers, texts, blobs, lists, access lists and stats.
 use Rattle.std.proofs.Common.{◌≡◌, ℕ, List, [], ◌∷◌, ◌++◌, Option, Some, None, Bool, true, false, refl}
-use Rattle.std.specs.Prelude.{ℤ}
 use Rattle.std.specs.List.{flat_map, AllByRecursion}
 use Rattle.std.specs.Fmt.{signed_decimal}
 use Rattle.zk_jute.specs.Held.{Vector}
 use Rattle.zk_jute.specs.declared.value.Nullable.TheVariants as nullable
-use Rattle.zk_records.specs.declared.stat.Stat.{Stat}
 use Rattle.zk_items.specs.Form.{Form, ◌and◌}
 use Rattle.zk_items.specs.Leaf.{bit_spell, ro_spell, int, long, bit, ro, text, blob}
 use Rattle.zk_items.specs.Codes.{name_spell, error_name, type_name, error_code, failure_code, event_code}
@@ -13,7 +11,7 @@ use Rattle.zk_lines.specs.declared.word.Word.{Word}
 use Rattle.zk_lines.specs.declared.word.Word.TheVariants as words
 use Rattle.zk_lines.specs.Words.{word_of, field}
 use Rattle.zk_lines.specs.Series.{series, series_spell, list_of, list_spell, list_fits}
-use Rattle.zk_lines.specs.Records.{acl, stat, times, versions, sizes}
+use Rattle.zk_lines.specs.Records.{acl}
 use Rattle.zk_lines.proofs.LawsPrinted.{Printed, joined, number_printed, text_printed, blob_printed, word_printed, error_printed, type_printed, is_printed}
 
 -- ---- forms
@@ -89,25 +87,6 @@ list_shown {X} f is = record { shown = printed } where
 
 pub acl_shown : Shown acl
 acl_shown = record { shown = λ a fit. (int_shown with led_shown words.Colon text_shown with led_shown words.Colon text_shown).shown (a.perms, (a.who.scheme, a.who.ident)) fit }
-
-times_shown : Shown times
-times_shown = led_shown words.Open long_shown with led_shown words.Comma long_shown with led_shown words.Comma long_shown with led_shown words.Comma long_shown
-
-versions_shown : Shown versions
-versions_shown = led_shown words.Comma int_shown with led_shown words.Comma int_shown with led_shown words.Comma int_shown
-
-sizes_shown : Shown sizes
-sizes_shown = led_shown words.Comma long_shown with led_shown words.Comma int_shown with led_shown words.Comma int_shown with led_shown words.Comma long_shown
-
-numbers_shown : Shown (times and versions and sizes)
-numbers_shown = times_shown with versions_shown with sizes_shown
-
--- the numbers in the groups of their line
-abbrev grouped : Stat → (ℤ × (ℤ × (ℤ × ℤ))) × ((ℤ × (ℤ × ℤ)) × (ℤ × (ℤ × (ℤ × ℤ))))
-grouped s = ((s.czxid, (s.mzxid, (s.ctime, s.mtime))), ((s.version, (s.cversion, s.aversion)), (s.ephemeral_owner, (s.data_length, (s.num_children, s.pzxid)))))
-
-pub stat_shown : Shown stat
-stat_shown = record { shown = λ s fit. joined ((times and versions and sizes).spell (grouped s)) (word_of words.Close) (numbers_shown.shown (grouped s) fit) (word_printed words.Close) }
 
 pub acls_shown : Shown (list_of acl)
 acls_shown = list_shown acl acl_shown

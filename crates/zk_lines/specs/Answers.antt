@@ -7,7 +7,8 @@ use Rattle.zk_records.specs.declared.event.WatcherEventOf.{WatcherEventOf}
 use Rattle.zk_records.specs.declared.stat.Stat.{Stat}
 use Rattle.zk_records.specs.declared.op.Op.{Op}
 use Rattle.zk_records.specs.declared.op.Op.TheVariants as ops
-use Rattle.zk_records.specs.Codes.{op_name}
+use Rattle.zk_records.specs.declared.op.PartOp.TheVariants as parts
+use Rattle.zk_records.specs.Codes.{op_name, part_name}
 use Rattle.zk_answers.specs.Held.{PartDone, Body, Outcome, Reply}
 use Rattle.zk_answers.specs.declared.frame.PartDoneOf.TheVariants as done
 use Rattle.zk_answers.specs.declared.frame.OutcomeOf.TheVariants as outcome
@@ -72,11 +73,12 @@ children = fields (with_stat words.Names (list_of text)) (λ b. (b.names, b.stat
 
 -- ---- results of a multi
 
+-- the name of the part, or that of a failure
 abbrev pub done_name : DoneName → List ℕ
-done_name names.Create = codes "create"
-done_name names.Delete = codes "delete"
-done_name names.SetData = codes "setData"
-done_name names.Check = codes "check"
+done_name names.Create = part_name parts.Create
+done_name names.Delete = part_name parts.Delete
+done_name names.SetData = part_name parts.SetData
+done_name names.Check = part_name parts.Check
 done_name names.Fail = codes "fail"
 
 abbrev pub all_dones : List DoneName

@@ -1,5 +1,5 @@
 -- The lines of what a client sends.
-use Rattle.std.specs.Prelude.{ℕ, ℤ, List, [], ◌∷◌, Option, Bool}
+use Rattle.std.specs.Prelude.{ℕ, ℤ, List, Option, Bool}
 use Rattle.zk_records.specs.Held.{ConnectRequest, CreateAsk, DeleteAsk, SetDataAsk, SetAclAsk, CheckAsk, WatchAsk, PathAsk, AuthAsk, SetWatchesAsk}
 use Rattle.zk_records.specs.declared.connect.ConnectRequestOf.{ConnectRequestOf}
 use Rattle.zk_records.specs.declared.ask.CreateAskOf.{CreateAskOf}

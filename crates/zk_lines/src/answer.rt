@@ -46,6 +46,7 @@ fn read_outcome(line: &mut Reader<'_>, op: Op) -> Result<Outcome, LineFault>
     }
 }
 
+#[tactic(auto, using(zk_items::proofs::Kept::then_spelled))]
 fn put_failure(out: &mut Vec<u8>, failure: &Failure) -> Result<(), AllocError>
     ensures spelled { OnOk result (out.new.items ≡ out.old.items ++ (word_of words.Err ++ failure_code.spell failure.now)) }
     ensures fits { OnOk result (failure_code.fits failure.now) }
@@ -104,6 +105,7 @@ fn read_reply(line: &mut Reader<'_>) -> Result<Reply, LineFault>
 }
 
 /// Appends a reply: its xid, its operation's name, its zxid and its outcome.
+#[tactic(auto, using(zk_items::proofs::Kept::then_spelled, zk_items::proofs::Kept::keeps_more))]
 fn put_named<O: Put>(
     out: &mut Vec<u8>,
     xid: i32,

@@ -4,9 +4,6 @@ ghost use Rattle.zk_answers.specs.Rows.{body_items};
 ghost use Rattle.zk_items.specs.Copied.{Copied};
 ghost use Rattle.zk_items.specs.Form.{Gives, Keeps};
 ghost use Rattle.zk_lines.specs.Copied.{with_stat};
-ghost use Rattle.zk_lines.specs.Words.{word_of};
-ghost use Rattle.zk_lines.specs.declared.word.Word.TheVariants as words;
-ghost use Rattle.zk_lines.specs.Records as records;
 ghost use Rattle.zk_lines.specs.Answers as answers;
 ghost use Rattle.zk_lines.specs.Rows.{only_written, row_at};
 

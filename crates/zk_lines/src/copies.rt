@@ -76,39 +76,37 @@ pub fn copy_multi<T: Copies>(line: &mut Reader<'_>, out: &mut Vec<u8>) -> Option
     append_header(out, -1, true, -1)
 }
 
-impl Copies for i32 {
-    fn copy(line: &mut Reader<'_>, out: &mut Vec<u8>) -> Option<()> {
-        let Ok(number) = line.int() else {
+/// `append_read!(out, read)` appends the bytes of what was read.
+macro_rules! append_read {
+    ($out:ident, $read:expr) => {{
+        let Ok(value) = $read else {
             return None;
         };
-        append(out, &number)
+        append($out, &value)
+    }};
+}
+
+impl Copies for i32 {
+    fn copy(line: &mut Reader<'_>, out: &mut Vec<u8>) -> Option<()> {
+        append_read!(out, line.int())
     }
 }
 
 impl Copies for i64 {
     fn copy(line: &mut Reader<'_>, out: &mut Vec<u8>) -> Option<()> {
-        let Ok(number) = line.long() else {
-            return None;
-        };
-        append(out, &number)
+        append_read!(out, line.long())
     }
 }
 
 impl Copies for bool {
     fn copy(line: &mut Reader<'_>, out: &mut Vec<u8>) -> Option<()> {
-        let Ok(bit) = line.bit() else {
-            return None;
-        };
-        append(out, &bit)
+        append_read!(out, line.bit())
     }
 }
 
 impl Copies for Option<bool> {
     fn copy(line: &mut Reader<'_>, out: &mut Vec<u8>) -> Option<()> {
-        let Ok(bit) = line.read_only() else {
-            return None;
-        };
-        append(out, &bit)
+        append_read!(out, line.read_only())
     }
 }
 
@@ -126,9 +124,6 @@ impl Copies for Blob {
 
 impl Copies for Stat {
     fn copy(line: &mut Reader<'_>, out: &mut Vec<u8>) -> Option<()> {
-        let Ok(stat) = Stat::read(line) else {
-            return None;
-        };
-        append(out, &stat)
+        append_read!(out, Stat::read(line))
     }
 }

@@ -85,6 +85,7 @@ fn read_done(line: &mut Reader<'_>, name: DoneName) -> Result<PartDone, LineFaul
     })
 }
 
+#[tactic(auto, using(zk_items::proofs::Kept::then_spelled))]
 fn put_failed(out: &mut Vec<u8>, number: i32) -> Result<(), AllocError>
     ensures spelled { OnOk result (out.new.items ≡ out.old.items ++ (word_of Err ++ error_code.spell number)) }
     ensures fits { OnOk result (error_code.fits number) }

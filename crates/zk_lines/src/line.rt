@@ -39,6 +39,7 @@ impl Put for Message {
 impl<'a> Put for MessageRef<'a> {
     ghost form = { only_written Fits lines.line };
 
+    #[inline]
     fn put(&self, out: &mut Vec<u8>) -> Result<(), AllocError> {
         message!(out, self)
     }

@@ -6,12 +6,13 @@ ghost use Rattle.zk_lines.specs.Answers as answers;
 use crate::done::{DoneName, done_name};
 use zk_records::{Op, PartOp, op_rows, part_codes};
 
-/// Whether `name` is `text`.
+/// Whether `name`, of a line, is `row_name`, the name in a row of the operations or parts.
+// Inlined, so that the name of the row is known where it is compared.
 #[inline(always)]
-fn is(name: &[u8], text: &str) -> bool
-    ensures { result ≡ bytes_eq name.now text.now }
+fn is_row_name(name: &[u8], row_name: &str) -> bool
+    ensures { result ≡ bytes_eq name.now row_name.now }
 {
-    name == text.as_bytes()
+    name == row_name.as_bytes()
 }
 
 /// The operation whose name is `name`; `None` if there is none.
@@ -21,7 +22,7 @@ pub fn op_named(name: &[u8]) -> Option<Op>
 {
     macro_rules! row {
         ($name:ident: $($release:ident: $($op:ident $code:literal $text:literal),+);+) => {{
-            $($(if is($name, $text) {
+            $($(if is_row_name($name, $text) {
                 return Some(Op::$op);
             })+)+
             None
@@ -37,7 +38,7 @@ pub fn part_named(name: &[u8]) -> Option<PartOp>
 {
     macro_rules! row {
         ($name:ident: $($op:ident $code:literal $text:literal),+) => {{
-            $(if is($name, $text) {
+            $(if is_row_name($name, $text) {
                 return Some(PartOp::$op);
             })+
             None

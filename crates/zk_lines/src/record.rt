@@ -1,6 +1,6 @@
 //! Two records that are items of a line: an entry of an access list, and a `Stat`.
-ghost use Rattle.std.specs.Prelude.{◌≡◌, ◌++◌, ◌+◌, ◌<◌, ◌≤◌, OnOk, length, drop};
-ghost use Rattle.zk_items.specs.Form.{Gives, Keeps};
+ghost use Rattle.std.specs.Prelude.{◌≡◌, ◌++◌, ◌∷◌, ◌+◌, ◌<◌, ◌≤◌, ℕ, OnOk, length, drop};
+ghost use Rattle.zk_items.specs.Form.{Form, Gives, Keeps};
 ghost use Rattle.zk_items.specs.Leaf.{int};
 ghost use Rattle.zk_lines.specs.Records as records;
 
@@ -11,9 +11,10 @@ use crate::word::{Word, read_word};
 use std::alloc::AllocError;
 use zk_items::{LineFault, Reader, int_before, long_before, put_int};
 use zk_jute::Text;
-use zk_records::{Acl, AclOf, IdOf, Stat};
+use zk_records::{Acl, AclOf, IdOf, Stat, fields_of};
 
 /// Appends an entry of an access list: its bits, and its two texts, each after a colon.
+#[tactic(auto, using(zk_items::proofs::Kept::then_spelled))]
 fn put_entry<T: Put>(out: &mut Vec<u8>, perms: i32, scheme: &T, ident: &T) -> Result<(), AllocError>
     ensures spelled { OnOk result (out.new.items ≡ out.old.items ++ records.entry T.form.spell perms scheme.now ident.now) }
     ensures fits { OnOk result (int.fits perms × (T.form.fits scheme.now × T.form.fits ident.now)) }
@@ -55,25 +56,114 @@ impl Copies for Acl {
     }
 }
 
+/// Numbers in a row: one, or one and others after a comma.
+trait Numbers: Sized + Drop {
+    ghost form: { Form Self };
+
+    /// The bytes that they and a sign before each take at most.
+    ghost most: { ℕ };
+
+    /// Reads the numbers.
+    fn read(line: &mut Reader<'_>) -> Result<Self, LineFault>
+        ensures { Gives result line.new (Self.form.at line.old) };
+
+    /// Writes `sign` and after it the numbers, so that they end at `end`; returns where they begin.
+    // From the last number on, as `long_before` writes, so that all are copied once.
+    fn write_before(&self, room: &mut [u8], end: usize, sign: u8) -> usize
+        requires room { (Self.most ≤ end) × (end ≤ length room.old) }
+        ensures near { (end ≤ result + Self.most) × (result < end) }
+        ensures written { drop result room.new ≡ sign ∷ (Self.form.spell self.now ++ drop end room.old) }
+        ensures fits { Self.form.fits self.now };
+}
+
+impl Numbers for i64 {
+    ghost use Rattle.zk_items.specs.Leaf.{long};
+
+    ghost form = { long };
+
+    ghost most = { 21 };
+
+    #[inline(always)]
+    fn read(line: &mut Reader<'_>) -> Result<Self, LineFault> {
+        line.long()
+    }
+
+    #[inline(always)]
+    fn write_before(&self, room: &mut [u8], end: usize, sign: u8) -> usize {
+        long_before(room, end, sign, *self)
+    }
+}
+
+impl Numbers for i32 {
+    ghost use Rattle.zk_items.specs.Leaf.{int};
+
+    ghost form = { int };
+
+    ghost most = { 21 };
+
+    #[inline(always)]
+    fn read(line: &mut Reader<'_>) -> Result<Self, LineFault> {
+        line.int()
+    }
+
+    #[inline(always)]
+    fn write_before(&self, room: &mut [u8], end: usize, sign: u8) -> usize {
+        int_before(room, end, sign, *self)
+    }
+}
+
+impl<A: Numbers, B: Numbers> Numbers for (A, B) {
+    ghost use Rattle.std.specs.Prelude.{◌+◌};
+    ghost use Rattle.zk_lines.specs.Records.{row};
+
+    ghost form = { row A.form B.form };
+
+    ghost most = { A.most + B.most };
+
+    #[inline(always)]
+    fn read(line: &mut Reader<'_>) -> Result<Self, LineFault> {
+        let first = A::read(line)?;
+        read_word(line, Word::Comma)?;
+        let others = B::read(line)?;
+        Ok((first, others))
+    }
+
+    #[inline(always)]
+    #[tactic(auto, using(crate::proofs::Records::row_written), unfolding(crate::specs::Words::word_of))]
+    fn write_before(&self, room: &mut [u8], end: usize, sign: u8) -> usize {
+        let at = self.1.write_before(room, end, b',');
+        self.0.write_before(room, at, sign)
+    }
+}
+
+/// `fields_of!(R, row, record)` is `(record.a, (record.b, record.c))`, the numbers of the record as a row.
+macro_rules! row {
+    ($record:ident: $last:ident $name:ident $kind:ident) => { $record.$last };
+    ($record:ident: $first:ident $name:ident $kind:ident, $($rest:tt)+) => {
+        ($record.$first, row!($record: $($rest)+))
+    };
+}
+
+/// `row_let!(a, b, c)` is the pattern `(a, (b, c))`.
+macro_rules! row_let {
+    ($last:ident) => { $last };
+    ($first:ident, $($rest:ident),+) => { ($first, row_let!($($rest),+)) };
+}
+
+/// `fields_of!(R, read_row, line, R)` reads the numbers of the record as a row.
+macro_rules! read_row {
+    ($line:ident, $record:ident: $($field:ident $name:ident $kind:ident),+) => {{
+        let row_let!($($field),+) = Numbers::read($line)?;
+        $record { $($field),+ }
+    }};
+}
+
 impl Item for Stat {
     fn read(line: &mut Reader<'_>) -> Result<Self, LineFault> {
-        let (czxid, (mzxid, (ctime, mtime))) = times(line)?;
-        let (version, (cversion, aversion)) = versions(line)?;
-        let (ephemeral_owner, (data_length, (num_children, pzxid))) = sizes(line)?;
+        read_word(line, Word::Open)?;
+        let stat = fields_of!(Stat, read_row, line, Stat);
         read_word(line, Word::Close)?;
-        Ok(Stat {
-            czxid,
-            mzxid,
-            ctime,
-            mtime,
-            version,
-            cversion,
-            aversion,
-            ephemeral_owner,
-            data_length,
-            num_children,
-            pzxid,
-        })
+        Ok(stat)
     }
 }
 
@@ -89,85 +179,16 @@ impl Put for Stat {
     }
 }
 
-/// Reads the times of a `Stat`: czxid, mzxid, ctime, mtime.
-fn times(line: &mut Reader<'_>) -> Result<(i64, (i64, (i64, i64))), LineFault>
-    ensures { Gives result line.new (records.times.at line.old) }
-{
-    let czxid = read_field(line, Word::Open)?;
-    let mzxid = read_field(line, Word::Comma)?;
-    let ctime = read_field(line, Word::Comma)?;
-    let mtime = read_field(line, Word::Comma)?;
-    Ok((czxid, (mzxid, (ctime, mtime))))
-}
-
-/// Reads the versions of a `Stat`: version, cversion, aversion.
-fn versions(line: &mut Reader<'_>) -> Result<(i32, (i32, i32)), LineFault>
-    ensures { Gives result line.new (records.versions.at line.old) }
-{
-    let version = read_field(line, Word::Comma)?;
-    let cversion = read_field(line, Word::Comma)?;
-    let aversion = read_field(line, Word::Comma)?;
-    Ok((version, (cversion, aversion)))
-}
-
-/// Reads the rest of a `Stat`: ephemeral owner, data length, number of children, pzxid.
-fn sizes(line: &mut Reader<'_>) -> Result<(i64, (i32, (i32, i64))), LineFault>
-    ensures { Gives result line.new (records.sizes.at line.old) }
-{
-    let ephemeral_owner = read_field(line, Word::Comma)?;
-    let data_length = read_field(line, Word::Comma)?;
-    let num_children = read_field(line, Word::Comma)?;
-    let pzxid = read_field(line, Word::Comma)?;
-    Ok((ephemeral_owner, (data_length, (num_children, pzxid))))
-}
-
 /// Room for the longest `Stat`: eleven numbers of at most twenty bytes, a sign before each, and one after them.
 const STAT_ROOM: usize = 11 * 21 + 1;
 
-fn write_times(room: &mut [u8], end: usize, stat: &Stat) -> usize
-    requires room { (84 ≤ end) × (end ≤ length room.old) }
-    ensures near { (end ≤ result + 84) × (result < end) }
-    ensures written { drop result room.new ≡ records.times.spell (records.times_of stat.now) ++ drop end room.old }
-    ensures fits { records.times.fits (records.times_of stat.now) }
-{
-    let mtime = long_before(room, end, b',', stat.mtime);
-    let ctime = long_before(room, mtime, b',', stat.ctime);
-    let mzxid = long_before(room, ctime, b',', stat.mzxid);
-    long_before(room, mzxid, b'(', stat.czxid)
-}
-
-fn write_versions(room: &mut [u8], end: usize, stat: &Stat) -> usize
-    requires room { (63 ≤ end) × (end ≤ length room.old) }
-    ensures near { (end ≤ result + 63) × (result < end) }
-    ensures written { drop result room.new ≡ records.versions.spell (records.versions_of stat.now) ++ drop end room.old }
-    ensures fits { records.versions.fits (records.versions_of stat.now) }
-{
-    let aversion = int_before(room, end, b',', stat.aversion);
-    let cversion = int_before(room, aversion, b',', stat.cversion);
-    int_before(room, cversion, b',', stat.version)
-}
-
-fn write_sizes(room: &mut [u8], end: usize, stat: &Stat) -> usize
-    requires room { (84 ≤ end) × (end ≤ length room.old) }
-    ensures near { (end ≤ result + 84) × (result < end) }
-    ensures written { drop result room.new ≡ records.sizes.spell (records.sizes_of stat.now) ++ drop end room.old }
-    ensures fits { records.sizes.fits (records.sizes_of stat.now) }
-{
-    let pzxid = long_before(room, end, b',', stat.pzxid);
-    let num_children = int_before(room, pzxid, b',', stat.num_children);
-    let data_length = int_before(room, num_children, b',', stat.data_length);
-    long_before(room, data_length, b',', stat.ephemeral_owner)
-}
-
 /// Writes `stat` at the end of `room`, and returns where it begins.
-// From its last number on, as `long_before` writes, so that it is copied once.
 fn write_stat(room: &mut [u8; STAT_ROOM], stat: &Stat) -> usize
     ensures within { result < 232 }
     ensures written { drop result room.new ≡ records.stat.spell stat.now }
     ensures fits { records.stat.fits stat.now }
 {
     room[STAT_ROOM - 1] = b')';
-    let sizes = write_sizes(room, STAT_ROOM - 1, stat);
-    let versions = write_versions(room, sizes, stat);
-    write_times(room, versions, stat)
+    let numbers = fields_of!(Stat, row, stat);
+    numbers.write_before(room, STAT_ROOM - 1, b'(')
 }

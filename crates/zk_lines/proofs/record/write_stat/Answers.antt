@@ -1,9 +1,9 @@
-use Rattle.std.proofs.Common.{rules, arith, ◌≡◌, ◌∷◌, [], ◌++◌, ◌+◌, ◌∙◌, ap, ap₂, sym, append_assoc, List, ℕ, suc, length, drop, set}
+use Rattle.std.proofs.Common.{rules, arith, ℤ, SFits, w32, w64, to_z, of_z, to_z-of_z, ◌≡◌, ◌∷◌, [], ◌++◌, ◌+◌, ◌∙◌, ap, ap₂, List, ℕ, suc, length, drop, set}
 use Rattle.std.proofs.Math.ListN.{drop_of_length-le}
 use Rattle.std.proofs.Math.Seq.{drop-cons}
 use Rattle.std.proofs.lemmas.List.{get_or-set_same, length-set}
 use Rattle.zk_lines.specs.Words.{word_of}
-use Rattle.zk_lines.specs.Records.{times, times_of, versions, versions_of, sizes, sizes_of}
+use Rattle.zk_lines.specs.Records.{numbers, numbers_of}
 use Rattle.zk_lines.proofs.record.write_stat.Goals as goal
 
 last : (n : ℕ) (l : List ℕ) (b : ℕ) → length l ≡ n + 1 → drop n (set l n b) ≡ b ∷ []
@@ -17,11 +17,21 @@ pub returns-clause-written : goal.returns-clause-written
 unfolding word_of
 returns-clause-written c =
     let s = c.args.stat.now in
-    let t : List ℕ = times.spell (times_of s) in
-    let v : List ℕ = versions.spell (versions_of s) in
-    let z : List ℕ = sizes.spell (sizes_of s) in
-    let closing = ap (λ (l : List ℕ). z ++ l) (last 231 c.args.room.now 41 (search rules)) in
-    let all = t ++ (v ++ (z ++ (41 ∷ []))) in
-    let written : drop c.write_times.result c.write_times.new.room ≡ all =
-    c.write_times.ensures.written ∙ ap (λ (l : List ℕ). t ++ l) (c.write_versions-versions.ensures.written ∙ ap (λ (l : List ℕ). v ++ l) (c.write_sizes-sizes.ensures.written ∙ closing)) in
-    written ∙ ap (λ (l : List ℕ). t ++ l) (sym (append_assoc v z (41 ∷ []))) ∙ sym (append_assoc t (v ++ z) (41 ∷ []))
+    let n : List ℕ = numbers.spell (numbers_of s) in
+    let long : (z : ℤ) → SFits w64 z → to_z w64 (of_z w64 z) ≡ z = λ z fit. to_z-of_z fit in
+    let int : (z : ℤ) → SFits w32 z → to_z w32 (of_z w32 z) ≡ z = λ z fit. to_z-of_z fit in
+    let written : drop c.write_before.result c.write_before.new.room ≡ 40 ∷ (n ++ drop 231 (set c.args.room.now 231 41)) =
+    simp (
+      long s.czxid (search rules),
+      long s.mzxid (search rules),
+      long s.ctime (search rules),
+      long s.mtime (search rules),
+      int s.version (search rules),
+      int s.cversion (search rules),
+      int s.aversion (search rules),
+      long s.ephemeral_owner (search rules),
+      int s.data_length (search rules),
+      int s.num_children (search rules),
+      long s.pzxid (search rules),
+    ) at c.write_before.ensures.written in
+    written ∙ ap (λ (l : List ℕ). 40 ∷ (n ++ l)) (last 231 c.args.room.now 41 (search rules))
