@@ -58,6 +58,22 @@ pub(crate) fn keeps<F: FnMut(&str) -> Result<String, Fail>>(
     Ok(())
 }
 
+/// What `told` gives for each row, in order, is what the row says, and no more.
+pub(crate) fn answers<F: FnMut(&str) -> Result<String, Fail>>(
+    rt: &impl Abort,
+    rows: &str,
+    mut told: F,
+) -> Result<(), Fail>
+    requires { F.IsAlwaysCallable told }
+{
+    for row in rows.lines() {
+        let (asked, want) = row.split_once(" = ").ok_or("no row")?;
+        let found = told(asked)?;
+        assert!(rt; found.as_str() == want, "{asked} = {found}");
+    }
+    Ok(())
+}
+
 /// The side of a row, `C` or `S`, and the bytes of the hexadecimal digits after it.
 pub(crate) fn piece(alloc: Global, row: &str) -> Result<(Side, Vec<u8>), Fail> {
     let (letter, digits) = row.split_once(' ').ok_or("no side")?;

@@ -1,5 +1,5 @@
 //! Tests of `Through`, call by call: what each step returns, what then waits and is left out, and how it ends.
-use crate::frames::{keeps, piece, usual};
+use crate::frames::{answers, keeps, piece, usual};
 use std::alloc::Global;
 use std::process::Abort;
 use std::test::Fail;
@@ -217,7 +217,7 @@ fn answers_anew(rt: &impl Abort, alloc: Global, through: &mut Through) -> Result
     for _ in 0..2 {
         assert!(rt; through.answered().is_none());
         goes_on(rt, alloc, through, CONNECTED)?;
-        keeps(rt, ANSWERS, |row| answered(alloc, through, row))?;
+        answers(rt, ANSWERS, |row| answered(alloc, through, row))?;
         through.renew();
     }
     Ok(())
