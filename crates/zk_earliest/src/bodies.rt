@@ -41,6 +41,7 @@ fn none(bytes: &[u8]) -> Option<usize>
     if bytes.is_empty() { Some(0) } else { None }
 }
 
+#[tactic(auto, using(crate::proofs::Known::of_asked, crate::proofs::Known::of_multi))]
 fn asked(op: Op, bytes: &[u8]) -> Option<usize>
     requires { length bytes.now < 2 ^ 31 }
     ensures { IsEarliestOf (layouts.Asked op) bytes.now result }
@@ -48,7 +49,7 @@ fn asked(op: Op, bytes: &[u8]) -> Option<usize>
     macro_rules! row {
         ($op:ident: $($($held:ident)|+: $record:ident $borrowed:ident),+; $($bare:ident)|+) => {
             match $op {
-                $($(Op::$held)|+ => longest::<fields_of!($record, values, type)>(bytes),)+
+                $($(Op::$held => longest::<fields_of!($record, values, type)>(bytes),)+)+
                 $(Op::$bare => none(bytes),)+
                 Op::Multi => longest_multi(bytes),
             }
@@ -57,6 +58,7 @@ fn asked(op: Op, bytes: &[u8]) -> Option<usize>
     ask_rows!(row, op)
 }
 
+#[tactic(auto, using(crate::proofs::Known::of_answered))]
 fn answered(op: Op, bytes: &[u8]) -> Option<usize>
     requires frame { length bytes.now < 2 ^ 31 }
     requires known { op ≢ ops.Multi }
