@@ -80,6 +80,7 @@ fn answered(op: Op, bytes: &[u8]) -> Option<usize>
 
 /// The number of bytes at the front of `bytes` that a body of `layout` with just that many bytes in all can begin with,
 /// at the most; `None` if no such body has the length of `bytes`. So the byte after them is the first impossible one.
+#[tactic(auto, using(crate::proofs::Known::of_layout, crate::proofs::Known::of_record))]
 pub fn earliest(layout: Layout, bytes: &[u8]) -> Option<usize>
     requires frame { length bytes.now < 2 ^ 31 }
     // The results of a multi have the layout of its request's parts, which isn't known here.
