@@ -1,5 +1,5 @@
 -- What comes after the headers of a multi.
-use Rattle.std.specs.Prelude.{ℤ, negsuc, false, if◌then◌else◌, List, [], ◌∷◌, Option, Some, None}
+use Rattle.std.specs.Prelude.{ℤ, negsuc, false, if◌then◌else◌, List, ◌∷◌, Option, Some, None}
 use Rattle.std.specs.List.{find}
 use Rattle.std.specs.Ordering.{int_eq}
 use Rattle.std.specs.Option.{option_map}

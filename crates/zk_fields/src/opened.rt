@@ -1,10 +1,10 @@
 //! `opened_fields`: the fields of any payload, up to a place.
-ghost use Rattle.std.specs.Prelude.{◌≡◌, ◌≤◌, ◌<◌, ◌^◌, length, take, IfOk, IfSome};
+ghost use Rattle.std.specs.Prelude.{◌≡◌, ℕ, ◌≤◌, ◌<◌, ◌^◌, List, length, take, IfOk, IfSome};
 ghost use Rattle.zk_jute.specs.Reading.{Tells};
 ghost use Rattle.zk_fields.specs.Frames.{AreWritten};
 ghost use Rattle.zk_fields.specs.Heads.{OfHead, headed_part, headed_result, headed_shape};
 ghost use Rattle.zk_fields.specs.Rows.{ask_content, body_content};
-ghost use Rattle.zk_fields.specs.Walks.{Walks, walk, head_met, header_at, under, content_met, opened_content, opened_start, opened_fields};
+ghost use Rattle.zk_fields.specs.Walks.{Met, Walks, walk, head_met, header_at, content_met, opened_content, opened_start, opened_fields};
 
 use crate::ask::show_head;
 use crate::field::{At, Field};
@@ -52,7 +52,7 @@ pub enum Headed {
     Error,
 }
 
-/// A multi, by what follows its headers.
+/// The body of a request or a reply; of a multi's, what follows its headers.
 trait Multi: Sized {
     ghost headed: { OfHead };
 
@@ -61,11 +61,11 @@ trait Multi: Sized {
         ensures { result ≡ headed header.now };
 }
 
-/// That of a request.
-#[derive(Drop)]
-struct Parts {}
+/// The body of a request of this operation.
+#[derive(Clone, Copy)]
+struct Asked(Op);
 
-impl Multi for Parts {
+impl Multi for Asked {
     ghost headed = { headed_part };
 
     #[tactic(auto, using(crate::proofs::Heads::part_end, crate::proofs::Heads::part_none, crate::proofs::Heads::part_some))]
@@ -80,11 +80,11 @@ impl Multi for Parts {
     }
 }
 
-/// That of a reply.
-#[derive(Drop)]
-struct Results {}
+/// The body of a reply to a request of this operation.
+#[derive(Clone, Copy)]
+struct Answered(Op);
 
-impl Multi for Results {
+impl Multi for Answered {
     ghost headed = { headed_result };
 
     #[tactic(auto, using(crate::proofs::Heads::result_end, crate::proofs::Heads::result_error, crate::proofs::Heads::result_none, crate::proofs::Heads::result_some))]
@@ -102,53 +102,35 @@ impl Multi for Results {
     }
 }
 
-/// Writes the fields of what follows a header.
-fn walk_headed<'a>(
-    headed: Headed,
-    payload: &'a [u8],
-    place: usize,
-    room: &mut [Field],
-    at: At,
-) -> Walked
-    requires { place ≤ length payload.now }
-    ensures walks { Walks at room.old (walk (headed_shape headed) payload.now place) result room.new }
-    ensures within { IfSome result.end (λ end. end ≤ length payload.now) }
-{
-    macro_rules! row {
-        ($headed:ident: $($op:ident: $record:ident $borrowed:ident),+) => {
-            match $headed {
-                $(Headed::Part(PartOp::$op) => fields_of!($record, walk_fields, payload, place, room, at),)+
-                Headed::Own(PartOp::Create) => TextRef::walk(payload, place, PATH, room, at),
-                Headed::Own(PartOp::SetData) => Stat::walk(payload, place, NONE, room, at),
-                Headed::Own(PartOp::Delete) => walk_nothing(place, at),
-                Headed::Own(PartOp::Check) => walk_nothing(place, at),
-                Headed::Error => i32::walk(payload, place, ERR, room, at),
-            }
-        };
-    }
-    part_rows!(row, headed)
+/// What the bytes from a place on are read as.
+trait WalkAs: Copy {
+    /// The entries that are whole there.
+    ghost met: { Self → List ℕ → ℕ → Met };
+
+    /// Writes their fields, as many as `room` has places for.
+    fn walk_as(self, payload: &[u8], place: usize, room: &mut [Field], at: At) -> Walked
+        requires { place ≤ length payload.now }
+        ensures walks { Walks at room.old (met self payload.now place) result room.new }
+        ensures within { IfSome result.end (λ end. end ≤ length payload.now) };
 }
 
-/// Writes the fields of a header and of what follows it.
-#[tactic(auto, using(crate::proofs::Walking::none_under, crate::proofs::Walking::walks_under))]
-fn walk_under<'a>(
-    header: &MultiHeader,
-    headed: Option<Headed>,
-    payload: &'a [u8],
-    place: usize,
-    room: &mut [Field],
-    at: At,
-) -> Walked
-    requires { place ≤ length payload.now }
-    ensures walks { Walks at room.old (under header.now headed payload.now place) result room.new }
-    ensures within { IfSome result.end (λ end. end ≤ length payload.now) }
-{
-    match headed {
-        Some(headed) => {
-            let at = show_head(header, room, at);
-            walk_headed(headed, payload, place, room, at)
+impl WalkAs for Headed {
+    ghost met = { λ headed. walk (headed_shape headed) };
+
+    fn walk_as(self, payload: &[u8], place: usize, room: &mut [Field], at: At) -> Walked {
+        macro_rules! row {
+            ($headed:ident: $($op:ident: $record:ident $borrowed:ident),+) => {
+                match $headed {
+                    $(Headed::Part(PartOp::$op) => fields_of!($record, walk_fields, payload, place, room, at),)+
+                    Headed::Own(PartOp::Create) => TextRef::walk(payload, place, PATH, room, at),
+                    Headed::Own(PartOp::SetData) => Stat::walk(payload, place, NONE, room, at),
+                    Headed::Own(PartOp::Delete) => walk_nothing(place, at),
+                    Headed::Own(PartOp::Check) => walk_nothing(place, at),
+                    Headed::Error => i32::walk(payload, place, ERR, room, at),
+                }
+            };
         }
-        None => Walked { at, end: None },
+        part_rows!(row, self)
     }
 }
 
@@ -163,80 +145,79 @@ impl<'a, M: Multi> Walk<'a> for Under<M> {
 
     fn walk(payload: &'a [u8], place: usize, _name: u16, room: &mut [Field], at: At) -> Walked {
         match head_at(payload, place) {
-            Ok((header, place)) => {
-                let headed = M::headed(&header);
-                walk_under(&header, headed, payload, place, room, at)
-            }
+            Ok((header, place)) => match M::headed(&header) {
+                Some(headed) => {
+                    let at = show_head(&header, room, at);
+                    headed.walk_as(payload, place, room, at)
+                }
+                None => Walked { at, end: None },
+            },
             Err(_fault) => Walked { at, end: None },
         }
     }
 }
 
-fn walk_ask<'a>(op: Op, payload: &'a [u8], place: usize, room: &mut [Field], at: At) -> Walked
-    requires { place ≤ length payload.now }
-    ensures walks { Walks at room.old (content_met (ask_content op) payload.now place) result room.new }
-    ensures within { IfSome result.end (λ end. end ≤ length payload.now) }
-{
-    macro_rules! row {
-        ($op:ident: $($($held:ident)|+: $record:ident $borrowed:ident),+; $($bare:ident)|+) => {
-            match $op {
-                $($(Op::$held)|+ => fields_of!($record, walk_fields, payload, place, room, at),)+
-                $(Op::$bare)|+ => walk_nothing(place, at),
-                Op::Multi => walk_times::<Under<Parts>>(payload, payload.len(), place, NONE, room, at),
-            }
-        };
+impl WalkAs for Asked {
+    ghost met = { λ asked. content_met (ask_content asked.0) };
+
+    fn walk_as(self, payload: &[u8], place: usize, room: &mut [Field], at: At) -> Walked {
+        macro_rules! row {
+            ($op:ident: $($($held:ident)|+: $record:ident $borrowed:ident),+; $($bare:ident)|+) => {
+                match $op {
+                    $($(Op::$held)|+ => fields_of!($record, walk_fields, payload, place, room, at),)+
+                    $(Op::$bare)|+ => walk_nothing(place, at),
+                    Op::Multi => walk_times::<Under<Asked>>(payload, payload.len(), place, NONE, room, at),
+                }
+            };
+        }
+        let op = self.0;
+        ask_rows!(row, op)
     }
-    ask_rows!(row, op)
 }
 
-fn walk_body<'a>(op: Op, payload: &'a [u8], place: usize, room: &mut [Field], at: At) -> Walked
-    requires { place ≤ length payload.now }
-    ensures walks { Walks at room.old (content_met (body_content op) payload.now place) result room.new }
-    ensures within { IfSome result.end (λ end. end ≤ length payload.now) }
-{
-    macro_rules! row {
-        ($op:ident: $($($one:ident)|+: $only:ident $name:ident $kind:ident),+;
-         $($both:ident: $first:ident $first_name:ident $first_kind:ident $borrowed:ident),+; $($bare:ident)|+) => {
-            match $op {
-                $($(Op::$one)|+ => <borrowed!($kind)>::walk(payload, place, $name, room, at),)+
-                $(Op::$both => walk_fields!(
-                    payload, place, room, at: $first $first_name $first_kind, stat NONE stat
-                ),)+
-                $(Op::$bare)|+ => walk_nothing(place, at),
-                Op::Multi => walk_times::<Under<Results>>(payload, payload.len(), place, NONE, room, at),
-            }
-        };
+impl WalkAs for Answered {
+    ghost met = { λ answered. content_met (body_content answered.0) };
+
+    fn walk_as(self, payload: &[u8], place: usize, room: &mut [Field], at: At) -> Walked {
+        macro_rules! row {
+            ($op:ident: $($($one:ident)|+: $only:ident $name:ident $kind:ident),+;
+             $($both:ident: $first:ident $first_name:ident $first_kind:ident $borrowed:ident),+; $($bare:ident)|+) => {
+                match $op {
+                    $($(Op::$one)|+ => <borrowed!($kind)>::walk(payload, place, $name, room, at),)+
+                    $(Op::$both => walk_fields!(
+                        payload, place, room, at: $first $first_name $first_kind, stat NONE stat
+                    ),)+
+                    $(Op::$bare)|+ => walk_nothing(place, at),
+                    Op::Multi => walk_times::<Under<Answered>>(payload, payload.len(), place, NONE, room, at),
+                }
+            };
+        }
+        let op = self.0;
+        body_rows!(row, op)
     }
-    body_rows!(row, op)
 }
 
-fn walk_opened<'a>(
-    opened: Opened,
-    payload: &'a [u8],
-    place: usize,
-    room: &mut [Field],
-    at: At,
-) -> Walked
-    requires { place ≤ length payload.now }
-    ensures walks { Walks at room.old (content_met (opened_content opened) payload.now place) result room.new }
-    ensures within { IfSome result.end (λ end. end ≤ length payload.now) }
-{
-    match opened {
-        Opened::First => {
-            <(
-                fields_of!(ConnectRequest, walk_fields, as),
-                Column<READ_ONLY, bool>,
-            )>::walk(payload, place, NONE, room, at)
+impl WalkAs for Opened {
+    ghost met = { λ opened. content_met (opened_content opened) };
+
+    fn walk_as(self, payload: &[u8], place: usize, room: &mut [Field], at: At) -> Walked {
+        match self {
+            Opened::First => {
+                <(
+                    fields_of!(ConnectRequest, walk_fields, as),
+                    Column<READ_ONLY, bool>,
+                )>::walk(payload, place, NONE, room, at)
+            }
+            Opened::Ask(op) => Asked(op).walk_as(payload, place, room, at),
+            Opened::Connected => {
+                <(
+                    fields_of!(ConnectResponse, walk_fields, as),
+                    Column<READ_ONLY, bool>,
+                )>::walk(payload, place, NONE, room, at)
+            }
+            Opened::Reply(op) => Answered(op).walk_as(payload, place, room, at),
+            Opened::Event => fields_of!(WatcherEvent, walk_fields, payload, place, room, at),
         }
-        Opened::Ask(op) => walk_ask(op, payload, place, room, at),
-        Opened::Connected => {
-            <(
-                fields_of!(ConnectResponse, walk_fields, as),
-                Column<READ_ONLY, bool>,
-            )>::walk(payload, place, NONE, room, at)
-        }
-        Opened::Reply(op) => walk_body(op, payload, place, room, at),
-        Opened::Event => fields_of!(WatcherEvent, walk_fields, payload, place, room, at),
     }
 }
 
@@ -278,7 +259,5 @@ pub fn opened_fields(opened: Opened, payload: &[u8], place: u32, room: &mut [Fie
         count: 0,
         place: start,
     };
-    walk_opened(opened, front, start as usize, room, at)
-        .at
-        .count
+    opened.walk_as(front, start as usize, room, at).at.count
 }
