@@ -9,6 +9,10 @@ use Rattle.zk_c.specs.declared.said.SayAnswer.{SayAnswer}
 use Rattle.zk_c.specs.Saying.{TellsSay, said, refused, no_line, say_answer, silent}
 use Rattle.zk_c.specs.Voice.{VoiceState}
 
+-- a speaker with the frame that it said last
+abbrev pub voiced : VoiceState → List ℕ → VoiceState
+voiced v xs = record v { frame = xs }
+
 -- the frame begins with room for a length, and a line's payload is read after it
 pub copied_said : (old new : VoiceState) (text room copied : List ℕ) (kind : Kind) → length room ≡ 4 → IsCopied kind text room copied →
     new.speaker.limits ≡ old.speaker.limits → new.frame ≡ take 0 copied ++ frame (drop (0 + 4) copied) →

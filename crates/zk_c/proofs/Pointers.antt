@@ -2,11 +2,11 @@
 use Rattle.std.proofs.Common.{refl}
 use Rattle.zk_c.proofs.Boxed.{Kind}
 use Rattle.zk_c.specs.contracts.conversation.Conversation as talk_held
-use Rattle.zk_c.specs.contracts.talk_box.TalkBox as talk_box
+use Rattle.zk_c.specs.contracts.boxes.TalkBox as talk_box
 use Rattle.zk_c.specs.contracts.passage.Passage as passage_held
-use Rattle.zk_c.specs.contracts.passage_box.PassageBox as passage_box
+use Rattle.zk_c.specs.contracts.boxes.PassageBox as passage_box
 use Rattle.zk_c.specs.contracts.voice.Voice as voice_held
-use Rattle.zk_c.specs.contracts.voice_box.VoiceBox as voice_box
+use Rattle.zk_c.specs.contracts.boxes.VoiceBox as voice_box
 
 abbrev pub talk : Kind
 talk = record { name = talk_box.struct.name; held = talk_held.the_row; row = talk_box.the_row; at = λ b. b.at; value = λ b. b.value; make = λ p v. record { at = p; value = v }; made = λ p v. refl }

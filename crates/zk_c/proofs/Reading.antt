@@ -15,7 +15,8 @@ use Rattle.zk_jute.specs.declared.fault.Reason.{Reason}
 use Rattle.zk_c.specs.Answer.{message_head}
 use Rattle.zk_jute.specs.declared.fault.ItemFault.{ItemFault}
 use Rattle.zk_fields.specs.declared.opened.Opened.{Opened}
-use Rattle.zk_c.specs.Read.{head_read, refused_read, fields_before, head_of, number_of, int_there, long_there, message_fields, TellsMessage, TellsRefused, IsReadFault, Reads}
+use Rattle.zk_c.specs.Judged.{IsOfForm}
+use Rattle.zk_c.specs.Read.{HasPlaces, head_read, refused_read, fields_before, head_of, number_of, int_there, long_there, message_fields, TellsMessage, TellsRefused, IsReadFault, Reads}
 
 -- an answer that counts the fields that are written
 pub tells_message : (m : Message) (before after : List Field) (count : ℕ) (answer : ReadAnswer) → AreWritten (message_fields m) before after count → answer ≡ head_read (length before) count (message_head m)
@@ -33,19 +34,24 @@ pub refused_as : {IsFault : ℕ → Reason → Type 0} {IsOpened : Option Opened
 refused_as {fault = fault} {opened = opened} told is_opened tells = record { fault = fault; is = told.0; ample = told.1; opened = opened; is_opened = is_opened; tells = tells }
 
 -- a payload that is read as a message is that one's alone
-pub only_one : {A : Type 0} (message : A → Message) {Is : A → Type 0} {before after : List Field} {answer : ReadAnswer} {x : A} →
-    ((y : A) → Is y → ◌≡◌ {A = Result A ItemFault} (Ok x) (Ok y)) → TellsMessage (message x) before after answer → (y : A) → Is y → TellsMessage (message y) before after answer
-only_one {A} message {before = before} {after = after} {answer = answer} {x = x} only tells y is =
-    let e = only y is in let same : x ≡ y = cc in subst (λ (z : A). TellsMessage (message z) before after answer) same tells
+pub only_one : {A : Type 0} (message : A → Message) {Form Sent : A → Type 0} {payload_of : A → List ℕ} {payload : List ℕ} {before after : List Field} {answer : ReadAnswer} (x y : A) → IsOfForm Form Sent payload_of payload y →
+    ((z : A) → Form z → Sent z → payload ≡ payload_of z → ◌≡◌ {A = Result A ItemFault} (Ok x) (Ok z)) → TellsMessage (message x) before after answer → TellsMessage (message y) before after answer
+only_one {A} message {before = before} {after = after} {answer = answer} x y is only tells =
+    let e = only y is.form is.sent is.is in let same : x ≡ y = cc in subst (λ (z : A). TellsMessage (message z) before after answer) same tells
 
-pub read_ok : {A : Type 0} (message : A → Message) {Is : A → Type 0} {IsFault : ℕ → Reason → Type 0} {IsOpened : Option Opened → Type 0} {payload : List ℕ} {before after : List Field} {answer : ReadAnswer} {x : A} →
-    ((y : A) → Is y → ◌≡◌ {A = Result A ItemFault} (Ok x) (Ok y)) → Is x → TellsMessage (message x) before after answer → Reads message Is IsFault IsOpened payload before after answer
-read_ok message {x = x} only is tells = record { only = only_one message only tells; found = inl (x, is) }
+pub read_ok : {A : Type 0} (message : A → Message) {Form Sent : A → Type 0} {payload_of : A → List ℕ} {IsFault : ℕ → Reason → Type 0} {IsOpened : Option Opened → Type 0} {payload : List ℕ} {before after : List Field} {answer : ReadAnswer} (x : A) →
+    Form x × Sent x × (payload ≡ payload_of x) → ((y : A) → Form y → Sent y → payload ≡ payload_of y → ◌≡◌ {A = Result A ItemFault} (Ok x) (Ok y)) →
+    (Sent x × HasPlaces (payload_of x) → TellsMessage (message x) before after answer) → HasPlaces payload → Reads message (IsOfForm Form Sent payload_of payload) IsFault IsOpened payload before after answer
+read_ok message x found only tells small = record {
+  only = λ y is. only_one message x y is only (tells (found.1, subst HasPlaces found.2 small));
+  found = inl (x, record { form = found.0; sent = found.1; is = found.2 });
+}
 
 -- and one that has a fault is none's
-pub read_err : {A : Type 0} (message : A → Message) {Is : A → Type 0} {IsFault : ℕ → Reason → Type 0} {IsOpened : Option Opened → Type 0} {payload : List ℕ} {before after : List Field} {answer : ReadAnswer} {fault : ItemFault} {opened : Option Opened} →
-    ((y : A) → Is y → ◌≡◌ {A = Result A ItemFault} (Err fault) (Ok y)) → IsSurelyTold IsFault fault → IsOpened opened → TellsRefused opened payload fault before after answer → Reads message Is IsFault IsOpened payload before after answer
-read_err message only told is_opened tells = record { only = λ y is. let e = only y is in absurd (cc); found = inr (refused_as told is_opened tells) }
+pub read_err : {A : Type 0} (message : A → Message) {Form Sent : A → Type 0} {payload_of : A → List ℕ} {IsFault : ℕ → Reason → Type 0} {IsOpened : Option Opened → Type 0} {payload : List ℕ} {before after : List Field} {answer : ReadAnswer} {fault : ItemFault} {opened : Option Opened} →
+    ((y : A) → Form y → Sent y → payload ≡ payload_of y → ◌≡◌ {A = Result A ItemFault} (Err fault) (Ok y)) → IsSurelyTold IsFault fault → IsOpened opened → TellsRefused opened payload fault before after answer →
+    Reads message (IsOfForm Form Sent payload_of payload) IsFault IsOpened payload before after answer
+read_err message only told is_opened tells = record { only = λ y is. let e = only y is.form is.sent is.is in absurd (cc); found = inr (refused_as told is_opened tells) }
 
 -- ---- which profile
 

@@ -76,18 +76,16 @@ message_head (FromServer s) = server_head s
 
 -- a message whose frame has `size` bytes, is the last of `frames`, and answers the client's frame of this number
 abbrev pub message_answer : ℕ → ℕ → Option ℕ → Message → MessageAnswer
-message_answer size frames answered m =
-    record {
-      status = 0;
-      kind = (message_head m).kind;
-      xid = (message_head m).xid;
-      operation = (message_head m).operation;
-      size = size;
-      err = (message_head m).err;
-      zxid = (message_head m).zxid;
-      frame = frames - 1;
-      answers = unwrap_or answered 0;
-    }
+message_answer size frames answered m = record (no_message 0) {
+  kind = (message_head m).kind;
+  xid = (message_head m).xid;
+  operation = (message_head m).operation;
+  size = size;
+  err = (message_head m).err;
+  zxid = (message_head m).zxid;
+  frame = frames - 1;
+  answers = unwrap_or answered 0;
+}
 
 abbrev pub no_line : ℕ → LineAnswer
 no_line status = record { status = status; length = 0 }

@@ -14,7 +14,8 @@ use Rattle.zk_talk.specs.Conversation.{Conversation, number_waiting, load}
 use Rattle.zk_talk.specs.Fault.{rest_on}
 use Rattle.zk_talk.specs.Ending.{IsEnding}
 use Rattle.zk_talk.specs.Numbers.{NewestAnswers}
-use Rattle.zk_talk.specs.Stands.{TalkState, Stands, Refuses, WhereItStands, held_on, kept_on, frames_on}
+use Rattle.zk_talk.specs.Said.{payload_of}
+use Rattle.zk_talk.specs.Stands.{TalkState, Stands, Refuses, WhereItStands, WhereItRefuses, held_on, kept_on, frames_on}
 use Rattle.zk_talk.specs.Taking.{StepsOn, PassesOn, IsRefused, given_up}
 use Rattle.zk_talk.specs.Viewed.{Shows, Leaves, other_side}
 use Rattle.zk_c.specs.declared.answer.StepAnswer.{StepAnswer}
@@ -27,14 +28,9 @@ use Rattle.zk_c.specs.declared.answer.MessageAnswer.{MessageAnswer}
 use Rattle.zk_c.specs.declared.answer.LineAnswer.{LineAnswer}
 use Rattle.zk_c.specs.declared.counts.WaitingAnswer.{WaitingAnswer}
 use Rattle.zk_c.specs.declared.counts.HeldAnswer.{HeldAnswer}
-use Rattle.zk_asks.specs.Held.{ClientFrame}
-use Rattle.zk_asks.specs.Frames as asks
-use Rattle.zk_answers.specs.Held.{ServerFrame}
-use Rattle.zk_answers.specs.Frames as answers
-use Rattle.zk_talk.specs.declared.message.MessageOf.TheVariants.{Client as FromClient, Server as FromServer}
 use Rattle.zk_fields.specs.declared.field.Field.{Field}
 use Rattle.zk_c.specs.declared.read_answer.ReadAnswer.{ReadAnswer}
-use Rattle.zk_c.specs.Read.{no_read, TellsClient, TellsServer}
+use Rattle.zk_c.specs.Read.{no_read, TellsMessage}
 use Rattle.zk_lines.specs.Lines.{line}
 use Rattle.zk_lines.specs.Endings.{ending_text}
 
@@ -68,9 +64,13 @@ pub record IsAnswerOf {A R X : Type 0} (answer_of : R → X) (Is : R → A → T
   pub told : answer ≡ answer_of outcome
   pub is : Is outcome new
 
+-- a value of which this holds is behind the handle
+unfoldable pub IsHeldAnd : {A : Type 0} → (A → Type 0) → Option A → Type 0
+IsHeldAnd Is after = IsSomeAnd after Is
+
 -- the answer is that of such a call of the talk, which goes on behind the handle
 abbrev pub Tells : Call → TalkState → Side → List ℕ → StepAnswer → Option TalkState → Type 0
-Tells Is old side piece answer after = IsSomeAnd after (IsAnswerOf step_answer (Is old side piece) answer)
+Tells Is old side piece answer = IsHeldAnd (IsAnswerOf step_answer (Is old side piece) answer)
 
 -- the limits are these numbers
 pub record AreNumbers (c s w p : ℕ) (limits : Limits) : Type 0 where
@@ -85,8 +85,8 @@ AreNoLimits client server waiting profile = (p : Profile) → profile ≡ profil
 
 -- a value whose limits are these numbers is behind the handle, and has begun
 abbrev pub IsMadeOf : {A : Type 0} → (A → Limits) → (A → Type 0) → ℕ → ℕ → ℕ → ℕ → Option A → Type 0
-IsMadeOf limits_of Begun client server waiting profile after =
-    IsSomeAnd after (λ value. AreNumbers client server waiting profile (limits_of value) × Begun value)
+IsMadeOf limits_of Begun client server waiting profile =
+    IsHeldAnd (λ value. AreNumbers client server waiting profile (limits_of value) × Begun value)
 
 -- the new value has the limits of the old one, and has begun
 pub record BeginsAnew {A : Type 0} (limits_of : A → Limits) (Begun : A → Type 0) (old new : A) : Type 0 where
@@ -108,7 +108,7 @@ IsRenewed = BeginsAnew (λ (t : TalkState). t.limits) HasBegun
 
 -- the talk has begun anew behind the handle
 abbrev pub Renews : TalkState → Option TalkState → Type 0
-Renews old after = IsSomeAnd after (IsRenewed old)
+Renews old = IsHeldAnd (IsRenewed old)
 
 -- what `Talk::finish` promises
 pub record IsFinish (talk : TalkState) (ending : Ending) : Type 0 where
@@ -128,8 +128,8 @@ size_held side talk = length (held_on side talk) + length (kept_on side talk)
 -- the frame that the side keeps answers the client's frame of this number, or none; the client's answer none
 abbrev pub AnswersOn : Side → TalkState → Option ℕ → Type 0
 AnswersOn Client talk number = number ≡ None
-AnswersOn Server talk number = WhereItStands talk (λ v client_rest server_rest. NewestAnswers v number) ×
-    ((h : History) (M : List Message) (f : Fault) (r : Refuses talk h M f) → NewestAnswers r.is.conversation number)
+AnswersOn Server talk number =
+    WhereItStands talk (λ v client_rest server_rest. NewestAnswers v number) × WhereItRefuses talk (λ v. NewestAnswers v number)
 
 -- the answer is the message of the frame that the side keeps, which is one
 pub record IsView (talk : TalkState) (side : Side) (answer : MessageAnswer) : Type 0 where
@@ -147,7 +147,7 @@ pub record AreWaiting (v : Conversation) (answer : WaitingAnswer) : Type 0 where
 pub record IsWaiting (talk : TalkState) (answer : WaitingAnswer) : Type 0 where
   pub well : answer.status ≡ 0
   pub stands : WhereItStands talk (λ v client_rest server_rest. AreWaiting v answer)
-  pub refuses : (h : History) (M : List Message) (f : Fault) (r : Refuses talk h M f) → AreWaiting r.is.conversation answer
+  pub refuses : WhereItRefuses talk (λ v. AreWaiting v answer)
 
 -- the answer is the length of the frame that the side has begun, as far as it came
 pub record IsHeld (talk : TalkState) (side : Side) (answer : HeldAnswer) : Type 0 where
@@ -161,25 +161,28 @@ pub data TellsText (text before after : List ℕ) (answer : LineAnswer) : Type 0
   no_room : answer ≡ record { status = 68; length = length text } → length before < length text → after ≡ before → TellsText text before after answer
   no_memory : answer ≡ no_line 5 → after ≡ before → TellsText text before after answer
 
--- the answer is the line of that message
-pub record IsLine (talk : TalkState) (side : Side) (before after : List ℕ) (answer : LineAnswer) : Type 0 where
-  pub none : kept_on side talk ≡ [] → (answer ≡ no_line 69) × (after ≡ before)
-  pub some : (m : Message) → Shows talk side m → TellsText (line m) before after answer
+-- the message that is shown is written so; if none is shown, nothing is
+pub record TellsShown {E X : Type 0} (NoneShown : Type 0) (Shown : Message → Type 0) (nothing : X) (Says : Message → List E → List E → X → Type 0)
+    (before after : List E) (answer : X) : Type 0 where
+  pub none : NoneShown → (answer ≡ nothing) × (after ≡ before)
+  pub some : (m : Message) → Shown m → Says m before after answer
+
+-- so is the message whose frame the side keeps
+abbrev pub TellsKept : {E X : Type 0} → X → (Message → List E → List E → X → Type 0) → TalkState → Side → List E → List E → X → Type 0
+TellsKept nothing Says talk side = TellsShown (kept_on side talk ≡ []) (Shows talk side) nothing Says
+
+-- the answer is that message's line, its fields, or its payload
+abbrev pub IsLine : TalkState → Side → List ℕ → List ℕ → LineAnswer → Type 0
+IsLine = TellsKept (no_line 69) (λ m. TellsText (line m))
+
+abbrev pub IsFields : TalkState → Side → List Field → List Field → ReadAnswer → Type 0
+IsFields = TellsKept (no_read 69) TellsMessage
+
+abbrev pub IsPayload : TalkState → Side → List ℕ → List ℕ → LineAnswer → Type 0
+IsPayload = TellsKept (no_line 69) (λ m. TellsText (payload_of m))
 
 -- the answer is the line of the ending of the talk's history
 pub record IsEndingLine (talk : TalkState) (before after : List ℕ) (answer : LineAnswer) : Type 0 where
   pub ending : Ending
   pub is : IsFinish talk ending
   pub text : TellsText (ending_text ending) before after answer
-
--- the answer is the fields of the message whose frame the side keeps
-pub record IsFields (talk : TalkState) (side : Side) (before after : List Field) (answer : ReadAnswer) : Type 0 where
-  pub none : kept_on side talk ≡ [] → (answer ≡ no_read 69) × (after ≡ before)
-  pub client : (f : ClientFrame) → Shows talk side (FromClient f) → TellsClient f before after answer
-  pub server : (s : ServerFrame) → Shows talk side (FromServer s) → TellsServer s before after answer
-
--- the text is the payload of the message whose frame the side keeps
-pub record IsPayload (talk : TalkState) (side : Side) (before after : List ℕ) (answer : LineAnswer) : Type 0 where
-  pub none : kept_on side talk ≡ [] → (answer ≡ no_line 69) × (after ≡ before)
-  pub client : (f : ClientFrame) → Shows talk side (FromClient f) → TellsText (asks.payload f) before after answer
-  pub server : (s : ServerFrame) → Shows talk side (FromServer s) → TellsText (answers.payload s) before after answer

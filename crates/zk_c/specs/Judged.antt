@@ -35,36 +35,29 @@ pub record Judges {A : Type 0} (Is : A → Type 0) (IsFault : ℕ → Reason →
   pub only : (x : A) → Is x → answer ≡ payload_answer 0 0
   pub fault : answer.status ≢ 0 → IsToldBy IsFault answer
 
--- the bytes are the payload of this connect request
-pub record IsConnect (bytes : List ℕ) (f : ClientFrame) : Type 0 where
-  pub first : IsFirst f
-  pub sent : IsSent f
-  pub is : bytes ≡ payload f
+-- the bytes are the payload of this frame, which has the form and is sent
+pub record IsOfForm {F : Type 0} (Form Sent : F → Type 0) (payload_of : F → List ℕ) (bytes : List ℕ) (f : F) : Type 0 where
+  pub form : Form f
+  pub sent : Sent f
+  pub is : bytes ≡ payload_of f
 
--- the bytes are the payload of this request of the profile
-pub record IsRequest (profile : Profile) (bytes : List ℕ) (f : ClientFrame) : Type 0 where
-  pub later : IsLater f
-  pub of : IsOfProfile profile f
-  pub sent : IsSent f
-  pub is : bytes ≡ payload f
+-- the bytes are the payload of this connect request, or of this request of the profile
+abbrev pub IsConnect : List ℕ → ClientFrame → Type 0
+IsConnect = IsOfForm IsFirst IsSent payload
 
--- the bytes are the payload of this reply to a connect request
-pub record IsWelcome (bytes : List ℕ) (s : ServerFrame) : Type 0 where
-  pub connected : answers.IsConnected s
-  pub sent : answers.IsSent s
-  pub is : bytes ≡ answers.payload s
+abbrev pub IsRequest : Profile → List ℕ → ClientFrame → Type 0
+IsRequest profile = IsOfForm (λ f. IsLater f × IsOfProfile profile f) IsSent payload
 
--- the bytes are the payload of this reply to a request of the operation with these parts
-pub record IsReply (op : Op) (parts : List PartOp) (bytes : List ℕ) (s : ServerFrame) : Type 0 where
-  pub reply : answers.IsReplyTo op parts s
-  pub sent : answers.IsSent s
-  pub is : bytes ≡ answers.payload s
+-- the bytes are the payload of this reply to a connect request, of this reply to a request of the operation with these
+-- parts, or of this event
+abbrev pub IsWelcome : List ℕ → ServerFrame → Type 0
+IsWelcome = IsOfForm answers.IsConnected answers.IsSent answers.payload
 
--- the bytes are the payload of this event
-pub record IsNotice (bytes : List ℕ) (s : ServerFrame) : Type 0 where
-  pub event : answers.IsEvent s
-  pub sent : answers.IsSent s
-  pub is : bytes ≡ answers.payload s
+abbrev pub IsReply : Op → List PartOp → List ℕ → ServerFrame → Type 0
+IsReply op parts = IsOfForm (answers.IsReplyTo op parts) answers.IsSent answers.payload
+
+abbrev pub IsNotice : List ℕ → ServerFrame → Type 0
+IsNotice = IsOfForm answers.IsEvent answers.IsSent answers.payload
 
 -- the bytes begin with a header of which this holds of the xid
 abbrev pub HasHead : (ℤ → Type 0) → List ℕ → Type 0

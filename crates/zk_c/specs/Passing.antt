@@ -1,14 +1,11 @@
 -- What the passage behind a handle does.
-use Rattle.std.specs.Prelude.{◌≡◌, ℕ, pos, Bool, true, false, List, [], Option, Some, Result, Ok, Err, IfOk, IfErr, IsSomeAnd}
+use Rattle.std.specs.Prelude.{◌≡◌, ℕ, pos, Bool, true, false, List, [], Option, Some, Result, Ok, Err, IfOk, IfErr}
 use Rattle.zk_frames.specs.Framing.{frame}
-use Rattle.zk_asks.specs.Held.{ClientFrame}
-use Rattle.zk_answers.specs.Held.{ServerFrame}
 use Rattle.zk_talk.specs.declared.message.Side.{Side}
 use Rattle.zk_talk.specs.declared.message.Fault.{Fault}
 use Rattle.zk_talk.specs.declared.message.Ending.{Ending}
 use Rattle.zk_talk.specs.declared.message.Ending.TheVariants.{Refused}
 use Rattle.zk_talk.specs.History.{History}
-use Rattle.zk_talk.specs.declared.message.MessageOf.TheVariants.{Client as FromClient, Server as FromServer}
 use Rattle.zk_talk.specs.Held.{Message}
 use Rattle.zk_talk.specs.Stands.{kept_on}
 use Rattle.zk_talk.specs.Viewed.{Shows, other_side}
@@ -25,9 +22,9 @@ use Rattle.zk_c.specs.declared.passed.PassedAnswer.{PassedAnswer}
 use Rattle.zk_c.specs.declared.read_answer.ReadAnswer.{ReadAnswer}
 use Rattle.zk_c.specs.Numbers.{reason_number}
 use Rattle.zk_c.specs.Answer.{no_fault, fault_numbers, no_message, message_answer, no_line}
-use Rattle.zk_c.specs.Read.{no_read, TellsClient, TellsServer}
+use Rattle.zk_c.specs.Read.{no_read, TellsMessage}
 use Rattle.zk_lines.specs.Lines.{line}
-use Rattle.zk_c.specs.Handle.{TellsText, IsAnswerOf, IsMadeOf, BeginsAnew, size_held}
+use Rattle.zk_c.specs.Handle.{TellsText, TellsShown, IsAnswerOf, IsHeldAnd, IsMadeOf, BeginsAnew, size_held}
 use Rattle.zk_c.specs.Passage.{PassageState, newest_on, answered_on}
 
 -- a step that wasn't made, with this status
@@ -77,7 +74,7 @@ pub record IsPassing (old : PassageState) (side : Side) (piece : List ℕ) (outc
 
 -- the answer is that of such a step of the passage, which goes on behind the handle
 abbrev pub TellsStep : PassageState → Side → List ℕ → PassedAnswer → Option PassageState → Type 0
-TellsStep old side piece answer after = IsSomeAnd after (IsAnswerOf passed_answer (IsPassing old side piece) answer)
+TellsStep old side piece answer = IsHeldAnd (IsAnswerOf passed_answer (IsPassing old side piece) answer)
 
 -- nothing has come, and no side shows a message
 pub record HasBegun (p : PassageState) : Type 0 where
@@ -111,11 +108,15 @@ IsRenewed = BeginsAnew (λ (p : PassageState). p.through.talk.limits) HasBegun
 
 -- the passage has begun anew behind the handle
 abbrev pub Renews : PassageState → Option PassageState → Type 0
-Renews old after = IsSomeAnd after (IsRenewed old)
+Renews old = IsHeldAnd (IsRenewed old)
 
 -- the side's newest whole frame is no message, or the message isn't kept any more
 abbrev pub ShowsNone : PassageState → Side → Type 0
 ShowsNone p side = (newest_on side p ≡ true) → kept_on side p.through.talk ≡ []
+
+-- it is this message
+abbrev pub ShowsNewest : PassageState → Side → Message → Type 0
+ShowsNewest p side m = (newest_on side p ≡ true) × Shows p.through.talk side m
 
 -- the answer is the side's newest message, with the number of its frame among all that came, and of the client's frame that
 -- it answers
@@ -124,16 +125,12 @@ pub record IsView (p : PassageState) (side : Side) (answer : MessageAnswer) : Ty
   pub some : newest_on side p ≡ true → (m : Message) → Shows p.through.talk side m →
       answer ≡ message_answer (size_held side p.through.talk) (stream_on side p.through).count (answered_on side p) m
 
--- the answer is the line of that message
-pub record IsLine (p : PassageState) (side : Side) (before after : List ℕ) (answer : LineAnswer) : Type 0 where
-  pub none : ShowsNone p side → (answer ≡ no_line 69) × (after ≡ before)
-  pub some : newest_on side p ≡ true → (m : Message) → Shows p.through.talk side m → TellsText (line m) before after answer
+-- the answer is that message's line, or its fields
+abbrev pub IsLine : PassageState → Side → List ℕ → List ℕ → LineAnswer → Type 0
+IsLine p side = TellsShown (ShowsNone p side) (ShowsNewest p side) (no_line 69) (λ m. TellsText (line m))
 
--- the answer is that message's fields
-pub record IsFields (p : PassageState) (side : Side) (before after : List Field) (answer : ReadAnswer) : Type 0 where
-  pub none : ShowsNone p side → (answer ≡ no_read 69) × (after ≡ before)
-  pub client : newest_on side p ≡ true → (f : ClientFrame) → Shows p.through.talk side (FromClient f) → TellsClient f before after answer
-  pub server : newest_on side p ≡ true → (s : ServerFrame) → Shows p.through.talk side (FromServer s) → TellsServer s before after answer
+abbrev pub IsFields : PassageState → Side → List Field → List Field → ReadAnswer → Type 0
+IsFields p side = TellsShown (ShowsNone p side) (ShowsNewest p side) (no_read 69) TellsMessage
 
 -- the text is the payload of the frame that the side's last step left out, or passed over
 pub record IsLeftOut (p : PassageState) (side : Side) (before after : List ℕ) (answer : LineAnswer) : Type 0 where

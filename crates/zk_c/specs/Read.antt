@@ -9,9 +9,7 @@ use Rattle.zk_records.specs.declared.header.ReplyHeader.{ReplyHeader}
 use Rattle.zk_records.specs.declared.op.Op.{Op}
 use Rattle.zk_records.specs.declared.profile.Profile.{Profile}
 use Rattle.zk_records.specs.Codes.{op_number, HasOp, IsNoOp}
-use Rattle.zk_asks.specs.Held.{ClientFrame}
 use Rattle.zk_asks.specs.Frames as asks
-use Rattle.zk_answers.specs.Held.{ServerFrame}
 use Rattle.zk_answers.specs.Frames as answers
 use Rattle.zk_talk.specs.Held.{Message}
 use Rattle.zk_talk.specs.declared.message.MessageOf.TheVariants.{Client as FromClient, Server as FromServer}
@@ -50,16 +48,7 @@ room_status room count = if nat_le count room then 0 else 68
 -- the header's numbers, and how many fields there are
 abbrev pub head_read : ℕ → ℕ → Head → ReadAnswer
 head_read room count head =
-    record {
-      status = room_status room count;
-      place = 0;
-      count = count;
-      kind = head.kind;
-      xid = head.xid;
-      operation = head.operation;
-      err = head.err;
-      zxid = head.zxid;
-    }
+    record (no_read (room_status room count)) { count = count; kind = head.kind; xid = head.xid; operation = head.operation; err = head.err; zxid = head.zxid }
 
 abbrev pub message_fields : Message → List Field
 message_fields (FromClient f) = client_fields f
@@ -74,12 +63,6 @@ HasFields (FromServer s) = answers.IsSent s × HasPlaces (answers.payload s)
 pub record TellsMessage (m : Message) (before after : List Field) (answer : ReadAnswer) : Type 0 where
   pub written : AreWritten (message_fields m) before after answer.count
   pub told : answer ≡ head_read (length before) answer.count (message_head m)
-
-abbrev pub TellsClient : ClientFrame → List Field → List Field → ReadAnswer → Type 0
-TellsClient f = TellsMessage (FromClient f)
-
-abbrev pub TellsServer : ServerFrame → List Field → List Field → ReadAnswer → Type 0
-TellsServer s = TellsMessage (FromServer s)
 
 -- ---- no message: the numbers of its header, as far as they are there, and the fault
 

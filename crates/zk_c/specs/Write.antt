@@ -1,5 +1,5 @@
 -- What is returned of a frame that is written from fields.
-use Rattle.std.specs.Prelude.{◌≡◌, ℕ, List, Result, Ok, Err}
+use Rattle.std.specs.Prelude.{ℕ, List, Result, Ok, Err}
 use Rattle.zk_jute.specs.Item.{Item}
 use Rattle.zk_asks.specs.Held.{ClientFrame}
 use Rattle.zk_answers.specs.Held.{ServerFrame}
@@ -9,6 +9,7 @@ use Rattle.zk_fields.specs.declared.write.Unwritten.{Unwritten}
 use Rattle.zk_fields.specs.declared.write.Unwritten.TheVariants as unwritten
 use Rattle.zk_fields.specs.Written.{Writes, WritesAgain, AnswersAgain}
 use Rattle.zk_c.specs.declared.write.WriteAnswer.{WriteAnswer}
+use Rattle.zk_c.specs.Handle.{IsAnswerOf}
 
 abbrev pub written : Result ℕ Unwritten → WriteAnswer
 written (Ok size) = record { status = 0; length = size; index = 0 }
@@ -18,12 +19,11 @@ written (Err (unwritten.Room size)) = record { status = 68; length = size; index
 
 -- the answer is that of writing what the fields say between these items
 abbrev pub TellsWritten : Heads → List Item → List Item → List ℕ → List Field → List ℕ → List ℕ → WriteAnswer → Type 0
-TellsWritten heads front behind content fields before after answer = (result : Result ℕ Unwritten) ×
-    Writes heads front behind content fields before result after × (answer ≡ written result)
+TellsWritten heads front behind content fields before after answer = IsAnswerOf written (Writes heads front behind content fields before) answer after
 
 -- the answer is that of writing a message's own fields
 abbrev pub TellsAgain : ClientFrame → List ℕ → List Field → List ℕ → List ℕ → WriteAnswer → Type 0
-TellsAgain f content fields before after answer = (result : Result ℕ Unwritten) × WritesAgain f content fields before result after × (answer ≡ written result)
+TellsAgain f content fields before after answer = IsAnswerOf written (WritesAgain f content fields before) answer after
 
 abbrev pub TellsAnswer : ServerFrame → List ℕ → List Field → List ℕ → List ℕ → WriteAnswer → Type 0
-TellsAnswer s content fields before after answer = (result : Result ℕ Unwritten) × AnswersAgain s content fields before result after × (answer ≡ written result)
+TellsAnswer s content fields before after answer = IsAnswerOf written (AnswersAgain s content fields before) answer after

@@ -42,6 +42,7 @@
 
 mod answer;
 mod asked;
+mod boxes;
 mod conversation;
 mod counts;
 mod cut;
@@ -51,7 +52,6 @@ mod listing;
 mod loose;
 mod number;
 mod passage;
-mod passage_box;
 mod passed;
 mod payload;
 mod read;
@@ -59,10 +59,8 @@ mod read_answer;
 mod said;
 mod speaker;
 mod talk;
-mod talk_box;
 mod through;
 mod voice;
-mod voice_box;
 mod write;
 
 pub use listing::zk_listing;

@@ -1,5 +1,5 @@
 //! `zk_judge_first` and its like: single payloads, judged without a handle.
-ghost use Rattle.std.specs.Prelude.{◌≡◌, ◌≢◌, ◌↔◌, IsTrue};
+ghost use Rattle.std.specs.Prelude.{◌≡◌, ◌≢◌, ◌↔◌, MatchResult, IsTrue};
 ghost use Rattle.zk_records.specs.declared.profile.Profile.{Profile};
 ghost use Rattle.zk_asks.specs.Faults.{IsFirstFault, IsAskFault};
 ghost use Rattle.zk_answers.specs.Held.{ServerFrame};
@@ -45,22 +45,23 @@ impl PayloadAnswer {
 }
 
 /// What is returned of a payload that was read so.
-macro_rules! judged {
-    ($read:expr) => {
-        match $read {
-            Ok(_frame) => PayloadAnswer::none(WELL),
-            Err(fault) => PayloadAnswer::refused(fault),
-        }
-    };
+#[inline(always)]
+fn judged<F: Drop>(read: Result<F, ItemFault>) -> PayloadAnswer
+    ensures { MatchResult read (λ _. result ≡ payload_answer 0 0) (λ fault. TellsFault fault result) }
+{
+    match read {
+        Ok(_frame) => PayloadAnswer::none(WELL),
+        Err(fault) => PayloadAnswer::refused(fault),
+    }
 }
 
 /// Judges whether the payload is that of a connect request.
 #[unsafe(no_mangle)]
 pub extern "C" fn zk_judge_first(bytes: &[u8]) -> PayloadAnswer
     // It is taken for one exactly if it is one's, else the first case that applies is reported.
-    ensures { Judges (IsConnect bytes.now) (IsFirstFault bytes.now) result }
+    ensures judges { Judges (IsConnect bytes.now) (IsFirstFault bytes.now) result }
 {
-    judged!(borrow_first(bytes))
+    judged(borrow_first(bytes))
 }
 
 /// Judges whether the payload is that of a request of a profile, 34 or 35.
@@ -74,16 +75,16 @@ pub extern "C" fn zk_judge_request(profile: u32, bytes: &[u8]) -> PayloadAnswer
     let Some(profile) = Profile::of_number(profile) else {
         return PayloadAnswer::none(RANGE);
     };
-    judged!(borrow_ask(profile, bytes))
+    judged(borrow_ask(profile, bytes))
 }
 
 /// Judges whether the payload is that of the reply to a connect request.
 #[unsafe(no_mangle)]
 pub extern "C" fn zk_judge_connected(bytes: &[u8]) -> PayloadAnswer
     // It is taken for one exactly if it is one's, else the first case that applies is reported.
-    ensures { Judges (IsWelcome bytes.now) (IsConnectedFault bytes.now) result }
+    ensures judges { Judges (IsWelcome bytes.now) (IsConnectedFault bytes.now) result }
 {
-    judged!(borrow_connected(bytes))
+    judged(borrow_connected(bytes))
 }
 
 /// Whether the payload begins with the header of an event.
@@ -126,7 +127,7 @@ pub extern "C" fn zk_judge_reply(operation: i32, parts: &[i32], bytes: &[u8]) ->
     if is_of_event(bytes) {
         return PayloadAnswer::none(MISFIT);
     }
-    judged!(borrow_reply(&asked, bytes))
+    judged(borrow_reply(&asked, bytes))
 }
 
 /// Judges whether the payload is that of an event.
@@ -143,5 +144,5 @@ pub extern "C" fn zk_judge_event(bytes: &[u8]) -> PayloadAnswer
     if is_of_reply(bytes) {
         return PayloadAnswer::none(MISFIT);
     }
-    judged!(borrow_event(bytes))
+    judged(borrow_event(bytes))
 }

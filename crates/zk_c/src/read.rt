@@ -1,12 +1,15 @@
 //! The fields of single payloads, with no handle.
+#![tactic(auto, using(crate::proofs::Reading::read_ok, crate::proofs::Reading::read_err))]
+
 ghost use Rattle.std.specs.Prelude.{◌≡◌, ◌≤◌, ◌^◌, length};
 ghost use Rattle.zk_records.specs.declared.profile.Profile.{Profile};
 ghost use Rattle.zk_records.specs.declared.profile.Profile.TheVariants as profiles;
 ghost use Rattle.zk_records.specs.Codes.{profile_number, IsNoOp};
 ghost use Rattle.zk_answers.specs.Held.{ServerFrame};
+ghost use Rattle.zk_talk.specs.declared.message.MessageOf.TheVariants.{Server as FromServer};
 ghost use Rattle.zk_c.specs.Asked.{AreNoneAsked, WhereAsked};
 ghost use Rattle.zk_c.specs.Judged.{IsNotice, HasHead, HasNoHead, IsOfEvent, IsOfReply};
-ghost use Rattle.zk_c.specs.Read.{HasPlaces, IsOp, no_read, IsUnknown, TellsNone, TellsUnknown, TellsServer, IsAskOf, ReadsConnect, ReadsRequest, ReadsWelcome, ReadsReply, WhereReply, NoticeOrFault};
+ghost use Rattle.zk_c.specs.Read.{HasPlaces, IsOp, no_read, IsUnknown, TellsNone, TellsUnknown, TellsMessage, IsAskOf, ReadsConnect, ReadsRequest, ReadsWelcome, ReadsReply, WhereReply, NoticeOrFault};
 
 use crate::asked::Numbered;
 use crate::number::{MISFIT, RANGE};
@@ -134,7 +137,7 @@ pub extern "C" fn zk_read_event(payload: &[u8], room: &mut [Field]) -> ReadAnswe
     // A header with another xid than that of events is another message's.
     ensures reply { HasPlaces payload.now → HasHead IsOfReply payload.now → TellsNone 82 room.old room.new result }
     // If it is an event's, its fields are written.
-    ensures only { (s : ServerFrame) → HasPlaces payload.now → IsNotice payload.now s → TellsServer s room.old room.new result }
+    ensures only { (s : ServerFrame) → HasPlaces payload.now → IsNotice payload.now s → TellsMessage (FromServer s) room.old room.new result }
     // It is one's, or the first case that applies is returned.
     ensures found { HasPlaces payload.now → HasNoHead IsOfReply payload.now → NoticeOrFault payload.now room.old room.new result }
 {

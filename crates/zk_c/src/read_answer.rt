@@ -1,9 +1,11 @@
 //! `ReadAnswer`: the message whose fields were written, in numbers.
+#![tactic(auto, using(crate::proofs::Reading::tells_message, crate::proofs::Reading::tells_refused))]
+
 ghost use Rattle.std.specs.Prelude.{◌≡◌, ◌<◌, ◌^◌, pos, length, Some, None};
 ghost use Rattle.zk_talk.specs.Held.{Message};
 ghost use Rattle.zk_talk.specs.declared.message.MessageOf.TheVariants.{Client as FromClient, Server as FromServer};
 ghost use Rattle.zk_fields.specs.Frames.{AreWritten};
-ghost use Rattle.zk_c.specs.Read.{no_read, refused_read, IsUnknown, room_status, head_read, ask_head, answer_head, int_there, long_there, fields_before, head_of, TellsRefused, TellsNone, HasFields, TellsMessage, TellsClient, TellsServer};
+ghost use Rattle.zk_c.specs.Read.{no_read, refused_read, IsUnknown, room_status, head_read, ask_head, answer_head, int_there, long_there, fields_before, head_of, TellsRefused, TellsNone, HasFields, TellsMessage};
 
 use crate::head::Head;
 use crate::number::{NO_MESSAGE, ROOM, WELL, reason_number};
@@ -151,7 +153,7 @@ impl ReadAnswer {
 
 /// The fields of a client's frame, as far as there is room.
 pub fn read_client(frame: &ClientRef<'_>, room: &mut [Field]) -> ReadAnswer
-    ensures { HasFields (FromClient frame.now) → TellsClient frame.now room.old room.new result }
+    ensures { HasFields (FromClient frame.now) → TellsMessage (FromClient frame.now) room.old room.new result }
 {
     let places = room.len();
     let count = client_fields(frame, room);
@@ -160,7 +162,7 @@ pub fn read_client(frame: &ClientRef<'_>, room: &mut [Field]) -> ReadAnswer
 
 /// The fields of a server's frame, as far as there is room.
 pub fn read_server(frame: &ServerRef<'_>, room: &mut [Field]) -> ReadAnswer
-    ensures { HasFields (FromServer frame.now) → TellsServer frame.now room.old room.new result }
+    ensures { HasFields (FromServer frame.now) → TellsMessage (FromServer frame.now) room.old room.new result }
 {
     let places = room.len();
     let count = server_fields(frame, room);

@@ -1,4 +1,6 @@
 //! `zk_speaker_new` and its like: a speaker that a handle owns.
+#![tactic(auto, using(crate::proofs::Handles::is_held))]
+
 ghost use Rattle.std.specs.Prelude.{◌≡◌, ◌≢◌, ◌⊎◌, Some, None, IsSome, MatchOption};
 ghost use Rattle.std.specs.Option.{is_some};
 ghost use Rattle.zk_talk.specs.declared.message.Side.{Side};
@@ -10,13 +12,13 @@ ghost use Rattle.zk_c.specs.Judged.{payload_answer};
 ghost use Rattle.zk_c.specs.Saying.{say_answer, SaysLine, SaysBytes, IsSilent, Renews};
 
 use crate::answer::LineAnswer;
+use crate::boxes::VoiceBox;
 use crate::handle::{fill, put_in, take_out, with_value};
 use crate::number::{EMPTY, WELL};
 use crate::payload::PayloadAnswer;
 use crate::said::SayAnswer;
 use crate::talk::limits_of;
 use crate::voice::Voice;
-use crate::voice_box::VoiceBox;
 use std::alloc::Global;
 
 /// A speaker that C keeps, or none: all bytes 0.

@@ -1,4 +1,6 @@
 //! `zk_talk_new` and its like: a conversation that a handle owns.
+#![tactic(auto, using(crate::proofs::Handles::is_held, crate::proofs::Handles::answers, crate::proofs::Handles::tells_ending))]
+
 ghost use Rattle.std.specs.Prelude.{◌≡◌, ◌≢◌, ◌⊎◌, Option, Some, None, IsSome, IfSome, MatchOption};
 ghost use Rattle.std.specs.Option.{is_some};
 ghost use Rattle.zk_talk.specs.declared.message.Side.{Side};
@@ -10,12 +12,12 @@ ghost use Rattle.zk_c.specs.Handle.{AreNumbers, IsNew, Renews, Tells, IsStep, Is
 ghost use Rattle.zk_c.specs.Read.{no_read};
 
 use crate::answer::{EndingAnswer, LineAnswer, MessageAnswer, StepAnswer};
+use crate::boxes::TalkBox;
 use crate::conversation::Conversation;
 use crate::counts::{HeldAnswer, WaitingAnswer};
 use crate::handle::{fill, put_in, take_out, with_value};
 use crate::number::{EMPTY, WELL};
 use crate::read_answer::ReadAnswer;
-use crate::talk_box::TalkBox;
 use std::alloc::Global;
 use zk_fields::Field;
 use zk_records::Profile;

@@ -1,4 +1,6 @@
 //! `zk_through_new` and its like: a conversation that goes on where its profile ends, which a handle owns.
+#![tactic(auto, using(crate::proofs::Handles::is_held, crate::proofs::Handles::answers, crate::proofs::Handles::tells_ending))]
+
 ghost use Rattle.std.specs.Prelude.{◌≡◌, ◌≢◌, ◌⊎◌, Some, None, IsSome, MatchOption};
 ghost use Rattle.std.specs.Option.{is_some};
 ghost use Rattle.zk_talk.specs.declared.message.Side.{Side};
@@ -10,10 +12,10 @@ ghost use Rattle.zk_c.specs.Passage.{PassageState};
 ghost use Rattle.zk_c.specs.Passing.{no_passed, IsNew, IsJoined, Renews, TellsStep, IsView, IsLine, IsFields, IsLeftOut, IsFinish};
 
 use crate::answer::{EndingAnswer, LineAnswer, MessageAnswer};
+use crate::boxes::PassageBox;
 use crate::handle::{fill, put_in, take_out, with_value};
 use crate::number::{EMPTY, WELL};
 use crate::passage::Passage;
-use crate::passage_box::PassageBox;
 use crate::passed::PassedAnswer;
 use crate::read_answer::ReadAnswer;
 use crate::talk::limits_of;

@@ -1,5 +1,7 @@
 //! Frames, written from fields with no handle: `zk_write_request`, `zk_write_first`, `zk_write_reply`, `zk_write_event`,
 //! `zk_write_connected`.
+#![tactic(auto, using(crate::proofs::Handles::answers))]
+
 ghost use Rattle.std.specs.Prelude.{◌≡◌, pos, negsuc, Bool, Option, []};
 ghost use Rattle.zk_records.specs.Held.{ConnectRequest, ConnectResponse, WatcherEvent};
 ghost use Rattle.zk_records.specs.Codes.{op_number};

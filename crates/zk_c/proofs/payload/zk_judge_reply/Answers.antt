@@ -1,19 +1,24 @@
-use Rattle.std.proofs.Common.{w32}
+use Rattle.std.proofs.Common.{◌≡◌, Result, w32, subst, arith}
+use Rattle.std.specs.Prelude.{MatchResult}
 use Rattle.std.proofs.lemmas.Int.{to_z-of_z}
 use Rattle.std.proofs.lemmas.Bool.{false≢true}
+use Rattle.std.proofs.lemmas.Grind.{common_steps}
+use Rattle.zk_jute.specs.declared.fault.ItemFault.{ItemFault}
+use Rattle.zk_answers.specs.Held.{ServerFrame}
+use Rattle.zk_c.specs.Judged.{payload_answer, TellsFault}
 use Rattle.zk_c.proofs.Parts.{where_asked}
 use Rattle.zk_c.proofs.payload.zk_judge_reply.Goals as goal
 
 pub borrow_reply-requires : goal.borrow_reply-requires
 borrow_reply-requires c = λ header rest h e. false≢true (c.if-is_of_event.ensures.1 (header, rest, h, e))
 
-pub returns-in-Ok-clause-found : goal.returns-in-Ok-clause-found
-returns-in-Ok-clause-found c = let found = c.in-Ok.ensures.found in where_asked _ (to_z-of_z w32 c.args.operation c.ranges.operation) c.in-Some.ensures (λ well.
-    (c.in-Ok._frame, record { reply = found.0; sent = found.1; is = found.2 }))
+pub returns-clause-found : goal.returns-clause-found
+returns-clause-found c = where_asked _ (to_z-of_z w32 c.args.operation c.ranges.operation) c.in-Some.ensures (grind (arith, common_steps))
 
-pub returns-in-Err-clause-only : goal.returns-in-Err-clause-only
-returns-in-Err-clause-only c = where_asked _ (to_z-of_z w32 c.args.operation c.ranges.operation) c.in-Some.ensures (λ s is. let read = c.in-Err.ensures.only s is.reply is.sent is.is in absurd (cc))
+pub returns-clause-only : goal.returns-clause-only
+returns-clause-only c = where_asked _ (to_z-of_z w32 c.args.operation c.ranges.operation) c.in-Some.ensures (λ s is.
+    subst (λ (read : Result ServerFrame ItemFault). MatchResult read (λ f. c.judged.result ≡ payload_answer 0 0) (λ fault. TellsFault fault c.judged.result))
+    (c.borrow_reply.ensures.only s is.form is.sent is.is) c.judged.ensures)
 
-pub returns-in-Err-clause-fault : goal.returns-in-Err-clause-fault
-returns-in-Err-clause-fault c = let told = c.in-Err.ensures.fault in where_asked _ (to_z-of_z w32 c.args.operation c.ranges.operation) c.in-Some.ensures (λ not bad.
-    record { fault = c.in-Err.fault; is = told.0; ample = told.1; told = c.refused.ensures })
+pub returns-clause-fault : goal.returns-clause-fault
+returns-clause-fault c = where_asked _ (to_z-of_z w32 c.args.operation c.ranges.operation) c.in-Some.ensures (grind (arith, common_steps))

@@ -4,7 +4,7 @@ use Rattle.std.proofs.lemmas.Bool.{false≢true}
 use Rattle.zk_records.specs.declared.profile.Profile.TheVariants as profiles
 use Rattle.zk_records.specs.Codes.{IsNoOp}
 use Rattle.zk_talk.specs.declared.message.MessageOf.TheVariants.{Server}
-use Rattle.zk_c.specs.Read.{HasPlaces, IsOp}
+use Rattle.zk_c.specs.Read.{IsOp}
 use Rattle.zk_c.proofs.Parts.{where_asked}
 use Rattle.zk_c.proofs.Reading.{read_ok, read_err}
 use Rattle.zk_c.proofs.read.zk_read_reply.Goals as goal
@@ -13,12 +13,12 @@ pub borrow_reply-requires : goal.borrow_reply-requires
 borrow_reply-requires c = λ header rest h e. false≢true (c.if-is_of_event.ensures.1 (header, rest, h, e))
 
 pub returns-in-Ok-clause-reads : goal.returns-in-Ok-clause-reads
-returns-in-Ok-clause-reads c = let found = c.in-Ok.ensures.found in where_asked _ (to_z-of_z w32 c.args.operation c.ranges.operation) c.in-Some.ensures (λ small not.
-    read_ok Server (λ x is. c.in-Ok.ensures.only x is.reply is.sent is.is) (record { reply = found.0; sent = found.1; is = found.2 }) (c.read_server.ensures (found.1, subst HasPlaces found.2 small)))
+returns-in-Ok-clause-reads c = where_asked _ (to_z-of_z w32 c.args.operation c.ranges.operation) c.in-Some.ensures (λ small not.
+    read_ok Server c.in-Ok.frame c.in-Ok.ensures.found c.in-Ok.ensures.only c.read_server.ensures small)
 
 pub returns-in-Err-clause-reads : goal.returns-in-Err-clause-reads
 returns-in-Err-clause-reads c = where_asked _ (to_z-of_z w32 c.args.operation c.ranges.operation) c.in-Some.ensures (λ small not.
-    read_err Server (λ x is. c.in-Err.ensures.only x is.reply is.sent is.is) c.in-Err.ensures.fault refl (c.read_fault.ensures small))
+    read_err Server c.in-Err.ensures.only c.in-Err.ensures.fault refl (c.read_fault.ensures small))
 
 pub returns-in_default-clause-range : goal.returns-in_default-clause-range
 returns-in_default-clause-range c = λ none known. (c.unasked.ensures.range (subst IsOp (sym (to_z-of_z w32 c.args.operation c.ranges.operation)) known), refl)

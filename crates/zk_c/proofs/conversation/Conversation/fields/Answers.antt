@@ -1,6 +1,5 @@
 use Rattle.std.proofs.Common.{◌<◌, ◌^◌, length, arith, subst}
 use Rattle.zk_talk.specs.Held.{Message}
-use Rattle.zk_talk.specs.declared.message.MessageOf.TheVariants.{Client as FromClient, Server as FromServer}
 use Rattle.zk_talk.specs.Stands.{TalkState, kept_on}
 use Rattle.zk_talk.specs.Viewed.{Shows}
 use Rattle.zk_c.specs.Handle.{IsFields}
@@ -13,4 +12,4 @@ returns c =
     let few : length (kept_on c.args.side t) < 2 ^ 32 = omega (arith, c.held-held.ensures.value, c.held-held.type_inv) in
     let tells = λ (m : Message) (shows : Shows t c.args.side m). c.read_shown.ensures.some m (c.view.ensures.only m shows) (has_fields t c.args.side m shows few) in
     subst (λ (u : TalkState). IsFields u c.args.side c.args.room.now c.read_shown.new.room c.read_shown.result) c.self.view_is
-    (record { none = λ e. c.read_shown.ensures.none (c.view.ensures.none e); client = λ f. tells (FromClient f); server = λ s. tells (FromServer s) })
+    (record { none = λ e. c.read_shown.ensures.none (c.view.ensures.none e); some = tells })

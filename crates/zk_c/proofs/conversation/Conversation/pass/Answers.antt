@@ -1,7 +1,7 @@
-use Rattle.std.proofs.Common.{rules, refl}
+use Rattle.std.proofs.Common.{rules}
 use Rattle.zk_c.specs.Handle.{IsPass}
 use Rattle.zk_c.proofs.Handles.{call_of}
 use Rattle.zk_c.proofs.conversation.Conversation.pass.Goals as goal
 
 pub returns : goal.returns
-returns c = call_of IsPass c.self.view_is refl (search rules)
+returns c = call_of IsPass c.self.view_is (search rules)

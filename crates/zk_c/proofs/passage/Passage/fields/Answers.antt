@@ -1,6 +1,5 @@
 use Rattle.std.proofs.Common.{◌≡◌, ◌<◌, ◌^◌, true, length, arith, sym, ap, subst, ◌∙◌}
 use Rattle.zk_talk.specs.Held.{Message}
-use Rattle.zk_talk.specs.declared.message.MessageOf.TheVariants.{Client as FromClient, Server as FromServer}
 use Rattle.zk_talk.specs.Stands.{kept_on}
 use Rattle.zk_talk.specs.Viewed.{Shows}
 use Rattle.zk_c.specs.Passage.{PassageState, newest_on}
@@ -16,4 +15,4 @@ returns c =
     let few : length (kept_on side c.self.inside.through.talk) < 2 ^ 32 = omega (arith, c.size-size.ensures, c.size-size.type_inv) in
     let tells = λ (m : Message) (shows : Shows c.self.inside.through.talk side m). c.read_shown.ensures.some m (c.view.ensures.only m shows) (has_fields c.self.inside.through.talk side m shows few) in
     subst (λ (p : PassageState). IsFields p side c.args.room.now c.read_shown.new.room c.read_shown.result) c.self.view_is
-    (record { none = λ none. c.read_shown.ensures.none (c.view.ensures.none (none newest)); client = λ n f. tells (FromClient f); server = λ n s. tells (FromServer s) })
+    (record { none = λ none. c.read_shown.ensures.none (c.view.ensures.none (none newest)); some = λ m shows. tells m shows.1 })

@@ -3,12 +3,9 @@ use Rattle.zk_frames.specs.Framing.{frame}
 use Rattle.zk_talk.specs.Said.{payload_of}
 use Rattle.zk_c.specs.Voice.{VoiceState}
 use Rattle.zk_c.specs.Saying.{say_answer, said, refused, no_line}
+use Rattle.zk_c.proofs.Copied.{voiced}
 use Rattle.zk_c.proofs.Handles.{say_of}
 use Rattle.zk_c.proofs.voice.Voice.make.Goals as goal
-
--- a speaker with the frame that it said last
-abbrev voiced : VoiceState → List ℕ → VoiceState
-voiced v xs = record v { frame = xs }
 
 pub returns-in-Err : goal.returns-in-Err
 returns-in-Err c = no_line c.in-Err.fault (ap (voiced c.args.self.now) c.requires) c.no_line.ensures c.in-Err.ensures.only

@@ -1,14 +1,10 @@
-use Rattle.std.proofs.Common.{ℕ, List, length, ap, ◌∙◌, sym, subst}
+use Rattle.std.proofs.Common.{ℕ, length, ap, ◌∙◌, sym, subst}
 use Rattle.zk_c.specs.contracts.voice.Voice.{the_view}
 use Rattle.zk_c.specs.declared.said.SayAnswer.{SayAnswer}
 use Rattle.zk_c.specs.Voice.{VoiceState}
 use Rattle.zk_c.specs.Saying.{TellsSay, say_answer, silent}
-use Rattle.zk_c.proofs.Copied.{say_silent}
+use Rattle.zk_c.proofs.Copied.{voiced, say_silent}
 use Rattle.zk_c.proofs.voice.Voice.say.Goals as goal
-
--- a speaker with the frame that it said last
-abbrev voiced : VoiceState → List ℕ → VoiceState
-voiced v xs = record v { frame = xs }
 
 pub returns-then-copy : goal.returns-then-copy
 returns-then-copy c =

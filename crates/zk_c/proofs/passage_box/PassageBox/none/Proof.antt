@@ -1,9 +1,0 @@
--- `none` owns nothing.
-use Rattle.zk_c.proofs.Boxed as boxed
-use Rattle.zk_c.proofs.Pointers.{passage}
-use Rattle.zk_c.specs.contracts.passage_box.PassageBox.none.Key.{name as #self}
-use Rattle.zk_c.proofs.passage_box.PassageBox.none.Statement.{statement}
-use Rattle.zk_c.proofs.passage_box.PassageBox.none.Code as code
-
-pub none_spec : {M : Type 1} → statement M
-none_spec 𝓤 𝓛 𝓜 𝓡 wired = boxed.none passage 𝓛 𝓜 𝓡 #self (code.unfolded 𝓤 𝓛.H 𝓜 𝓡 wired)
