@@ -15,7 +15,7 @@ use Rattle.zk_talk.proofs.Headline.{fault_is_bad}
 use Rattle.zk_frames.proofs.Cuts.{AllByRecursion-left, AllByRecursion-right}
 use Rattle.zk_recordings.specs.declared.parts.DamageAt.{DamageAt}
 use Rattle.zk_recordings.specs.declared.parts.Format.{Format}
-use Rattle.zk_recordings.specs.Recording.{Recording, Breaks, Ends, Place, AtLetters, InHead, InPieces, Piece, format_of, head_bytes, spelled, piece_values, piece_bytes, piece_history, front, begun_of, history_at, bytes_of, history_of, limits_of, damage_of, Spells}
+use Rattle.zk_recordings.specs.Recording.{Recording, Breaks, Ends, Place, InPieces, Piece, format_of, head_bytes, spelled, piece_values, piece_bytes, piece_history, front, begun_of, history_at, bytes_of, history_of, limits_of, damage_of, Spells}
 use Rattle.zk_listings.specs.declared.summary.Summary.{Summary}
 use Rattle.zk_listings.specs.declared.summary.Summary.TheVariants.{Ended, Broken}
 use Rattle.zk_listings.specs.Outcome.{IsOutcome, HasMessages, ComesTo}
@@ -25,9 +25,12 @@ use Rattle.zk_listings.specs.Outcome.{IsOutcome, HasMessages, ComesTo}
 abbrev AllBytes : List ℕ → Type 0
 AllBytes x = AllByRecursion (λ b. b < 256) x
 
+pub all-append : {X : Type 0} (P : X → Type 0) (xs ys : List X) → AllByRecursion P xs → AllByRecursion P ys → AllByRecursion P (xs ++ ys)
+all-append P [] ys p q = q
+all-append P (x ∷ xs) ys p q = (p.0, all-append P xs ys p.1 q)
+
 both : (g h : History) → AreBytes g → AreBytes h → AreBytes (g ++ h)
-both [] h p q = q
-both (x ∷ g) h p q = (p.0, both g h p.1 q)
+both g h p q = all-append (λ (x : Side × ℕ). x.1 < 256) g h p q
 
 on_bytes : (side : Side) (x : List ℕ) → AllBytes x → AreBytes (on side x)
 on_bytes side [] p = tt
@@ -48,9 +51,8 @@ all_pieces format (p ∷ pieces) bytes =
     (all_pieces format pieces (AllByRecursion-right (λ b. b < 256) (piece_bytes format p) (flat_map (piece_bytes format) pieces) bytes))
 
 at_bytes : (place : Place) → AllBytes (front place) → AreBytes (history_at place)
-at_bytes AtLetters bytes = tt
-at_bytes (InHead format) bytes = tt
 at_bytes (InPieces head pieces) bytes = all_pieces (format_of head) pieces (AllByRecursion-right (λ b. b < 256) (head_bytes head) (flat_map (piece_bytes (format_of head)) pieces) bytes)
+at_bytes _ bytes = tt
 
 history_bytes : (r : Recording) → AllBytes (bytes_of r) → AreBytes (history_of r)
 history_bytes (Breaks place b) bytes = both (history_at place) [] (at_bytes place (AllByRecursion-left (λ b. b < 256) (front place) (begun_of (Breaks place b)) bytes)) tt

@@ -12,7 +12,7 @@ use Rattle.zk_recordings.specs.declared.parts.Damage.TheVariants.{Short}
 use Rattle.zk_recordings.specs.declared.parts.Format.{Format}
 use Rattle.zk_recordings.specs.declared.parts.Format.TheVariants.{Zkr1, Zkr2}
 use Rattle.zk_recordings.specs.declared.parts.Part.{Part}
-use Rattle.zk_recordings.specs.declared.parts.Part.TheVariants.{Letters, ClientLimit, ServerLimit, Waiting, Profile, SideByte, Time, Size}
+use Rattle.zk_recordings.specs.declared.parts.Part.TheVariants.{Letters, SideByte}
 use Rattle.zk_recordings.specs.Parts.{head_parts, piece_parts}
 use Rattle.zk_recordings.specs.Recording.{End, Cut, Bad, IsBreakIn, format_of, Place, AtLetters, InHead, InPieces, Recording, Breaks, Ends, Spells, place_of, history_of, limits_of, damage_of, damage_at, behind}
 use Rattle.zk_recordings.specs.Reading.{IsHeaded, IsDecidedBy}
@@ -21,7 +21,7 @@ use Rattle.zk_recordings.proofs.Any.{longer}
 use Rattle.zk_recordings.proofs.Stages.{damaged-more}
 use Rattle.zk_recordings.proofs.Once.{spells-once}
 
-none_some : (damage : Option DamageAt) (d : DamageAt) → damage ≡ None → damage ≡ Some d → ⊥
+pub none_some : (damage : Option DamageAt) (d : DamageAt) → damage ≡ None → damage ≡ Some d → ⊥
 none_some damage d p q = cc
 
 nothing-good : (limits : Limits) → IsGood limits []
@@ -58,13 +58,8 @@ short-only place d e n = let same : damage_at place Short ≡ d = cc in n (sym (
 broken-cut : (bytes begun : List ℕ) (place : Place) (before : List (List ℕ)) (part : Part) (b : IsBroken bytes (Breaks place (record { before = before; part = part; end = Cut begun }))) →
     Spells bytes (Breaks place (record { before = before; part = part; end = Cut begun })) → ⊥
 broken-cut bytes begun place before Letters b i = letters-read bytes begun place before i b.head_read
-broken-cut bytes begun place before ClientLimit b i = short-only (behind place before) b.damage b.is b.decided
-broken-cut bytes begun place before ServerLimit b i = short-only (behind place before) b.damage b.is b.decided
-broken-cut bytes begun place before Waiting b i = short-only (behind place before) b.damage b.is b.decided
-broken-cut bytes begun place before Profile b i = short-only (behind place before) b.damage b.is b.decided
 broken-cut bytes begun place before SideByte b i = none_some None b.damage refl b.is
-broken-cut bytes begun place before Time b i = short-only (behind place before) b.damage b.is b.decided
-broken-cut bytes begun place before Size b i = short-only (behind place before) b.damage b.is b.decided
+broken-cut bytes begun place before _ b i = short-only (behind place before) b.damage b.is b.decided
 
 broken-at : (bytes : List ℕ) (place : Place) (before : List (List ℕ)) (part : Part) (end : End) (b : IsBroken bytes (Breaks place (record { before = before; part = part; end = end }))) →
     Spells bytes (Breaks place (record { before = before; part = part; end = end })) → IsDecidedBy b.damage bytes (Breaks place (record { before = before; part = part; end = end }))
@@ -89,8 +84,7 @@ broken-by (Ends head pieces last) bytes b i = absurd (short-only _ b.damage b.is
 pub fault-headed : (limits : Limits) (r : Recording) (g : Fault) → IsFaultOf (limits_of limits r) (history_of r) g → IsHeaded (place_of r)
 fault-headed limits (Breaks AtLetters b) g is = absurd (fault_is_bad limits [] g is (nothing-good limits))
 fault-headed limits (Breaks (InHead format) b) g is = absurd (fault_is_bad limits [] g is (nothing-good limits))
-fault-headed limits (Breaks (InPieces head pieces) b) g is = tt
-fault-headed limits (Ends head pieces last) g is = tt
+fault-headed limits _ g is = tt
 
 pub undecided : (limits : Limits) (bytes rest : List ℕ) (r s : Recording) → Spells bytes r → Spells (bytes ++ rest) s → IsGood (limits_of limits s) (history_of s) → damage_of s ≡ None → IsDecided limits bytes r → ⊥
 undecided limits bytes rest r s i j good undamaged (inl f) = by-fault (fault-headed limits r f.0 f.1)

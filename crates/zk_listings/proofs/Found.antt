@@ -1,5 +1,5 @@
 -- What a run of reads comes to.
-use Rattle.std.proofs.Common.{ℕ, ◌⊎◌, List, [], ◌++◌, ◌+◌, length, Option, inl, inr, sym, subst, append-nil}
+use Rattle.std.proofs.Common.{ℕ, ◌⊎◌, List, ◌++◌, ◌+◌, length, Option, inl, inr, sym, subst}
 use Rattle.std.specs.Io.KnownBytes.{Consumes, IsAtEnd, Appends}
 use Rattle.zk_talk.specs.declared.limits.Limits.{Limits}
 use Rattle.zk_talk.specs.Held.{Message}
@@ -57,17 +57,6 @@ running limits before after x messages r p i unbroken good = record {
   unbroken = unbroken;
   good = good;
   only = λ others summary o. outcome-good limits r messages others summary good o;
-}
-
-pub running-begun : (limits : Limits) (before after : Option (List ℕ)) (messages : List Message) → IsRunning limits before after messages → HasBegun limits before after messages
-running-begun limits before after messages i = record {
-  bytes = i.bytes;
-  recording = i.recording;
-  reads = i.reads;
-  front = history_of i.recording;
-  rest = [];
-  splits = sym (append-nil (history_of i.recording));
-  good = i.good;
 }
 
 pub begun-by : (limits : Limits) (before after : Option (List ℕ)) (x : List ℕ) (messages : List Message) → Consumes before after x → Opens limits x messages → HasBegun limits before after messages

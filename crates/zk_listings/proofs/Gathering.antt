@@ -16,7 +16,7 @@ use Rattle.zk_talk.proofs.Small.{small_limits}
 use Rattle.zk_talk.proofs.Standing.{bytes-on, other-on, runs_client, runs_server}
 use Rattle.zk_recordings.specs.declared.parts.Format.{Format}
 use Rattle.zk_recordings.specs.declared.parts.Format.TheVariants.{Zkr1, Zkr2}
-use Rattle.zk_recordings.specs.Recording.{AtLetters, Breaks, Ends, InHead, InPieces, Piece, Recording, Spells, begun_of, format_of, head_bytes, history_of, limits_of, piece_bytes, piece_history}
+use Rattle.zk_recordings.specs.Recording.{Breaks, Ends, InPieces, Piece, Recording, Spells, begun_of, format_of, head_bytes, history_of, limits_of, piece_bytes, piece_history}
 use Rattle.zk_recordings.proofs.Lists.{on-append}
 use Rattle.zk_listings.specs.declared.listing.Listing.TheVariants.{Last}
 use Rattle.zk_listings.specs.declared.progress.Progress.{Progress}
@@ -30,9 +30,8 @@ use Rattle.zk_listings.proofs.Talking.{has-good}
 
 more-on : (side other : Side) (bs : List ℕ) (h : History) → length (side_bytes side (h ++ on other bs)) ≤ length (side_bytes side h) + length bs
 more-on Client Client bs h = omega (arith, bytes-on Client bs h)
-more-on Client Server bs h = omega (arith, ap length (other-on Server bs h))
-more-on Server Client bs h = omega (arith, ap length (other-on Client bs h))
 more-on Server Server bs h = omega (arith, bytes-on Server bs h)
+more-on side other bs h = omega (arith, ap length (other-on other bs h))
 
 content-within : (format : Format) (p : Piece) → length p.content ≤ length (piece_bytes format p)
 content-within Zkr1 p = omega (arith, length-append p.size p.content)
@@ -52,8 +51,6 @@ pieces-within side format (p ∷ ps) h =
     )
 
 pub history-within : (side : Side) (r : Recording) (x : List ℕ) → Spells x r → length (side_bytes side (history_of r)) ≤ length x
-history-within side (Breaks AtLetters b) x i = omega (arith, ap length (no_bytes side))
-history-within side (Breaks (InHead format) b) x i = omega (arith, ap length (no_bytes side))
 history-within side (Breaks (InPieces head pieces) b) x i =
     let all = flat_map (piece_bytes (format_of head)) pieces in
     omega (
@@ -77,6 +74,7 @@ history-within side (Ends head pieces last) x i =
       pieces-within side (format_of head) pieces [],
       ap length (no_bytes side),
     )
+history-within side _ x i = omega (arith, ap length (no_bytes side))
 
 -- ---- the beginning of a frame
 
@@ -155,24 +153,18 @@ unless g limits talk h messages None i = i.0
 unless g limits talk h messages (Some fault) i = i
 
 -- all that is gathered is given to it
-pub given-all : (limits : Limits) (old new : TalkState) (g now : SideBytes) (refused : Option Fault) → now.bytes ≡ [] → new.limits ≡ old.limits →
-    ((lines : List ℕ) → Takes Last old lines (on g.side g.bytes) refused new lines) → (h : History) (messages : List Message) → HasAllBut g limits (Some old) h messages →
-    (more : List Message) × HasAllButOr now limits (Some new) refused h (messages ++ more)
-given-all limits old new g now refused e same taken h messages i =
-    let r = taken [] i.0 messages i.2.0 in
-    (r.0, subst (λ z. HasAllButOr now limits (Some new) refused z (messages ++ r.0)) (sym i.1) (judges-has now limits new (i.0 ++ on g.side g.bytes) (messages ++ r.0) refused e (same ∙ i.2.1) r.1))
+module _ (limits : Limits) (old new : TalkState) (g now : SideBytes) (refused : Option Fault) (empty : now.bytes ≡ []) (same : new.limits ≡ old.limits)
+    (taken : (lines : List ℕ) → Takes Last old lines (on g.side g.bytes) refused new lines) where
+  pub given-all : (h : History) (messages : List Message) → HasAllBut g limits (Some old) h messages → (more : List Message) × HasAllButOr now limits (Some new) refused h (messages ++ more)
+  given-all h messages i =
+      let r = taken [] i.0 messages i.2.0 in
+      (r.0, subst (λ z. HasAllButOr now limits (Some new) refused z (messages ++ r.0)) (sym i.1) (judges-has now limits new (i.0 ++ on g.side g.bytes) (messages ++ r.0) refused empty (same ∙ i.2.1) r.1))
 
-pub settle-turns : (limits : Limits) (old new : TalkState) (g now : SideBytes) (refused : Option Fault) → now.bytes ≡ [] → new.limits ≡ old.limits →
-    ((lines : List ℕ) → Takes Last old lines (on g.side g.bytes) refused new lines) → Turns limits old g refused new now
-settle-turns limits old new g now refused e same taken h messages i =
-    let r = given-all limits old new g now refused e same taken h messages i in
-    (r.0, unless now limits (Some new) h (messages ++ r.0) refused r.1)
+  pub settle-turns : Turns limits old g refused new now
+  settle-turns h messages i = let r = given-all h messages i in (r.0, unless now limits (Some new) h (messages ++ r.0) refused r.1)
 
-pub settle-gathers : (limits : Limits) (old new : TalkState) (g now : SideBytes) (refused : Option Fault) → now.bytes ≡ [] → new.limits ≡ old.limits →
-    ((lines : List ℕ) → Takes Last old lines (on g.side g.bytes) refused new lines) → Gathers limits old g [] refused new now
-settle-gathers limits old new g now refused e same taken h messages i =
-    let r = given-all limits old new g now refused e same taken h messages i in
-    (r.0, subst (λ z. HasAllButOr now limits (Some new) refused z (messages ++ r.0)) (sym (append-nil h)) r.1)
+  pub settle-gathers : Gathers limits old g [] refused new now
+  settle-gathers h messages i = let r = given-all h messages i in (r.0, subst (λ z. HasAllButOr now limits (Some new) refused z (messages ++ r.0)) (sym (append-nil h)) r.1)
 
 pub waits-gathers : (limits : Limits) (t : TalkState) (g : SideBytes) → Begins limits t g → Gathers limits t g [] None t g
 waits-gathers limits t g b h messages i =

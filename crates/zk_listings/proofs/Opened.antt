@@ -2,7 +2,7 @@
 use Rattle.std.proofs.Common.{ℕ, List, [], ◌∷◌, ◌++◌, Option, None, Some, refl, sym, subst, append-nil}
 use Rattle.zk_talk.specs.declared.limits.Limits.{Limits}
 use Rattle.zk_talk.specs.Held.{Message}
-use Rattle.zk_talk.specs.declared.message.Ending.TheVariants.{Whole, Cut, Refused}
+use Rattle.zk_talk.specs.declared.message.Ending.TheVariants.{Refused}
 use Rattle.zk_talk.specs.Stands.{TalkState}
 use Rattle.zk_listings.specs.declared.progress.Progress.{Progress}
 use Rattle.zk_listings.specs.declared.summary.Summary.{Summary}
@@ -30,13 +30,10 @@ opens-decided limits x messages talk (Ended (Refused fault)) d =
       splits = m.0.stands;
       good = record { conversation = m.0.conversation; client_rest = m.0.client_rest; server_rest = m.0.server_rest; good = m.0.good; order = m.1 };
     }
-opens-decided limits x messages talk (Ended (Cut side frame got)) d =
-    let m = d.is.messages_are in
-    opens-whole limits x messages d.recording d.spells (record { conversation = m.0; client_rest = m.1; server_rest = m.2; good = m.3; order = m.4 })
-opens-decided limits x messages talk (Ended (Whole unanswered)) d =
-    let m = d.is.messages_are in
-    opens-whole limits x messages d.recording d.spells (record { conversation = m.0; client_rest = m.1; server_rest = m.2; good = m.3; order = m.4 })
 opens-decided limits x messages talk (Broken damage) d = opens-whole limits x messages d.recording d.spells d.is.messages_are
+opens-decided limits x messages talk _ d =
+    let m = d.is.messages_are in
+    opens-whole limits x messages d.recording d.spells (record { conversation = m.0; client_rest = m.1; server_rest = m.2; good = m.3; order = m.4 })
 
 -- whatever follows a whole head
 pub opens-longer : (limits : Limits) (x more : List ℕ) (messages : List Message) (r : Recording) → Spells x r → IsHeaded (place_of r) → IsGoodWith (limits_of limits r) (history_of r) messages → Opens limits (x ++ more) messages

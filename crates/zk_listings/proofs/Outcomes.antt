@@ -1,5 +1,5 @@
 -- A recording comes to one thing, with one list of messages.
-use Rattle.std.proofs.Common.{◌≡◌, ℕ, List, [], ◌++◌, Option, Some, None, refl, sym, ap, ◌∙◌, subst}
+use Rattle.std.proofs.Common.{◌≡◌, ℕ, List, [], ◌++◌, Option, Some, refl, sym, ap, ◌∙◌, subst}
 use Rattle.zk_talk.specs.declared.message.Side.{Side}
 use Rattle.zk_talk.specs.declared.message.Side.TheVariants.{Client, Server}
 use Rattle.zk_talk.specs.declared.limits.Limits.{Limits}
@@ -21,6 +21,7 @@ use Rattle.zk_listings.specs.declared.summary.Summary.{Summary}
 use Rattle.zk_listings.specs.declared.summary.Summary.TheVariants.{Ended, Broken}
 use Rattle.zk_listings.specs.Outcome.{ComesTo, HasMessages, IsGoodWith, IsOutcome}
 use Rattle.zk_recordings.specs.Recording.{Recording, history_of, limits_of, damage_of}
+use Rattle.zk_listings.proofs.Decided.{none_some}
 
 -- one conversation ends in one place
 cut-once : (v : Conversation) (cr sr : List ℕ) (s t : Side) (n m k l : ℕ) → IsCutAt v cr sr s n k → IsCutAt v cr sr t m l → Cut s n k ≡ Cut t m l
@@ -52,26 +53,20 @@ module _ (limits : Limits) (h : History) where
       cut-once p.0 p.1 p.2 s t n m k l p.4
       (subst (λ v. IsCutAt v p.1 p.2 t m l) r.0 (subst (λ b. IsCutAt q.0 p.1 b t m l) r.2 (subst (λ b. IsCutAt q.0 b q.2 t m l) r.1 q.4)))
 
-  no-damage : (damage : Option DamageAt) (d : DamageAt) → damage ≡ None → damage ≡ Some d → ⊥
-  no-damage damage d p q = cc
+  -- the history of a recording that comes to an ending ends so
+  ended : (damage : Option DamageAt) (e : Ending) → ComesTo limits h damage (Ended e) → IsEnding limits h e
+  ended damage (Refused f) p = p
+  ended damage _ p = p.1
+
+  not-both : (damage : Option DamageAt) (e : Ending) (d : DamageAt) → ComesTo limits h damage (Ended e) → ComesTo limits h damage (Broken d) → ⊥
+  not-both damage (Refused f) d p q = q.0 f p
+  not-both damage _ d p q = none_some damage d p.0 q.1
 
   pub comes_to-once : (damage : Option DamageAt) (s t : Summary) → ComesTo limits h damage s → ComesTo limits h damage t → s ≡ t
-  comes_to-once damage (Ended (Refused f)) (Ended (Refused g)) p q = ap (λ e. Ended e) (ending-once (Refused f) (Refused g) p q)
-  comes_to-once damage (Ended (Refused f)) (Ended (Whole m)) p q = ap (λ e. Ended e) (ending-once (Refused f) (Whole m) p q.1)
-  comes_to-once damage (Ended (Refused f)) (Ended (Cut t m l)) p q = ap (λ e. Ended e) (ending-once (Refused f) (Cut t m l) p q.1)
-  comes_to-once damage (Ended (Refused f)) (Broken d) p q = absurd (q.0 f p)
-  comes_to-once damage (Broken d) (Ended (Refused g)) p q = absurd (p.0 g q)
-  comes_to-once damage (Broken d) (Ended (Whole m)) p q = absurd (no-damage damage d q.0 p.1)
-  comes_to-once damage (Broken d) (Ended (Cut t m l)) p q = absurd (no-damage damage d q.0 p.1)
+  comes_to-once damage (Ended e) (Ended f) p q = ap (λ z. Ended z) (ending-once e f (ended damage e p) (ended damage f q))
+  comes_to-once damage (Ended e) (Broken d) p q = absurd (not-both damage e d p q)
+  comes_to-once damage (Broken d) (Ended e) p q = absurd (not-both damage e d q p)
   comes_to-once damage (Broken d) (Broken e) p q = let b : Some d ≡ Some e = sym p.1 ∙ q.1 in ap Broken (cc)
-  comes_to-once damage (Ended (Whole n)) (Ended (Refused g)) p q = ap (λ e. Ended e) (ending-once (Whole n) (Refused g) p.1 q)
-  comes_to-once damage (Ended (Whole n)) (Ended (Whole m)) p q = ap (λ e. Ended e) (ending-once (Whole n) (Whole m) p.1 q.1)
-  comes_to-once damage (Ended (Whole n)) (Ended (Cut t m l)) p q = ap (λ e. Ended e) (ending-once (Whole n) (Cut t m l) p.1 q.1)
-  comes_to-once damage (Ended (Whole n)) (Broken d) p q = absurd (no-damage damage d p.0 q.1)
-  comes_to-once damage (Ended (Cut s n k)) (Ended (Refused g)) p q = ap (λ e. Ended e) (ending-once (Cut s n k) (Refused g) p.1 q)
-  comes_to-once damage (Ended (Cut s n k)) (Ended (Whole m)) p q = ap (λ e. Ended e) (ending-once (Cut s n k) (Whole m) p.1 q.1)
-  comes_to-once damage (Ended (Cut s n k)) (Ended (Cut t m l)) p q = ap (λ e. Ended e) (ending-once (Cut s n k) (Cut t m l) p.1 q.1)
-  comes_to-once damage (Ended (Cut s n k)) (Broken d) p q = absurd (no-damage damage d p.0 q.1)
 
 order-once : (limits : Limits) (h : History) (v w : Conversation) (cb sb db tb : List ℕ) (M N : List Message) → Good limits h v cb sb → IsOrder limits h v M → Good limits h w db tb → IsOrder limits h w N → M ≡ N
 order-once limits h v w cb sb db tb M N p a q b =
@@ -83,8 +78,7 @@ ended-once limits h M N (Refused f) p q =
     let e = (same_before limits h f f p.0 q.0).0 in
     order-once limits p.0.before p.0.conversation q.0.conversation p.0.client_rest p.0.server_rest q.0.client_rest q.0.server_rest M N p.0.good p.1
     (subst (λ k. Good limits k q.0.conversation q.0.client_rest q.0.server_rest) (sym e) q.0.good) (subst (λ k. IsOrder limits k q.0.conversation N) (sym e) q.1)
-ended-once limits h M N (Cut side n k) p q = order-once limits h p.0 q.0 p.1 p.2 q.1 q.2 M N p.3 p.4 q.3 q.4
-ended-once limits h M N (Whole n) p q = order-once limits h p.0 q.0 p.1 p.2 q.1 q.2 M N p.3 p.4 q.3 q.4
+ended-once limits h M N _ p q = order-once limits h p.0 q.0 p.1 p.2 q.1 q.2 M N p.3 p.4 q.3 q.4
 
 messages-once : (limits : Limits) (h : History) (M N : List Message) (s : Summary) → HasMessages limits h M s → HasMessages limits h N s → M ≡ N
 messages-once limits h M N (Ended e) p q = ended-once limits h M N e p q
@@ -98,8 +92,7 @@ outcome-once limits r M N s t p q =
 -- a recording whose history is good has no messages but those of the history
 good-once : (limits : Limits) (h : History) (M N : List Message) (s : Summary) → IsGoodWith limits h M → HasMessages limits h N s → N ≡ M
 good-once limits h M N (Ended (Refused f)) g m = absurd (fault_is_bad limits h f m.0 (g.conversation, g.client_rest, g.server_rest, g.good))
-good-once limits h M N (Ended (Cut side n k)) g m = order-once limits h m.0 g.conversation m.1 m.2 g.client_rest g.server_rest N M m.3 m.4 g.good g.order
-good-once limits h M N (Ended (Whole n)) g m = order-once limits h m.0 g.conversation m.1 m.2 g.client_rest g.server_rest N M m.3 m.4 g.good g.order
+good-once limits h M N (Ended _) g m = order-once limits h m.0 g.conversation m.1 m.2 g.client_rest g.server_rest N M m.3 m.4 g.good g.order
 good-once limits h M N (Broken d) g m = order-once limits h m.conversation g.conversation m.client_rest m.server_rest g.client_rest g.server_rest N M m.good m.order g.good g.order
 
 pub outcome-good : (limits : Limits) (r : Recording) (M N : List Message) (s : Summary) → IsGoodWith (limits_of limits r) (history_of r) M → IsOutcome limits r N s → N ≡ M

@@ -19,10 +19,7 @@ use Rattle.zk_recordings.specs.Reading.{IsAt, ReadsOn}
 use Rattle.zk_listings.specs.Following.{Follows, Talks, Takes, Decides, Advances, Steps, ended_by}
 use Rattle.zk_listings.proofs.Stops.{decides-by_fault}
 use Rattle.zk_listings.proofs.Decided.{broken-by}
-use Rattle.zk_listings.proofs.Talking.{Given, given, gives-by, goes-headed, goes-history}
-
-none-some : {A : Type 0} (x : A) (B : Type 0) → Some x ≡ None → B
-none-some x B e = cc
+use Rattle.zk_listings.proofs.Talking.{Given, given, gives-by, goes-headed, goes-history, none-some}
 
 module _ (listing : Listing) (p : Progress) (t u : TalkState) (lines lines_now block : List ℕ) (head used : ℕ) (side : Side) (state : ReaderState) (refused : Option Fault)
     (begun : p.talk ≡ Some t)

@@ -1,5 +1,5 @@
 -- What a run of reads comes to, whose last bytes aren't given to the talk yet.
-use Rattle.std.proofs.Common.{◌≡◌, ℕ, ◌<◌, ◌^◌, List, ◌++◌, length, Option, None, Some, refl, subst}
+use Rattle.std.proofs.Common.{◌≡◌, ℕ, ◌+◌, ◌<◌, ◌≤◌, ◌^◌, List, [], ◌++◌, length, Option, None, Some, refl, subst, arith, length-append}
 use Rattle.std.specs.Io.KnownBytes.{Appends, Consumes}
 use Rattle.zk_talk.specs.declared.limits.Limits.{Limits}
 use Rattle.zk_talk.specs.Held.{Message}
@@ -11,45 +11,92 @@ use Rattle.zk_listings.specs.declared.summary.Summary.{Summary}
 use Rattle.zk_listings.specs.Lines.{text_of}
 use Rattle.zk_listings.specs.Following.{IsHeadedBy, Opens}
 use Rattle.zk_listings.specs.Gathered.{SideBytes}
-use Rattle.zk_listings.specs.Gathering.{FollowsBut, ReachesBut}
-use Rattle.zk_listings.specs.Outcome.{IsRunning}
-use Rattle.zk_listings.specs.Running.{HasBegunLines, HasReached}
-use Rattle.zk_listings.proofs.Feeding.{grown-whole}
-use Rattle.zk_listings.proofs.Found.{begun-by, running, running-begun}
+use Rattle.zk_listings.specs.Gathering.{AdvancesBut, ReachesBut}
+use Rattle.zk_listings.specs.Outcome.{HasGrownIn}
+use Rattle.zk_listings.specs.Running.{HasBegunLines, HasFoundBy, HasReached}
+use Rattle.zk_listings.proofs.Bytes.{Consumes-none, Consumes-then}
+use Rattle.zk_listings.proofs.Feeding.{grown-more, grown-whole, told-more}
+use Rattle.zk_listings.proofs.Found.{begun-by, found-decided, running}
 use Rattle.zk_listings.proofs.Gathering.{but-follows, good-here-but}
 use Rattle.zk_listings.proofs.Runs.{none-begun}
 use Rattle.zk_listings.proofs.Opened.{opens-decided, opens-later, opens-longer, opens-whole}
 
-module _ (g : SideBytes) (limits : Limits) (x : List ℕ) (messages : List Message) (p : Progress) (i : FollowsBut g limits x messages p) (size : length x < 2 ^ 62) where
-  running-but : (before after : Option (List ℕ)) → Consumes before after x → IsRunning limits before after messages
-  running-but before after consumed = running limits before after x messages i.recording consumed i.at.spells i.unbroken (good-here-but g limits x messages p i size)
+-- some bytes were read, at most so many, which come to this, and the lines of their messages were written
+pub record HasRead (g : SideBytes) (limits : Limits) (listing : Listing) (p : Progress) (found : Option Summary) (unread unread_now contents contents_now : Option (List ℕ)) (most : ℕ) : Type 0 where
+  pub bytes : List ℕ
+  pub messages : List Message
+  pub consumed : Consumes unread unread_now bytes
+  pub reaches : ReachesBut g limits bytes messages p found
+  pub size : length bytes ≤ most
+  pub written : Appends contents contents_now (text_of listing messages)
 
-  -- the run ends here
-  pub reached-but : (listing : Listing) (before after contents contents_now : Option (List ℕ)) → Consumes before after x → Appends contents contents_now (text_of listing messages) →
-      HasReached limits listing before after contents contents_now
-  reached-but listing before after contents contents_now consumed written = record { messages = messages; running = running-but before after consumed; written = written }
+-- their summary is known
+pub found-read : (g : SideBytes) (limits : Limits) (listing : Listing) (p : Progress) (found : Option Summary) (unread unread_now contents contents_now : Option (List ℕ)) (most : ℕ) (summary : Summary) →
+    HasRead g limits listing p found unread unread_now contents contents_now most → found ≡ Some summary → HasFoundBy limits listing unread unread_now contents contents_now p.talk summary
+found-read g limits listing p found unread unread_now contents contents_now most summary r e =
+    found-decided limits listing unread unread_now contents contents_now r.bytes r.messages p.talk summary r.consumed r.written (subst (ReachesBut g limits r.bytes r.messages p) e r.reaches)
 
-  pub begun-but : (listing : Listing) (before after contents contents_now : Option (List ℕ)) → Consumes before after x → Appends contents contents_now (text_of listing messages) →
-      HasBegunLines limits listing before after contents contents_now
-  begun-but listing before after contents contents_now consumed written =
-      record { messages = messages; begun = running-begun limits before after messages (running-but before after consumed); written = grown-whole contents contents_now _ written }
+opens-reached : (g : SideBytes) (limits : Limits) (x : List ℕ) (messages : List Message) (p : Progress) (found : Option Summary) → length x < 2 ^ 62 → ReachesBut g limits x messages p found → Opens limits x messages
+opens-reached g limits x messages p None size i = opens-whole limits x messages i.recording i.at.spells (good-here-but g limits x messages p i size)
+opens-reached g limits x messages p (Some summary) size i = opens-decided limits x messages p.talk summary i
 
-  opens-here : Opens limits x messages
-  opens-here = opens-whole limits x messages i.recording i.at.spells (good-here-but g limits x messages p i size)
+-- it isn't
+module _ (g : SideBytes) (limits : Limits) (listing : Listing) (p : Progress) (unread unread_now contents contents_now : Option (List ℕ)) (most : ℕ)
+    (r : HasRead g limits listing p None unread unread_now contents contents_now most) (small : most + 65536 < 2 ^ 62) where
+  size : length r.bytes < 2 ^ 62
+  size = omega (arith, small, r.size)
 
-  -- and whatever follows
-  pub opens-but : (more : List ℕ) → Opens limits (x ++ more) messages
+  -- no more is read
+  pub reached-but : (after : Option (List ℕ)) → Consumes unread after r.bytes → HasReached limits listing unread after contents contents_now
+  reached-but after consumed = record {
+    messages = r.messages;
+    running = running limits unread after r.bytes r.messages r.reaches.recording consumed r.reaches.at.spells r.reaches.unbroken (good-here-but g limits r.bytes r.messages p r.reaches size);
+    written = r.written;
+  }
+
+  opens-but : (more : List ℕ) → Opens limits (r.bytes ++ more) r.messages
   opens-but more = go p.talk refl where
-    go : (talk : Option TalkState) → p.talk ≡ talk → Opens limits (x ++ more) messages
-    go None e = opens-later limits x more messages p (but-follows g limits x messages p (none-begun g p e limits x messages i) i)
-    go (Some t) e = opens-longer limits x more messages i.recording i.at.spells (subst (λ z. IsHeadedBy z (place_of i.recording)) e i.headed) (good-here-but g limits x messages p i size)
+    go : (talk : Option TalkState) → p.talk ≡ talk → Opens limits (r.bytes ++ more) r.messages
+    go None e = opens-later limits r.bytes more r.messages p (but-follows g limits r.bytes r.messages p (none-begun g p e limits r.bytes r.messages r.reaches) r.reaches)
+    go (Some t) e =
+        opens-longer limits r.bytes more r.messages r.reaches.recording r.reaches.at.spells (subst (λ z. IsHeadedBy z (place_of r.reaches.recording)) e r.reaches.headed)
+        (good-here-but g limits r.bytes r.messages p r.reaches size)
 
   -- more bytes were read, and none of them counts
-  pub begun-more : (listing : Listing) (before after contents contents_now : Option (List ℕ)) (more : List ℕ) → Consumes before after (x ++ more) → Appends contents contents_now (text_of listing messages) →
-      HasBegunLines limits listing before after contents contents_now
-  begun-more listing before after contents contents_now more consumed written =
-      record { messages = messages; begun = begun-by limits before after (x ++ more) messages consumed (opens-but more); written = grown-whole contents contents_now _ written }
+  pub begun-more : (after : Option (List ℕ)) (more : List ℕ) → Consumes unread_now after more → HasBegunLines limits listing unread after contents contents_now
+  begun-more after more consumed = record {
+    messages = r.messages;
+    begun = begun-by limits unread after (r.bytes ++ more) r.messages (Consumes-then unread unread_now after r.bytes more r.consumed consumed) (opens-but more);
+    written = grown-whole contents contents_now _ r.written;
+  }
 
-pub opens-reached-but : (g : SideBytes) (limits : Limits) (x : List ℕ) (messages : List Message) (p : Progress) (found : Option Summary) → length x < 2 ^ 62 → ReachesBut g limits x messages p found → Opens limits x messages
-opens-reached-but g limits x messages p None size i = opens-here g limits x messages p i size
-opens-reached-but g limits x messages p (Some summary) size i = opens-decided limits x messages p.talk summary i
+  pub begun-but : HasBegunLines limits listing unread unread_now contents contents_now
+  begun-but = begun-more unread_now [] (Consumes-none unread_now)
+
+  -- one more read
+  module _ (now : SideBytes) (new : Progress) (found : Option Summary) (after later : Option (List ℕ)) (bytes lines lines_now slice : List ℕ) (short : length bytes ≤ 65536)
+      (consumed : Consumes unread_now after bytes) (advances : AdvancesBut g listing p lines bytes found now new lines_now) (empty : lines ≡ []) (is : slice ≡ lines_now) where
+    all-consumed : Consumes unread after (r.bytes ++ bytes)
+    all-consumed = Consumes-then unread unread_now after r.bytes bytes r.consumed consumed
+
+    come : (more : List Message) × ReachesBut now limits (r.bytes ++ bytes) (r.messages ++ more) new found × (lines_now ≡ lines ++ text_of listing more)
+    come = advances limits r.bytes r.messages r.reaches (omega (arith, small, r.size, short))
+
+    -- a front of its lines was written
+    pub begun-further : HasGrownIn contents_now later slice → HasBegunLines limits listing unread after contents later
+    begun-further grown = record {
+      messages = r.messages ++ come.0;
+      begun = begun-by limits unread after (r.bytes ++ bytes) (r.messages ++ come.0) all-consumed
+          (opens-reached now limits (r.bytes ++ bytes) (r.messages ++ come.0) new found (omega (arith, small, r.size, short, length-append r.bytes bytes)) come.1);
+      written = grown-more listing contents contents_now later r.messages come.0 slice lines_now lines is come.2 empty r.written grown;
+    }
+
+    pub read-more : (limit : ℕ) → most + 65536 ≤ limit → Appends contents_now later slice → HasRead now limits listing new found unread after contents later limit
+    read-more limit less told = record {
+      bytes = r.bytes ++ bytes;
+      messages = r.messages ++ come.0;
+      consumed = all-consumed;
+      reaches = come.1;
+      size = omega (arith, less, r.size, short, length-append r.bytes bytes);
+      written = told-more listing contents contents_now later r.messages come.0 slice lines_now lines is come.2 empty r.written told;
+    }

@@ -193,20 +193,14 @@ none-on g now listing p lines none empty limits x messages i size =
     let all = follows-but now limits x messages p empty (but-follows g limits x messages p (none limits x messages i) i) in
     ([], subst (λ m. FollowsBut now limits (x ++ []) m p) (sym (append-nil messages)) (subst (λ y. FollowsBut now limits y messages p) (sym (append-nil x)) all), listed-none listing lines)
 
--- with lines nothing is gathered
-given-up : (g now : SideBytes) (listing : Listing) (p new : Progress) (lines : List ℕ) (found : Option Summary) → (listing ≡ All → g.bytes ≡ []) → (g.bytes ≡ [] → (found ≡ None) × (new ≡ p)) →
-    now.bytes ≡ [] → AdvancesBut g Last p lines [] found now new lines → AdvancesBut g listing p lines [] found now new lines
-given-up g now All p new lines found listed none empty advances =
-    let e = listed refl in
-    let n = none e in
-    subst (λ z. AdvancesBut g All p lines [] z now new lines) (sym n.0) (subst (λ q. AdvancesBut g All p lines [] None now q lines) (sym n.1) (none-on g now All p lines (λ limits x messages i. e) empty))
-given-up g now Last p new lines found listed none empty advances = advances
+-- where lines are listed nothing is gathered
+pub last-only : (listing : Listing) → (listing ≡ All → ⊥) → Last ≡ listing
+last-only All none = absurd (none refl)
+last-only Last none = refl
 
 -- a block, and then what is gathered
 pub given-last : (g between now : SideBytes) (listing : Listing) (p mid new : Progress) (lines during block : List ℕ) (found last : Option Summary) → found ≡ None →
-    AdvancesBut g listing p lines block found between mid during → (listing ≡ All → between.bytes ≡ []) → (between.bytes ≡ [] → (last ≡ None) × (new ≡ mid)) →
-    now.bytes ≡ [] → AdvancesBut between Last mid during [] last now new during → AdvancesBut g listing p lines block last now new during
-given-last g between now listing p mid new lines during block found last goes_on taken listed none empty advances =
+    AdvancesBut g listing p lines block found between mid during → AdvancesBut between listing mid during [] last now new during → AdvancesBut g listing p lines block last now new during
+given-last g between now listing p mid new lines during block found last goes_on taken given =
     let first = subst (λ z. AdvancesBut g listing p lines block z between mid during) goes_on taken in
-    let second = given-up between now listing mid new during last listed none empty advances in
-    subst (λ b. AdvancesBut g listing p lines b last now new during) (append-nil block) (advances-but-then g between now listing p mid new lines during during block [] last first second)
+    subst (λ b. AdvancesBut g listing p lines b last now new during) (append-nil block) (advances-but-then g between now listing p mid new lines during during block [] last first given)

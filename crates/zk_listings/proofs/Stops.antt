@@ -5,7 +5,7 @@ use Rattle.zk_talk.specs.declared.limits.Limits.{Limits}
 use Rattle.zk_talk.specs.Held.{Message}
 use Rattle.zk_talk.specs.declared.message.Fault.{Fault}
 use Rattle.zk_talk.specs.declared.message.Ending.{Ending}
-use Rattle.zk_talk.specs.declared.message.Ending.TheVariants.{Whole, Cut, Refused}
+use Rattle.zk_talk.specs.declared.message.Ending.TheVariants.{Refused}
 use Rattle.zk_talk.specs.History.{History}
 use Rattle.zk_talk.specs.Fault.{IsFaultOf}
 use Rattle.zk_talk.specs.Ending.{IsEnding}
@@ -65,14 +65,12 @@ decides-by_damage limits x block n r messages talk d s i good =
 
 comes-to_end : (limits : Limits) (h : History) (ending : Ending) → IsEnding limits h ending → ComesTo limits h None (Ended ending)
 comes-to_end limits h (Refused f) i = i
-comes-to_end limits h (Cut side frame got) i = (refl, i)
-comes-to_end limits h (Whole unanswered) i = (refl, i)
+comes-to_end limits h _ i = (refl, i)
 
 -- what has no fault keeps none
 kept-none : (limits : Limits) (talk : Option TalkState) (h : History) (messages : List Message) → Has limits talk h messages → (ending : Ending) → IsEnding limits h ending → IsKept limits talk h messages (Ended ending)
 kept-none limits talk h messages has (Refused f) is = absurd (no-fault limits h messages (has-good limits talk h messages has) f is)
-kept-none limits talk h messages has (Cut side frame got) is = tt
-kept-none limits talk h messages has (Whole unanswered) is = tt
+kept-none limits talk h messages has _ is = tt
 
 pub finishes-whole : (limits : Limits) (x : List ℕ) (r : Recording) (messages : List Message) (talk : Option TalkState) (ending : Ending) →
     Spells x r → damage_of r ≡ None → Has (limits_of limits r) talk (history_of r) messages → IsEnding (limits_of limits r) (history_of r) ending → Finishes limits x messages talk (Ended ending)

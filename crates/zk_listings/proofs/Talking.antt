@@ -9,7 +9,7 @@ use Rattle.zk_talk.specs.History.{History}
 use Rattle.zk_talk.specs.Stands.{TalkState, Stands}
 use Rattle.zk_talk.proofs.Start.{start_state, start}
 use Rattle.zk_listings.specs.declared.listing.Listing.{Listing}
-use Rattle.zk_recordings.specs.Recording.{piece_history, Place, AtLetters, InHead, InPieces, Recording, Breaks, Ends, place_of, begun_history, history_at, history_of, limits_at, limits_of}
+use Rattle.zk_recordings.specs.Recording.{piece_history, Place, AtLetters, InHead, InPieces, Recording, Breaks, place_of, begun_history, history_at, history_of, limits_at, limits_of}
 use Rattle.zk_recordings.specs.Reading.{content_of, IsHeaded, IsBare, GoesOn, in_head, within, ends}
 use Rattle.zk_listings.specs.Lines.{text_of}
 use Rattle.zk_listings.specs.Outcome.{IsGoodWith}
@@ -20,15 +20,13 @@ use Rattle.zk_listings.proofs.Feeding.{good-here}
 -- ---- a recording that grows
 
 bare-none : (place : Place) → IsBare place → history_at place ≡ []
-bare-none AtLetters is = refl
-bare-none (InHead format) is = refl
 bare-none (InPieces head pieces) is = ap (λ ps. flat_map piece_history ps) is
+bare-none _ is = refl
 
 unheaded-none : (r : Recording) → (IsHeaded (place_of r) → ⊥) → history_of r ≡ []
 unheaded-none (Breaks AtLetters b) none = refl
 unheaded-none (Breaks (InHead format) b) none = refl
-unheaded-none (Breaks (InPieces head pieces) b) none = absurd (none tt)
-unheaded-none (Ends head pieces last) none = absurd (none tt)
+unheaded-none _ none = absurd (none tt)
 
 pub goes-history : (r new : Recording) (used : List ℕ) (side : Option Side) → GoesOn r used side new → history_of new ≡ history_of r ++ content_of side used
 goes-history r new used side (in_head none bare b h s) =
@@ -113,9 +111,8 @@ talks-or options r messages talk (Some fault) is has = (is, has)
 talks-none : (options now : Limits) (r new : Recording) (used : List ℕ) (messages : List Message) (talk : Option TalkState) (refused : Option Fault) → talk ≡ None → GoesOn r used None new →
     HasOr now talk refused (history_of r ++ []) messages → TalksOr options new messages talk refused
 talks-none options now r new used messages None None e goes has = record { headed = tt; has = (goes-history r new used None goes ∙ has.0, has.1) }
-talks-none options now r new used messages (Some talk) None e goes has = none-some talk _ e
 talks-none options now r new used messages None (Some fault) e goes has = absurd has
-talks-none options now r new used messages (Some talk) (Some fault) e goes has = none-some talk _ e
+talks-none options now r new used messages (Some talk) _ e goes has = none-some talk _ e
 
 module _ (options now : Limits) (r new : Recording) (used : List ℕ) (listing : Listing) (lines lines_now : List ℕ) (messages : List Message) (refused : Option Fault) where
   -- the lines of more messages, and what stands then

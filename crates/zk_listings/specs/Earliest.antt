@@ -6,7 +6,7 @@ use Rattle.std.specs.Io.KnownBytes.{Appends}
 use Rattle.zk_answers.specs.declared.layout.Layout.{Layout}
 use Rattle.zk_earliest.specs.Earliest.{IsEarliestOf}
 use Rattle.zk_talk.specs.declared.limits.Limits.{Limits}
-use Rattle.zk_talk.specs.declared.message.Ending.TheVariants.{Whole, Cut, Refused}
+use Rattle.zk_talk.specs.declared.message.Ending.TheVariants.{Refused}
 use Rattle.zk_talk.specs.declared.message.Fault.{Fault}
 use Rattle.zk_talk.specs.Held.{Message}
 use Rattle.zk_talk.specs.declared.message.Side.{Side}
@@ -16,7 +16,7 @@ use Rattle.zk_talk.specs.Refused.{header_size, IsRefusedBody}
 use Rattle.zk_listings.specs.declared.listing.Listing.TheVariants.{Last}
 use Rattle.zk_listings.specs.declared.summary.Status.{Status}
 use Rattle.zk_listings.specs.declared.summary.Summary.{Summary}
-use Rattle.zk_listings.specs.declared.summary.Summary.TheVariants.{Ended, Broken}
+use Rattle.zk_listings.specs.declared.summary.Summary.TheVariants.{Ended}
 use Rattle.zk_listings.specs.Lines.{last_line, status_of}
 use Rattle.zk_listings.specs.Outcome.{IsFound, HasGrownIn}
 use Rattle.zk_recordings.specs.Recording.{history_of, limits_of}
@@ -39,9 +39,7 @@ pub data IsTailOf (limits : Limits) (h : History) (fault : Fault) (is : IsFaultO
 -- what comes after any last line of a listing
 abbrev pub IsTail : Limits → History → Summary → List ℕ → Type 0
 IsTail limits h (Ended (Refused fault)) tail = (is : IsFaultOf limits h fault) × IsTailOf limits h fault is tail
-IsTail limits h (Ended (Cut side frame got)) tail = tail ≡ []
-IsTail limits h (Ended (Whole unanswered)) tail = tail ≡ []
-IsTail limits h (Broken damage) tail = tail ≡ []
+IsTail limits h _ tail = tail ≡ []
 
 -- what was read has this summary, and this comes after its last line
 pub record IsFoundWith (limits : Limits) (unread unread_now : Option (List ℕ)) (summary : Summary) (tail : List ℕ) : Type 0 where
@@ -76,6 +74,4 @@ TellsBody limits h fault body = (is : IsFaultOf limits h fault)
 abbrev pub IsToldOf : Summary → Option (Layout × Bor (List ℕ)) → List ℕ → Type 0
 IsToldOf summary None tail = tail ≡ []
 IsToldOf (Ended (Refused fault)) (Some body) tail = (answer : Option ℕ) × IsEarliestOf body.0 body.1.now answer × (tail ≡ answer_line fault.side answer)
-IsToldOf (Ended (Cut side frame got)) (Some body) tail = tail ≡ []
-IsToldOf (Ended (Whole unanswered)) (Some body) tail = tail ≡ []
-IsToldOf (Broken damage) (Some body) tail = tail ≡ []
+IsToldOf _ (Some body) tail = tail ≡ []

@@ -2,7 +2,7 @@
 use Rattle.std.specs.Prelude.{◌≡◌, ℕ, List, [], ◌++◌, take, Option, None, Some}
 use Rattle.zk_talk.specs.declared.limits.Limits.{Limits}
 use Rattle.zk_talk.specs.Held.{Message}
-use Rattle.zk_talk.specs.declared.message.Ending.TheVariants.{Whole, Cut, Refused}
+use Rattle.zk_talk.specs.declared.message.Ending.TheVariants.{Refused}
 use Rattle.zk_talk.specs.declared.message.Fault.{Fault}
 use Rattle.zk_talk.specs.History.{History}
 use Rattle.zk_talk.specs.Stands.{TalkState, Stands, Refuses}
@@ -46,9 +46,7 @@ HasRefused limits (Some talk) h messages fault = Refuses talk h messages fault �
 -- if a history ends by a fault, the talk has refused it
 abbrev pub IsKept : Limits → Option TalkState → History → List Message → Summary → Type 0
 IsKept limits talk h messages (Ended (Refused fault)) = HasRefused limits talk h messages fault
-IsKept limits talk h messages (Ended (Cut side frame got)) = Unit {0}
-IsKept limits talk h messages (Ended (Whole unanswered)) = Unit {0}
-IsKept limits talk h messages (Broken damage) = Unit {0}
+IsKept limits talk h messages _ = Unit {0}
 
 -- these bytes are a recording with this summary
 pub record Finishes (limits : Limits) (x : List ℕ) (messages : List Message) (talk : Option TalkState) (summary : Summary) : Type 0 where

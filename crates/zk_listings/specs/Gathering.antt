@@ -13,7 +13,7 @@ use Rattle.zk_recordings.specs.Reading.{IsAt, IsInContent}
 use Rattle.zk_listings.specs.declared.gather.NextRead.{NextRead}
 use Rattle.zk_listings.specs.declared.gather.NextRead.TheVariants.{Block, Content}
 use Rattle.zk_listings.specs.declared.listing.Listing.{Listing}
-use Rattle.zk_listings.specs.declared.listing.Listing.TheVariants.{Last}
+use Rattle.zk_listings.specs.declared.listing.Listing.TheVariants.{All, Last}
 use Rattle.zk_listings.specs.declared.progress.Progress.{Progress}
 use Rattle.zk_listings.specs.declared.summary.Summary.{Summary}
 use Rattle.zk_listings.specs.Lines.{text_of}
@@ -83,6 +83,10 @@ abbrev pub AdvancesBut : SideBytes → Listing → Progress → List ℕ → Lis
 AdvancesBut g listing p lines block found g_now now lines_now =
     (limits : Limits) (x : List ℕ) (messages : List Message) → FollowsBut g limits x messages p → length x + length block < 2 ^ 62 →
     (more : List Message) × ReachesBut g_now limits (x ++ block) (messages ++ more) now found × (lines_now ≡ lines ++ text_of listing more)
+
+-- no more is read, and the bytes that waited were given to the talk; nothing waits where lines are listed
+abbrev pub GivesUp : SideBytes → Progress → Option Summary → SideBytes → Progress → Type 0
+GivesUp g p found g_now now = (listing : Listing) (lines : List ℕ) → (listing ≡ All → g.bytes ≡ []) → AdvancesBut g listing p lines [] found g_now now lines
 
 -- this number of first bytes of a block was taken, or the recording's summary was found in the block
 abbrev pub StepsBut : SideBytes → Listing → Progress → List ℕ → List ℕ → ℕ → Option Summary → SideBytes → Progress → List ℕ → Type 0

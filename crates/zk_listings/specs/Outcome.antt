@@ -4,7 +4,7 @@ use Rattle.std.specs.Io.KnownBytes.{Consumes, IsAtEnd, Appends}
 use Rattle.zk_talk.specs.declared.limits.Limits.{Limits}
 use Rattle.zk_talk.specs.Held.{Message}
 use Rattle.zk_talk.specs.declared.message.Fault.{Fault}
-use Rattle.zk_talk.specs.declared.message.Ending.TheVariants.{Whole, Cut, Refused}
+use Rattle.zk_talk.specs.declared.message.Ending.TheVariants.{Refused}
 use Rattle.zk_talk.specs.History.{History}
 use Rattle.zk_talk.specs.Conversation.{Conversation}
 use Rattle.zk_talk.specs.Good.{Good, IsOrder}
@@ -24,8 +24,7 @@ HasNoFault limits h = (fault : Fault) → IsFaultOf limits h fault → ⊥
 abbrev pub ComesTo : Limits → History → Option DamageAt → Summary → Type 0
 ComesTo limits h damage (Ended (Refused fault)) = IsFaultOf limits h fault
 ComesTo limits h damage (Broken d) = HasNoFault limits h × (damage ≡ Some d)
-ComesTo limits h damage (Ended (Cut side frame got)) = (damage ≡ None) × IsEnding limits h (Cut side frame got)
-ComesTo limits h damage (Ended (Whole unanswered)) = (damage ≡ None) × IsEnding limits h (Whole unanswered)
+ComesTo limits h damage (Ended ending) = (damage ≡ None) × IsEnding limits h ending
 
 -- a good history has these messages, by the places of their last bytes
 pub record IsGoodWith (limits : Limits) (h : History) (messages : List Message) : Type 0 where

@@ -7,7 +7,7 @@ ghost use Rattle.zk_talk.specs.History.{on};
 ghost use Rattle.zk_talk.specs.declared.limits.Limits.{Limits as limits_of};
 ghost use Rattle.zk_listings.specs.declared.listing.Listing.TheVariants.{Last};
 ghost use Rattle.zk_listings.specs.Following.{Takes};
-ghost use Rattle.zk_listings.specs.Gathering.{AdvancesBut, Begins, Gathers, GathersIn, IsNextRead, StepsBut, TakesRead, Turns};
+ghost use Rattle.zk_listings.specs.Gathering.{Begins, Gathers, GathersIn, GivesUp, IsNextRead, StepsBut, TakesRead, Turns};
 ghost use Rattle.zk_recordings.specs.Reading.{IsInContent, content_of, place_in};
 
 use crate::engines::BLOCK;
@@ -218,8 +218,7 @@ impl Progress {
 
     /// Gives what is gathered to the conversation. Returns the recording's summary if it is known, whatever follows.
     pub fn give_up(&mut self, gathered: &mut Gathered) -> Option<Summary>
-        ensures none { gathered.old.bytes ≡ [] → (result ≡ None) × (self.new ≡ self.old) }
-        ensures advances { (lines : List ℕ) → AdvancesBut gathered.old Last self.old lines [] result gathered.new self.new lines }
+        ensures advances { GivesUp gathered.old self.old result gathered.new self.new }
         ensures empty { gathered.new.bytes ≡ [] }
     {
         if gathered.is_empty() {

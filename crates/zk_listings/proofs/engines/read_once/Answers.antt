@@ -1,14 +1,9 @@
-use Rattle.std.proofs.Common.{◌≡◌, ◌++◌, List, ℕ, take, refl, subst}
+use Rattle.std.proofs.Common.{◌≡◌, ◌++◌, List, ℕ, take, subst}
 use Rattle.std.proofs.lemmas.List.{length-take-le, take-append-le}
-use Rattle.zk_listings.specs.declared.listing.Listing.{Listing}
-use Rattle.zk_listings.specs.declared.listing.Listing.TheVariants.{All, Last}
 use Rattle.zk_listings.specs.Gathered.{SideBytes}
 use Rattle.zk_listings.specs.Gathering.{AdvancesBut, IsNextRead}
+use Rattle.zk_listings.proofs.Runs.{last-only}
 use Rattle.zk_listings.proofs.engines.read_once.Goals as goal
-
-last-only : (listing : Listing) → (listing ≡ All → ⊥) → Last ≡ listing
-last-only All none = absurd (none refl)
-last-only Last none = refl
 
 extended : (g now : SideBytes) (more : List ℕ) → now.side ≡ g.side → now.bytes ≡ g.bytes ++ more → now ≡ record g { bytes = g.bytes ++ more }
 extended g now more s b = λ i. record { side = s i; bytes = b i }

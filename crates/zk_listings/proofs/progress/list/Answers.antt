@@ -1,38 +1,27 @@
-use Rattle.std.proofs.Common.{length, refl, ap, ◌∙◌, subst, arith, length-drop, None}
-use Rattle.std.proofs.lemmas.List.{take_all}
-use Rattle.zk_talk.specs.History.{on}
-use Rattle.zk_talk.specs.Taking.{IsRefused}
+use Rattle.std.proofs.Common.{refl, ◌∙◌, arith, Some}
 use Rattle.zk_listings.specs.declared.listing.Listing.TheVariants.{All}
-use Rattle.zk_listings.specs.Following.{Takes}
-use Rattle.zk_listings.proofs.Feeding.{takes-none, rejects-later, shown-more}
+use Rattle.zk_listings.proofs.Feeding.{takes-none, takes-more, takes-rest, takes-all, rejected, shown}
 use Rattle.zk_listings.proofs.progress.list.Goals as goal
 
 pub loop-at-init : goal.loop-at-init
-loop-at-init c = record {
-  within = omega arith;
-  limits = refl;
-  taken = takes-none All c.args.talk.now _ c.args.side;
-}
+loop-at-init c = record { limits = refl; taken = takes-none All c.args.talk.now _ c.args.side }
 
 pub returns-in-Err-clause-taken : goal.returns-in-Err-clause-taken
 returns-in-Err-clause-taken c =
     let l = c.loop-at in
-    let refused = subst (λ z. IsRefused l.talk c.args.side z c.in-Err.fault c.step.new.self) c.rest-piece.ensures c.in-Err.ensures.err.1 in
-    rejects-later All c.args.talk.now l.talk c.step.new.self c.args.lines.now.items l.lines.items l.lines.items c.args.side c.args.bytes.now l.at l.invariant.taken c.in-Err.fault refused
+    takes-rest All c.args.talk.now l.talk c.step.new.self c.args.lines.now.items l.lines.items l.lines.items c.args.side c.args.bytes.now c.rest-piece.result.now l.at c.rest-piece.ensures l.invariant.taken (Some c.in-Err.fault)
+    (rejected All l.talk c.step.new.self l.lines.items c.args.side c.rest-piece.result.now c.in-Err.fault c.in-Err.ensures.err.1)
 
 pub loop-at-preserved : goal.loop-at-preserved
 loop-at-preserved c =
     let l = c.loop-at in
-    let o = c.in-Ok.ensures.ok in
     let s = c.in-Ok.stepped in
-    let bytes = c.args.bytes.now in
+    let next = shown l.talk c.step.new.self l.lines.items _ c.args.side _ s.whole c.view.result c.in-Ok.ensures.ok.2 c.view.ensures.none c.view.ensures.only c.in_ok-tell.ensures in
     record {
-      within = omega (arith, o.0, ap length c.rest-piece.ensures, length-drop l.at bytes);
       limits = c.in-Ok.ensures.limits ∙ l.invariant.limits;
-      taken = shown-more c.args.talk.now l.talk c.step.new.self c.args.side bytes c.rest-piece.result.now l.at s.used s.whole c.args.lines.now.items l.lines.items _ c.view.result c.rest-piece.ensures l.invariant.taken o.2 c.view.ensures.none c.view.ensures.only c.in_ok-tell.ensures;
+      taken = takes-more All c.args.talk.now l.talk c.step.new.self c.args.lines.now.items l.lines.items _ c.args.side c.args.bytes.now c.rest-piece.result.now l.at c.rest-piece.ensures l.invariant.taken s.used next;
     }
 
 pub returns-clause-taken : goal.returns-clause-taken
 returns-clause-taken c =
-    subst (λ b. Takes All c.args.talk.now c.args.lines.now.items (on c.args.side b) None c.loop-at.talk c.loop-at.lines.items)
-    (take_all c.loop-at.at c.args.bytes.now (omega (arith, c.loop-at-test.false))) c.loop-at.invariant.taken
+    takes-all All c.args.talk.now c.loop-at.talk c.args.lines.now.items c.loop-at.lines.items c.args.side c.args.bytes.now c.loop-at.at (omega (arith, c.loop-at-test.false)) c.loop-at.invariant.taken

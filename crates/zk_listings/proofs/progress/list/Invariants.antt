@@ -1,4 +1,4 @@
-use Rattle.std.proofs.Common.{◌≡◌, ◌≤◌, ◌-◌, length, take, None}
+use Rattle.std.proofs.Common.{◌≡◌, ◌-◌, length, take, None}
 use Rattle.zk_talk.specs.History.{on}
 use Rattle.zk_listings.specs.declared.listing.Listing.TheVariants.{All}
 use Rattle.zk_listings.specs.Following.{Takes}
@@ -6,7 +6,6 @@ use Rattle.zk_listings.proofs.progress.list.Given as goal
 
 abbrev pub invariant-loop-at : goal.invariant-loop-at
 invariant-loop-at l = record {
-  within : l.at ≤ length l.bytes;
   limits : l.talk.limits ≡ l.initial.talk.limits;
   taken : Takes All l.initial.talk l.initial.lines.items (on l.side (take l.at l.bytes)) None l.talk l.lines.items;
 }

@@ -1,4 +1,4 @@
-use Rattle.std.proofs.Common.{◌≡◌, ◌≤◌, ◌-◌, ℕ, List, length, take, None}
+use Rattle.std.proofs.Common.{◌≡◌, ◌-◌, ℕ, List, length, take, None}
 use Rattle.zk_talk.specs.History.{on}
 use Rattle.zk_listings.specs.declared.listing.Listing.TheVariants.{Last}
 use Rattle.zk_listings.specs.Following.{Takes}
@@ -6,7 +6,6 @@ use Rattle.zk_listings.proofs.progress.pass_all.Given as goal
 
 abbrev pub invariant-loop-at : goal.invariant-loop-at
 invariant-loop-at l = record {
-  within : l.at ≤ length l.bytes;
   limits : l.talk.limits ≡ l.initial.talk.limits;
   taken : (lines : List ℕ) → Takes Last l.initial.talk lines (on l.side (take l.at l.bytes)) None l.talk lines;
 }
