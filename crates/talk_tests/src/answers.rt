@@ -1,6 +1,6 @@
 //! Tests of which of the client's frames a reply answers, by `Talk::answered`.
 use crate::calls::told;
-use crate::frames::{answers, usual};
+use crate::frames::{Has, keeps, usual};
 use std::alloc::Global;
 use std::process::Abort;
 use std::test::Fail;
@@ -49,8 +49,8 @@ fn answered(alloc: Global, talk: &mut Talk, asked: &str) -> Result<String, Fail>
 fn answers_anew(rt: &impl Abort, alloc: Global, talk: &mut Talk) -> Result<(), Fail> {
     for _ in 0..2 {
         assert!(rt; talk.answered().is_none());
-        answers(rt, ANSWERED, |row| answered(alloc, talk, row))?;
-        answers(rt, REFUSED, |row| answered(alloc, talk, row))?;
+        keeps(rt, ANSWERED, Has::All, |row| answered(alloc, talk, row))?;
+        keeps(rt, REFUSED, Has::All, |row| answered(alloc, talk, row))?;
         talk.renew();
     }
     Ok(())

@@ -1,5 +1,5 @@
 //! Tests of `Talk`, call by call: what each returns, and what the sides then hold.
-use crate::frames::{keeps, piece, usual};
+use crate::frames::{Has, keeps, piece, usual};
 use std::alloc::Global;
 use std::process::Abort;
 use std::test::Fail;
@@ -51,7 +51,7 @@ pub(crate) fn told(alloc: Global, talk: &mut Talk, asked: &str) -> Result<String
 /// Each call of a new conversation returns what its row says.
 fn goes(rt: &impl Abort, alloc: Global, rows: &str) -> Result<(), Fail> {
     let mut talk = Talk::new(alloc, usual()?)?;
-    let kept = keeps(rt, rows, |row| told(alloc, &mut talk, row));
+    let kept = keeps(rt, rows, Has::Beginning, |row| told(alloc, &mut talk, row));
     drop(talk);
     kept
 }

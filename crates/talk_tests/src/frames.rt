@@ -42,10 +42,18 @@ pub(crate) fn hex(alloc: Global, digits: &str) -> Result<Vec<u8>, Fail> {
     Ok(hex::decode(alloc, digits)?)
 }
 
-/// What `told` gives for each row, in order, begins as the row says.
+/// How much of what `told` gives a row has.
+#[derive(Clone, Copy)]
+pub(crate) enum Has {
+    Beginning,
+    All,
+}
+
+/// What `told` gives for each row, in order, is what the row has of it.
 pub(crate) fn keeps<F: FnMut(&str) -> Result<String, Fail>>(
     rt: &impl Abort,
     rows: &str,
+    has: Has,
     mut told: F,
 ) -> Result<(), Fail>
     requires { F.IsAlwaysCallable told }
@@ -53,23 +61,11 @@ pub(crate) fn keeps<F: FnMut(&str) -> Result<String, Fail>>(
     for row in rows.lines() {
         let (asked, want) = row.split_once(" = ").ok_or("no row")?;
         let found = told(asked)?;
-        assert!(rt; found.as_str().starts_with(want), "{asked} = {found}");
-    }
-    Ok(())
-}
-
-/// What `told` gives for each row, in order, is what the row says, and no more.
-pub(crate) fn answers<F: FnMut(&str) -> Result<String, Fail>>(
-    rt: &impl Abort,
-    rows: &str,
-    mut told: F,
-) -> Result<(), Fail>
-    requires { F.IsAlwaysCallable told }
-{
-    for row in rows.lines() {
-        let (asked, want) = row.split_once(" = ").ok_or("no row")?;
-        let found = told(asked)?;
-        assert!(rt; found.as_str() == want, "{asked} = {found}");
+        let is_kept = match has {
+            Has::Beginning => found.as_str().starts_with(want),
+            Has::All => found.as_str() == want,
+        };
+        assert!(rt; is_kept, "{asked} = {found}");
     }
     Ok(())
 }

@@ -1,5 +1,5 @@
 //! Tests of `Through`, call by call: what each step returns, what then waits and is left out, and how it ends.
-use crate::frames::{answers, keeps, piece, usual};
+use crate::frames::{Has, keeps, piece, usual};
 use std::alloc::Global;
 use std::process::Abort;
 use std::test::Fail;
@@ -29,7 +29,7 @@ S 000000250000000000007530010000000000000100000010000102030405060708090a0b0c0d0e
 
 /// Each step of the rows returns what its row says.
 fn goes_on(rt: &impl Abort, alloc: Global, through: &mut Through, rows: &str) -> Result<(), Fail> {
-    keeps(rt, rows, |row| told(alloc, through, row))
+    keeps(rt, rows, Has::Beginning, |row| told(alloc, through, row))
 }
 
 /// No message of either side is shown.
@@ -217,7 +217,7 @@ fn answers_anew(rt: &impl Abort, alloc: Global, through: &mut Through) -> Result
     for _ in 0..2 {
         assert!(rt; through.answered().is_none());
         goes_on(rt, alloc, through, CONNECTED)?;
-        answers(rt, ANSWERS, |row| answered(alloc, through, row))?;
+        keeps(rt, ANSWERS, Has::All, |row| answered(alloc, through, row))?;
         through.renew();
     }
     Ok(())
