@@ -1,6 +1,6 @@
 -- The fields that were read of a message say its items again.
 use Rattle.std.proofs.Common.{◌≡◌, ℕ, zero, suc, ◌+◌, ◌<◌, ◌≤◌, ◌^◌, ℤ, List, [], ◌∷◌, ◌++◌, length, take, drop, refl, sym, ap, subst, ◌∙◌, append_assoc, arith, FitsSigned, w32}
-use Rattle.std.specs.Prelude.{Option, Some, None, Bool, true, false, pos, negsuc, Result, Ok, Err, ◌==◌, nat_lt, nat_le, if◌then◌else◌}
+use Rattle.std.specs.Prelude.{Option, Some, None, Bool, true, false, pos, negsuc, Result, Ok, Err, ◌==◌, nat_lt, nat_le, unwrap_or, if◌then◌else◌}
 use Rattle.std.specs.Option.{option_map, option_and_then}
 use Rattle.std.specs.List.{flat_map, slice_get}
 use Rattle.std.specs.Str.Lossy.{utf8_valid_len}
@@ -30,7 +30,7 @@ use Rattle.zk_fields.specs.declared.value.Heads.TheVariants as head
 use Rattle.zk_fields.specs.declared.write.Unwritten.{Unwritten}
 use Rattle.zk_fields.specs.declared.write.Unwritten.TheVariants as unwritten
 use Rattle.zk_fields.specs.Fields.{Entry, Under, Head, entry_items, items_of, size_of, size_all, field_of, fields_from}
-use Rattle.zk_fields.specs.Named.{Shape, Nothing, An, Both, Many, Times, Elements, IsOf, Named}
+use Rattle.zk_fields.specs.Named.{Shape, Nothing, An, Both, Many, Times, IsOf, Named}
 use Rattle.zk_fields.specs.Contents.{content_of, IsAt, AreAt}
 use Rattle.zk_fields.specs.Heads.{plain_head, headed_shape, record_entries, part_entries, result_entries, done_entries}
 use Rattle.zk_fields.specs.Rows.{ask_entries, body_entries}
@@ -81,15 +81,11 @@ times : (heads : Heads) (P : List Entry → Type 0) → ((es : List Entry) → P
 times heads P are zero es p = subst (AreTold heads) (sym p) (λ more. tt)
 times heads P are (suc n) es p = subst (AreTold heads) (sym p.4) (both heads p.0 p.1 (are p.0 p.2) (times heads P are n p.1 p.3))
 
-elements : (heads : Heads) (P : List Entry → Type 0) → ((es : List Entry) → P es → AreTold heads es) → (n : Option ℕ) (es : List Entry) → Elements P n es → AreTold heads es
-elements heads P are None es p = subst (AreTold heads) (sym p) (λ more. tt)
-elements heads P are (Some n) es p = times heads P are n es p
-
 plain : (heads : Heads) (s : Shape) (es : List Entry) → IsOf s es → AreTold heads es
 plain heads Nothing es p = subst (AreTold heads) (sym p) (λ more. tt)
 plain heads (An name kind) es p = subst (AreTold heads) (sym p.2) (λ more. (tt, tt))
 plain heads (Both a b) es p = subst (AreTold heads) (sym p.4) (both heads p.0 p.1 (plain heads a p.0 p.2) (plain heads b p.1 p.3))
-plain heads (Many name s) es p = subst (AreTold heads) (sym p.3) (λ more. (tt, elements heads (IsOf s) (plain heads s) p.0 p.1 p.2 more))
+plain heads (Many name s) es p = subst (AreTold heads) (sym p.3) (λ more. (tt, times heads (IsOf s) (plain heads s) (unwrap_or p.0 0) p.1 p.2 more))
 
 one : {X : Type 0} (heads : Heads) (k : Named X) (name : ℕ) (x : X) → AreTold heads (k.entries name x)
 one heads k name x = plain heads (k.shape name) (k.entries name x) (k.formed name x)

@@ -1,6 +1,6 @@
 -- A walk over a message's payload meets all of its fields.
 use Rattle.std.proofs.Common.{◌≡◌, ℤ, ℕ, zero, suc, ◌+◌, ◌-◌, ◌<◌, ◌≤◌, List, [], ◌∷◌, ◌++◌, length, take, drop, refl, sym, ap, subst, ◌∙◌, append_assoc, arith}
-use Rattle.std.specs.Prelude.{Option, Some, None, Bool, true, Ok, Err, nat_lt, nat_le, if◌then◌else◌}
+use Rattle.std.specs.Prelude.{Option, Some, None, Bool, true, Ok, Err, nat_lt, nat_le, unwrap_or, if◌then◌else◌}
 use Rattle.std.specs.List.{flat_map}
 use Rattle.std.proofs.lemmas.List.{append-nil, length-append, take_all, drop_at}
 use Rattle.std.proofs.lemmas.Bool.Decides.{nat_tests}
@@ -29,7 +29,7 @@ use Rattle.zk_fields.specs.declared.opened.Headed.{Headed}
 use Rattle.zk_fields.specs.declared.opened.Opened.{Opened}
 use Rattle.zk_fields.specs.declared.name.TheConstants.{READ_ONLY}
 use Rattle.zk_fields.specs.Fields.{Entry, Under, Head, items_of, fields_from}
-use Rattle.zk_fields.specs.Named.{Shape, Nothing, An, Both, Many, Times, Elements, IsOf, Named, items_both}
+use Rattle.zk_fields.specs.Named.{Shape, Nothing, An, Both, Many, Times, IsOf, Named, items_both}
 use Rattle.zk_fields.specs.Records.{connect_request, connect_response, watcher_event, read_only}
 use Rattle.zk_fields.specs.Heads.{OfHead, headed_part, headed_result, headed_shape, record_entries, part_entries, result_entries, done_entries}
 use Rattle.zk_fields.specs.Rows.{body_entries, body_behind, Content, Fields, Heads, ask_content, body_content}
@@ -71,7 +71,7 @@ times_meet : (src : List ℕ) (f : ℕ → Met) (P : List Entry → Type 0) → 
 times_meet src f P each zero es p = subst (Meets src (λ place. record { entries = []; end = Some place })) (sym p) (nothing_meets src)
 times_meet src f P each (suc n) es p = subst (Meets src (λ place. met_then (f place) (times_met f n))) (sym p.4) (then_meets src f (times_met f n) p.0 p.1 (each p.0 p.2) (times_meet src f P each n p.1 p.3))
 
-list_meets : (src : List ℕ) (name : ℕ) (f : ℕ → Met) (P : List Entry → Type 0) → ((es : List Entry) → P es → Meets src f es) → (n : Option ℕ) (inside : List Entry) → Elements P n inside
+list_meets : (src : List ℕ) (name : ℕ) (f : ℕ → Met) (P : List Entry → Type 0) → ((es : List Entry) → P es → Meets src f es) → (n : Option ℕ) (inside : List Entry) → Times P (unwrap_or n 0) inside
     → Meets src (λ place. list_met name f (size_at src place)) (Under name (ACount n) ∷ inside)
 list_meets src name f P each None inside p more place have le e =
     let read = size_again None src (bytes_of (items_of inside) ++ more) place have.0 (e ∙ append_assoc (item_bytes (ACount None)) (bytes_of (items_of inside)) more) in

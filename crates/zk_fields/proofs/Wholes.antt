@@ -8,14 +8,18 @@ use Rattle.zk_fields.specs.declared.field.At.{At}
 use Rattle.zk_fields.specs.declared.walk.Walked.{Walked}
 use Rattle.zk_fields.specs.Fields.{Entry, items_of, fields_from}
 use Rattle.zk_fields.specs.Room.{written, Fits, Takes}
-use Rattle.zk_fields.specs.Frames.{Framed, framed_items, framed_fields, AreWritten}
+use Rattle.zk_fields.specs.Frames.{Framed, framed_items, framed_fields, client_framed, server_framed, client_fields, server_fields, AreWritten, Shows}
+use Rattle.zk_asks.specs.Held.{ClientFrame}
+use Rattle.zk_asks.specs.Frames as asks
+use Rattle.zk_answers.specs.Held.{ServerFrame}
+use Rattle.zk_answers.specs.Frames as answers
 use Rattle.std.specs.Prelude.{nat_le, true, false}
 use Rattle.std.proofs.lemmas.Bool.Decides.{nat_tests}
 use Rattle.zk_fields.specs.declared.opened.Opened.{Opened}
 use Rattle.zk_fields.specs.Rows.{Content}
 use Rattle.zk_fields.specs.Walks.{content_met, Walks, opened_start, opened_content, opened_fields}
 use Rattle.zk_fields.proofs.Rooms.{fields_length}
-use Rattle.zk_fields.proofs.Same.{size_is}
+use Rattle.zk_fields.proofs.Same.{size_is, client_is, server_is}
 use Rattle.zk_fields.proofs.Stood.{content_stood}
 use Rattle.zk_jute.proofs.Steps.{IsBytes, IsBytes-take}
 
@@ -45,19 +49,17 @@ pub from_start : (fs room : List Field) → written 0 fs room ≡ take (length r
 from_start fs room = overlay [] fs room
 
 -- all that fit, from the room's beginning on
-all_written : (es : List Entry) (room new : List Field) (at next : At) → Fits at es → at.count ≡ 0 → Takes at room es next new → AreWritten (fields_from at.place es) room new next.count
-unfolding Takes
-all_written es room new at next fits count takes =
+pub shows : (es : List Entry) (room new : List Field) (start : ℕ) (next : At) → Takes (record { count = 0; place = start }) room es next new → Shows start es room new next.count
+unfolding Takes Shows
+shows es room new start next takes fits =
     let told = takes fits in
-    let counted : next.count ≡ at.count + length es = ap (λ (z : At). z.count) told.0 in
-    record {
-      count_is = omega (arith, counted, count, fields_length at.place es);
-      room_is = told.1 ∙ ap (λ (n : ℕ). written n (fields_from at.place es) room) count ∙ from_start (fields_from at.place es) room;
-    }
+    let counted : next.count ≡ 0 + length es = ap (λ (z : At). z.count) told.0 in
+    record { count_is = omega (arith, counted, fields_length start es); room_is = told.1 ∙ from_start (fields_from start es) room }
 
-pub whole : (f : Framed) (items : List Item) (room new : List Field) (at next : At) → framed_items f ≡ items → HaveBytes items → length (bytes_of items) < 2 ^ 32 → at.count ≡ 0 → at.place ≡ length (bytes_of f.front) → Takes at room f.entries next new
-    → AreWritten (framed_fields f) room new next.count
-whole f items room new at next same have small count place takes =
+whole : (f : Framed) (items : List Item) (room new : List Field) (start count : ℕ) → framed_items f ≡ items → start ≡ length (bytes_of f.front) → HaveBytes items → length (bytes_of items) < 2 ^ 32 → Shows start f.entries room new count
+    → AreWritten (framed_fields f) room new count
+unfolding Shows
+whole f items room new start count same starts have small shown =
     let parts = have_parts f.front (items_of f.entries ++ f.behind) (subst HaveBytes (sym same) have) in
     let inner = have_parts (items_of f.entries) f.behind parts.1 in
     let long = ap (λ (z : List Item). length (bytes_of z)) (sym same) in
@@ -65,8 +67,16 @@ whole f items room new at next same have small count place takes =
     let b = ap length (bytes_both (items_of f.entries) f.behind) in
     let c = length-append (bytes_of f.front) (bytes_of (items_of f.entries ++ f.behind)) in
     let d = length-append (bytes_of (items_of f.entries)) (bytes_of f.behind) in
-    let fits : Fits at f.entries = (omega (arith, count), omega (arith, small, place, long, a, b, c, d, size_is f.entries), inner.0) in
-    subst (λ (n : ℕ). AreWritten (fields_from n f.entries) room new next.count) place (all_written f.entries room new at next fits count takes)
+    let fits : Fits (record { count = 0; place = start }) f.entries = (omega arith, omega (arith, small, starts, long, a, b, c, d, size_is f.entries), inner.0) in
+    subst (λ (n : ℕ). AreWritten (fields_from n f.entries) room new count) starts (shown fits)
+
+pub client_written : (f : ClientFrame) (room new : List Field) (start count : ℕ) → start ≡ length (bytes_of (client_framed f).front) → Shows start (client_framed f).entries room new count → asks.IsSent f → length (asks.payload f) < 2 ^ 32
+    → AreWritten (client_fields f) room new count
+client_written f room new start count starts shown sent small = whole (client_framed f) (asks.frame_items f) room new start count (client_is f) starts sent.1 small shown
+
+pub server_written : (s : ServerFrame) (room new : List Field) (start count : ℕ) → start ≡ length (bytes_of (server_framed s).front) → Shows start (server_framed s).entries room new count → answers.IsSent s → length (answers.payload s) < 2 ^ 32
+    → AreWritten (server_fields s) room new count
+server_written s room new start count starts shown sent small = whole (server_framed s) (answers.frame_items s) room new start count (server_is s) starts sent.2 small shown
 
 -- no fields are written
 pub none_written : (room : List Field) → AreWritten [] room room 0
@@ -87,13 +97,13 @@ long_enough o payload place count room new long written =
 -- what a walk from a place on has written of a payload
 pub walked : (c : Content) (src : List ℕ) (place : ℕ) (room new : List Field) (next : Walked) → IsBytes src → place ≤ length src → length src < 2 ^ 32 → Walks (record { count = 0; place = place }) room (content_met c src place) next new
     → AreWritten (fields_from place (content_met c src place).entries) room new next.at.count
-unfolding Walks
+unfolding Walks Shows
 walked c src place room new next fits le small w =
     let m = content_met c src place in
     let s = content_stood c src place fits le in
     let stop = s.stands.at in
     let within = s.stands.within in
-    all_written m.entries room new (record { count = 0; place = place }) next.at (omega arith, omega (arith, stop, within, small, size_is m.entries), s.have) refl w.0
+    shows m.entries room new place next.at w.0 (omega arith, omega (arith, stop, within, small, size_is m.entries), s.have)
 
 -- of its front, up to a place
 pub of_front : (o : Opened) (payload front : List ℕ) (place start : ℕ) (room new : List Field) (next : Walked) → front ≡ take place payload → start ≡ opened_start o → IsBytes payload → start ≤ length front → length payload < 2 ^ 32

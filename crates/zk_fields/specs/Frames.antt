@@ -13,6 +13,7 @@ use Rattle.zk_answers.specs.Held.{Outcome, ServerFrame}
 use Rattle.zk_answers.specs.Frames.{header_of, event_header}
 use Rattle.zk_fields.specs.declared.field.Field.{Field}
 use Rattle.zk_fields.specs.Fields.{Entry, fields_from, items_of}
+use Rattle.zk_fields.specs.Room.{Fits}
 use Rattle.zk_fields.specs.Records.{connect_request, connect_response, watcher_event, read_only}
 use Rattle.zk_fields.specs.Rows.{ask_entries, ask_behind, body_entries, body_behind}
 
@@ -62,3 +63,7 @@ server_fields s = framed_fields (server_framed s)
 pub record AreWritten (fields before after : List Field) (count : ℕ) : Type 0 where
   pub count_is : count ≡ length fields
   pub room_is : after ≡ take (length before) fields ++ drop (length fields) before
+
+-- so are those of the entries that begin at this place of a payload
+unfoldable pub Shows : ℕ → List Entry → List Field → List Field → ℕ → Type 0
+Shows start es before after count = Fits (record { count = 0; place = start }) es → AreWritten (fields_from start es) before after count

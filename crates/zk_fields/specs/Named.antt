@@ -1,5 +1,5 @@
 -- What fields a type of value has: its values' items, each under its name.
-use Rattle.std.specs.Prelude.{◌≡◌, ℕ, zero, suc, ℤ, Bool, List, [], ◌∷◌, ◌++◌, length, Option, Some, None, refl}
+use Rattle.std.specs.Prelude.{◌≡◌, ℕ, zero, suc, ℤ, Bool, List, [], ◌∷◌, ◌++◌, length, Option, Some, None, unwrap_or, refl}
 use Rattle.std.proofs.Common.{ap, sym, ◌∙◌, append_assoc}
 use Rattle.std.specs.List.{flat_map}
 use Rattle.zk_jute.specs.Held.{Text, Blob, Vector}
@@ -26,16 +26,12 @@ abbrev pub Times : (List Entry → Type 0) → ℕ → List Entry → Type 0
 Times P zero es = es ≡ []
 Times P (suc n) es = (x : List Entry) × (y : List Entry) × P x × Times P n y × (es ≡ x ++ y)
 
-abbrev pub Elements : (List Entry → Type 0) → Option ℕ → List Entry → Type 0
-Elements P None es = es ≡ []
-Elements P (Some n) es = Times P n es
-
--- the entries are of the shape
+-- the entries are of the shape; a list that is null has no elements
 abbrev pub IsOf : Shape → List Entry → Type 0
 IsOf Nothing es = es ≡ []
 IsOf (An name kind) es = (i : Item) × (kind_of i ≡ kind) × (es ≡ Under name i ∷ [])
 IsOf (Both a b) es = (x : List Entry) × (y : List Entry) × IsOf a x × IsOf b y × (es ≡ x ++ y)
-IsOf (Many name s) es = (n : Option ℕ) × (inside : List Entry) × Elements (IsOf s) n inside × (es ≡ Under name (ACount n) ∷ inside)
+IsOf (Many name s) es = (n : Option ℕ) × (inside : List Entry) × Times (IsOf s) (unwrap_or n 0) inside × (es ≡ Under name (ACount n) ∷ inside)
 
 -- they are those of the value's items, in order
 pub record Named (X : Type 0) : Type 0 where

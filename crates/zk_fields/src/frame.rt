@@ -1,13 +1,12 @@
 //! The fields of whole frames: `client_fields` and `server_fields`.
-ghost use Rattle.std.specs.Prelude.{◌≡◌, ◌<◌, ◌^◌, length};
-ghost use Rattle.zk_jute.specs.Item.{bytes_of};
+ghost use Rattle.std.specs.Prelude.{◌<◌, ◌^◌, ◌++◌, length};
 ghost use Rattle.zk_asks.specs.Frames as asks;
 ghost use Rattle.zk_answers.specs.Frames as answers;
-ghost use Rattle.zk_fields.specs.Frames.{AreWritten, client_framed, client_fields, flag_entries, rest_entries, server_framed, server_fields};
+ghost use Rattle.zk_fields.specs.Frames.{AreWritten, Shows, client_fields, flag_entries, rest_entries, server_fields};
 
 use crate::field::{At, Field};
-use crate::name::READ_ONLY;
-use crate::show::Show;
+use crate::name::{NONE, READ_ONLY};
+use crate::show::{Named, Show};
 use zk_answers::{OutcomeOf, OutcomeRef, ServerFrameOf, ServerRef};
 use zk_asks::{ClientFrameOf, ClientRef};
 
@@ -29,21 +28,6 @@ impl Show for Option<bool> {
     }
 }
 
-impl<'a> Show for ClientRef<'a> {
-    ghost entries = { λ _ f. (client_framed f).entries };
-
-    #[tactic(auto, using(crate::proofs::Rooms::takes_both))]
-    fn show(&self, name: u16, room: &mut [Field], at: At) -> At {
-        match self {
-            ClientFrameOf::Connect { hello, read_only } => {
-                let at = hello.show(name, room, at);
-                read_only.show(name, room, at)
-            }
-            ClientFrameOf::Ask { ask, .. } => ask.show(name, room, at),
-        }
-    }
-}
-
 impl<'a> Show for OutcomeRef<'a> {
     ghost entries = { λ _ o. rest_entries o };
 
@@ -56,61 +40,54 @@ impl<'a> Show for OutcomeRef<'a> {
     }
 }
 
-impl<'a> Show for ServerRef<'a> {
-    ghost entries = { λ _ s. (server_framed s).entries };
-
-    #[tactic(auto, using(crate::proofs::Rooms::takes_both))]
-    fn show(&self, name: u16, room: &mut [Field], at: At) -> At {
-        match self {
-            ServerFrameOf::Connected { hello, read_only } => {
-                let at = hello.show(name, room, at);
-                read_only.show(name, room, at)
-            }
-            ServerFrameOf::Answered(reply) => reply.outcome.show(name, room, at),
-            ServerFrameOf::Event { event, .. } => event.show(name, room, at),
-        }
-    }
+/// Writes the fields of `value`, which begin at the place `start`, and returns how many there are.
+#[tactic(auto, using(crate::proofs::Wholes::shows))]
+fn show_from<T: Show>(start: u32, value: &T, room: &mut [Field]) -> u32
+    ensures { Shows start (T.entries 0 value.now) room.old room.new result }
+{
+    let at = At {
+        count: 0,
+        place: start,
+    };
+    value.show(NONE, room, at).count
 }
 
-fn client_start(frame: &ClientRef<'_>) -> u32
-    ensures { result ≡ length (bytes_of (client_framed frame.now).front) }
+/// So those of a connect message, and of its flag if it has one.
+fn show_connect<T: Show>(hello: &T, flag: &Option<bool>, room: &mut [Field]) -> u32
+    ensures { Shows 0 (T.entries 0 hello.now ++ flag_entries flag.now) room.old room.new result }
 {
-    match frame {
-        ClientFrameOf::Connect { .. } => 0,
-        ClientFrameOf::Ask { .. } => REQUEST,
-    }
-}
-
-fn server_start(frame: &ServerRef<'_>) -> u32
-    ensures { result ≡ length (bytes_of (server_framed frame.now).front) }
-{
-    match frame {
-        ServerFrameOf::Connected { .. } => 0,
-        ServerFrameOf::Answered(_) => REPLY,
-        ServerFrameOf::Event { .. } => REPLY,
-    }
+    let hello = Named {
+        name: NONE,
+        value: hello,
+    };
+    let flag = Named {
+        name: NONE,
+        value: flag,
+    };
+    show_from(0, &(hello, flag), room)
 }
 
 /// Writes the fields of the client's `frame` into `room`, as many as it has places for, and returns how many there are.
 /// The clause holds for a frame whose payload is shorter than 4 GiB.
+#[tactic(auto, using(crate::proofs::Wholes::client_written))]
 pub fn client_fields(frame: &ClientRef<'_>, room: &mut [Field]) -> u32
     ensures { asks.IsSent frame.now → length (asks.payload frame.now) < 2 ^ 32 → AreWritten (client_fields frame.now) room.old room.new result }
 {
-    let at = At {
-        count: 0,
-        place: client_start(frame),
-    };
-    frame.show(0, room, at).count
+    match frame {
+        ClientFrameOf::Connect { hello, read_only } => show_connect(hello, read_only, room),
+        ClientFrameOf::Ask { ask, .. } => show_from(REQUEST, ask, room),
+    }
 }
 
 /// Writes the fields of the server's `frame` into `room`, as many as it has places for, and returns how many there are.
 /// The clause holds for a frame whose payload is shorter than 4 GiB.
+#[tactic(auto, using(crate::proofs::Wholes::server_written))]
 pub fn server_fields(frame: &ServerRef<'_>, room: &mut [Field]) -> u32
     ensures { answers.IsSent frame.now → length (answers.payload frame.now) < 2 ^ 32 → AreWritten (server_fields frame.now) room.old room.new result }
 {
-    let at = At {
-        count: 0,
-        place: server_start(frame),
-    };
-    frame.show(0, room, at).count
+    match frame {
+        ServerFrameOf::Connected { hello, read_only } => show_connect(hello, read_only, room),
+        ServerFrameOf::Answered(reply) => show_from(REPLY, &reply.outcome, room),
+        ServerFrameOf::Event { event, .. } => show_from(REPLY, event, room),
+    }
 }

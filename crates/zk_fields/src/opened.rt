@@ -10,12 +10,12 @@ use crate::ask::show_head;
 use crate::field::{At, Field};
 use crate::frame::{REPLY, REQUEST};
 use crate::name::*;
-use crate::walk::{Column, Walk, Walked, walk_fields, walk_nothing, walk_times};
+use crate::walk::{Column, Many, Walk, Walked, walk_fields, walk_nothing, walk_times, walked};
 use std::marker::PhantomData;
 use zk_answers::body_rows;
 use zk_asks::{ask_rows, part_rows};
-use zk_jute::{ItemFault, TextRef, bool_at, int_at};
-use zk_records::{MultiHeader, Op, PartOp, Stat, borrowed, fields_of, part_of};
+use zk_jute::{ItemFault, bool_at, int_at};
+use zk_records::{MultiHeader, Op, PartOp, borrowed, fields_of, part_of};
 
 /// The kind of message that a payload is read as.
 #[derive(Clone, Copy)]
@@ -122,11 +122,11 @@ impl WalkAs for Headed {
             ($headed:ident: $($op:ident: $record:ident $borrowed:ident),+) => {
                 match $headed {
                     $(Headed::Part(PartOp::$op) => fields_of!($record, walk_fields, payload, place, room, at),)+
-                    Headed::Own(PartOp::Create) => TextRef::walk(payload, place, PATH, room, at),
-                    Headed::Own(PartOp::SetData) => Stat::walk(payload, place, NONE, room, at),
+                    Headed::Own(PartOp::Create) => <walked!(PATH text)>::walk(payload, place, room, at),
+                    Headed::Own(PartOp::SetData) => fields_of!(Stat, walk_fields, payload, place, room, at),
                     Headed::Own(PartOp::Delete) => walk_nothing(place, at),
                     Headed::Own(PartOp::Check) => walk_nothing(place, at),
-                    Headed::Error => i32::walk(payload, place, ERR, room, at),
+                    Headed::Error => <walked!(ERR int)>::walk(payload, place, room, at),
                 }
             };
         }
@@ -141,9 +141,9 @@ struct Under<M> {
 }
 
 impl<'a, M: Multi> Walk<'a> for Under<M> {
-    ghost met = { λ _. head_met M.headed };
+    ghost met = { head_met M.headed };
 
-    fn walk(payload: &'a [u8], place: usize, _name: u16, room: &mut [Field], at: At) -> Walked {
+    fn walk(payload: &'a [u8], place: usize, room: &mut [Field], at: At) -> Walked {
         match head_at(payload, place) {
             Ok((header, place)) => match M::headed(&header) {
                 Some(headed) => {
@@ -166,7 +166,7 @@ impl WalkAs for Asked {
                 match $op {
                     $($(Op::$held)|+ => fields_of!($record, walk_fields, payload, place, room, at),)+
                     $(Op::$bare)|+ => walk_nothing(place, at),
-                    Op::Multi => walk_times::<Under<Asked>>(payload, payload.len(), place, NONE, room, at),
+                    Op::Multi => walk_times::<Under<Asked>>(payload, payload.len(), place, room, at),
                 }
             };
         }
@@ -183,12 +183,12 @@ impl WalkAs for Answered {
             ($op:ident: $($($one:ident)|+: $only:ident $name:ident $kind:ident),+;
              $($both:ident: $first:ident $first_name:ident $first_kind:ident $borrowed:ident),+; $($bare:ident)|+) => {
                 match $op {
-                    $($(Op::$one)|+ => <borrowed!($kind)>::walk(payload, place, $name, room, at),)+
+                    $($(Op::$one)|+ => <walked!($name $kind)>::walk(payload, place, room, at),)+
                     $(Op::$both => walk_fields!(
                         payload, place, room, at: $first $first_name $first_kind, stat NONE stat
                     ),)+
                     $(Op::$bare)|+ => walk_nothing(place, at),
-                    Op::Multi => walk_times::<Under<Answered>>(payload, payload.len(), place, NONE, room, at),
+                    Op::Multi => walk_times::<Under<Answered>>(payload, payload.len(), place, room, at),
                 }
             };
         }
@@ -205,15 +205,15 @@ impl WalkAs for Opened {
             Opened::First => {
                 <(
                     fields_of!(ConnectRequest, walk_fields, as),
-                    Column<READ_ONLY, bool>,
-                )>::walk(payload, place, NONE, room, at)
+                    walked!(READ_ONLY boolean),
+                )>::walk(payload, place, room, at)
             }
             Opened::Ask(op) => Asked(op).walk_as(payload, place, room, at),
             Opened::Connected => {
                 <(
                     fields_of!(ConnectResponse, walk_fields, as),
-                    Column<READ_ONLY, bool>,
-                )>::walk(payload, place, NONE, room, at)
+                    walked!(READ_ONLY boolean),
+                )>::walk(payload, place, room, at)
             }
             Opened::Reply(op) => Answered(op).walk_as(payload, place, room, at),
             Opened::Event => fields_of!(WatcherEvent, walk_fields, payload, place, room, at),
