@@ -16,6 +16,12 @@ use zk_asks::part_rows;
 use zk_jute::{Blob, List, Text};
 use zk_records::{PartOp, fields_of};
 
+/// The lengths of a multi's body: of the end marker alone, or with parts.
+const SIZES: Sizes = Sizes {
+    least: 9,
+    gap: Some(17),
+};
+
 /// The header before a part of the operation `op`, as bytes.
 fn part_mark(op: PartOp) -> [u8; 9]
     ensures { result ≡ part_mark op }
@@ -113,14 +119,10 @@ fn part_reach(op: PartOp, src: &[u8], place: usize) -> Result<usize, usize>
     requires room { IsAmong (plus (part_sizes op) multi_sizes) (length src.now - place) }
     ensures { Reaches (Spells (IsValueOf (part_layout op))) (then_among multi_sizes) src.now place result }
 {
-    let behind = Sizes {
-        least: 9,
-        gap: Some(17),
-    };
     macro_rules! row {
         ($op:ident: $($part:ident: $record:ident $borrowed:ident),+) => {
             match $op {
-                $(PartOp::$part => <fields_of!($record, values, type)>::reach(src, place, behind),)+
+                $(PartOp::$part => <fields_of!($record, values, type)>::reach(src, place, SIZES),)+
             }
         };
     }
@@ -151,11 +153,7 @@ pub(crate) fn longest_multi(bytes: &[u8]) -> Option<usize>
     requires frame { length bytes.now < 2 ^ 31 }
     ensures { IsEarliest (Spells IsMulti) bytes.now result }
 {
-    let sizes = Sizes {
-        least: 9,
-        gap: Some(17),
-    };
-    if !sizes.has(bytes.len()) {
+    if !SIZES.has(bytes.len()) {
         return None;
     }
     match parts(bytes) {

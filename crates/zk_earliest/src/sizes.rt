@@ -1,5 +1,5 @@
 //! `Sizes`: the set of lengths that a value can have.
-ghost use Rattle.std.specs.Prelude.{◌≡◌, ℕ, ◌↔◌, ◌<◌, ◌≤◌, ◌+◌, ◌*◌, ◌^◌, IsTrue, Some, MatchOption};
+ghost use Rattle.std.specs.Prelude.{◌≡◌, ℕ, ◌↔◌, ◌<◌, ◌≤◌, ◌+◌, ◌*◌, ◌^◌, IsTrue, Some, None, MatchOption};
 ghost use Rattle.zk_earliest.specs.Runs.{repeated};
 ghost use Rattle.zk_earliest.specs.Sizes.{IsAmong, IsPast, plus, min_gap};
 
@@ -23,6 +23,16 @@ fn min_gap(a: Option<usize>, b: Option<usize>) -> Option<usize>
 }
 
 impl Sizes {
+    /// Just this length.
+    pub(crate) fn only(length: usize) -> Sizes
+        ensures { result ≡ record { least = length; gap = None } }
+    {
+        Sizes {
+            least: length,
+            gap: None,
+        }
+    }
+
     /// The lengths of a value of the one kind and then one of the other.
     pub(crate) fn plus(self, other: Sizes) -> Sizes
         requires { self.least + other.least < 2 ^ 32 }
@@ -64,10 +74,7 @@ impl Sizes {
         ensures { result ≡ repeated least count }
     {
         if count == 0 {
-            return Sizes {
-                least: 0,
-                gap: None,
-            };
+            return Sizes::only(0);
         }
         Sizes {
             least: count * least,

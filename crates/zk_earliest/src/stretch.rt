@@ -1,8 +1,8 @@
 //! `Stretch`, a value of which the first impossible byte can be found; and `longest`, which finds it.
-ghost use Rattle.std.specs.Prelude.{◌≡◌, ◌≤◌, ◌<◌, ◌-◌, ◌^◌, length, Some, IsTrue, nat_lt};
+ghost use Rattle.std.specs.Prelude.{◌≡◌, ◌≤◌, ◌<◌, ◌-◌, ◌^◌, length};
 ghost use Rattle.zk_jute.specs.Layout.{IsValueOf};
 ghost use Rattle.zk_earliest.specs.declared.sizes.Sizes.{Sizes};
-ghost use Rattle.zk_earliest.specs.Sizes.{IsAmong, AreSizes, plus};
+ghost use Rattle.zk_earliest.specs.Sizes.{IsAmong, IsElastic, AreSizes, plus};
 ghost use Rattle.zk_earliest.specs.Earliest.{Spells, IsEarliest};
 ghost use Rattle.zk_earliest.specs.Stops.{Reaches, then_among};
 
@@ -30,11 +30,7 @@ pub(crate) trait Stretch: Ends {
 
 /// A kind of value that can have any number of bytes from its least on, which is not 0.
 pub(crate) trait Elastic: Stretch {
-    ghost stretches: { Self.sizes.gap ≡ Some 0 };
-
-    ghost some: { IsTrue (nat_lt 0 Self.sizes.least) };
-
-    ghost small: { IsTrue (nat_lt Self.sizes.least 65536) };
+    ghost elastic: { IsElastic Self.sizes };
 }
 
 /// The number of bytes at the front that a value of just as many bytes can begin with; `None` if there is no such value.
