@@ -1,17 +1,8 @@
 -- What the payload crates prove of their forms, as it is used here.
-use Rattle.std.proofs.Common.{◌≡◌, ◌≢◌, ℕ, ◌≤◌, List, length, ℤ, refl, sym, ap, subst, arith, length-append}
-use Rattle.std.proofs.lemmas.List.{length-map}
+use Rattle.std.proofs.Common.{◌≡◌, ◌≢◌, ℕ, ◌≤◌, List, length, ℤ, refl, sym, subst}
 use Rattle.zk_jute.specs.Item.{bytes_of}
 use Rattle.zk_jute.proofs.Decided.{one_fault}
-use Rattle.zk_jute.proofs.Layouts.{bytes_both}
-use Rattle.zk_records.specs.Codes.{op_number}
 use Rattle.zk_records.specs.Records.{reply_header, watcher_event}
-use Rattle.zk_asks.specs.declared.frame.AskOf.TheVariants as asked
-use Rattle.zk_asks.specs.Parts.{marked, end_header}
-use Rattle.zk_asks.specs.Forms.{header_items}
-use Rattle.zk_asks.specs.Parts.{op_of_part}
-use Rattle.zk_asks.specs.Rows.{body_items, op_of_ask}
-use Rattle.zk_asks.specs.Frames.{parts_of_ask}
 use Rattle.zk_asks.proofs.First.{first_excludes}
 use Rattle.zk_asks.proofs.Later.{ask_excludes}
 use Rattle.zk_answers.specs.Frames.{header_of, rest_items, event_header}
@@ -37,7 +28,7 @@ use Rattle.zk_answers.specs.Frames.{IsConnected, IsEvent, Fits}
 use Rattle.zk_answers.specs.Frames as answers
 use Rattle.zk_answers.specs.Faults.{IsConnectedFault, IsHead, IsHeadFault, IsReplyFault, IsEventFault}
 use Rattle.zk_talk.specs.Payloads.{client_payload, server_payload}
-use Rattle.zk_asks.proofs.Counted.{parts_long}
+use Rattle.zk_asks.proofs.Counted.{few_parts as parts_few}
 
 abbrev pub Same : ℕ → ℕ → Reason → Reason → Type 0
 Same m n r s = (m ≡ n) × (r ≡ s)
@@ -77,13 +68,7 @@ ask_excluded profile p place reason fault f a c o e = ask_excludes profile f pla
 
 pub few_parts : (xid : ℤ) (ask : Asked) → length (ops_of_ask ask) ≤ length (client_payload (Ask xid ask))
 unfolding client_payload
-few_parts xid ask =
-    let head = header_items xid (op_number (op_of_ask ask)) in
-    omega (arith, length-map (parts_of_ask ask) op_of_part, in_body ask, ap length (bytes_both head (body_items ask)), length-append (bytes_of head) (bytes_of (body_items ask)))
-  where
-    in_body : (ask : Asked) → length (parts_of_ask ask) ≤ length (bytes_of (body_items ask))
-    in_body (asked.Multi ps) = parts_long ps (marked end_header)
-    in_body _ = omega arith
+few_parts xid ask = parts_few xid ask
 
 -- ---- the server's first frame
 

@@ -86,12 +86,12 @@ module _ (side : Side) (t new : TalkState) where
   pub refused_after : (piece : List ℕ) (fault : Fault) → IsRefused t side piece fault new → IsRefused t side piece fault (given_up side new)
   refused_after piece fault r h M st = refuses_given side new _ M fault (r h M st)
 
+pub no_fault : (f : Fault) → None ≡ Some f → ⊥
+no_fault f e = cc
+
 -- a fault is never want of memory where none was
 pub known_fault : (t : TalkState) (f : Fault) (side : Side) → t.fault ≡ Some f → (new : TalkState) (piece : List ℕ) → IsRefused t side piece f new
-known_fault t f side e new piece h M st = absurd (nothing (sym st.no_fault ∙ e))
-  where
-    nothing : None ≡ Some f → ⊥
-    nothing q = cc
+known_fault t f side e new piece h M st = absurd (no_fault f (sym st.no_fault ∙ e))
 
 pub same_fault : (f g : Fault) → Some f ≡ Some g → f ≡ g
 same_fault f g e = cc

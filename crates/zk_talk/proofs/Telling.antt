@@ -1,10 +1,13 @@
 -- What a reader told, as what a judgement tells.
-use Rattle.std.proofs.Common.{◌≡◌, ◌≢◌, ℕ, ◌⊎◌, inl, inr, List, ℤ, sym, ap, ◌∙◌, subst}
+use Rattle.std.proofs.Common.{◌≡◌, ◌≢◌, ℕ, ◌<◌, ◌⊎◌, inl, inr, List, ℤ, Option, Result, Err, sym, ap, ◌∙◌, subst, arith}
+use Rattle.std.specs.Prelude.{IfErr}
 use Rattle.zk_jute.specs.declared.fault.ItemFault.{ItemFault}
 use Rattle.zk_jute.specs.declared.fault.Reason.{Reason}
 use Rattle.zk_jute.specs.declared.fault.Reason.TheVariants.{NoMemory, Unasked, XidOrder}
 use Rattle.zk_jute.specs.Reading.{told_place}
 use Rattle.zk_jute.specs.Told.{IsTold}
+use Rattle.zk_jute.specs.Verdict.{Says}
+use Rattle.zk_jute.proofs.Judged.{says_more, says_told}
 use Rattle.zk_records.specs.declared.profile.Profile.{Profile}
 use Rattle.zk_asks.specs.Faults.{IsFirstFault, IsAskFault}
 use Rattle.zk_waiting.specs.Waiting.{Lanes}
@@ -15,7 +18,6 @@ use Rattle.zk_talk.specs.Describes.{Describes}
 use Rattle.zk_talk.specs.Judged.{Tells, IsTurnFault}
 use Rattle.zk_talk.proofs.Judging as J
 use Rattle.std.proofs.lemmas.Bool.{cases_order}
-use Rattle.std.proofs.Common.{◌<◌, arith}
 
 -- a told fault that isn't want of memory
 pub known : (F : ℕ → Reason → Type 0) (e : ItemFault) → IsTold F e × (e.reason ≢ NoMemory) → (e.reason ≢ NoMemory) × Tells F e
@@ -41,6 +43,10 @@ told_client profile count w p e x limits m v q o d = go (cases_order count 0)
         let some : count ≡ 0 → ⊥ = λ z. omega (arith, z, l) in
         let t = x.1 some in
         (t.0, J.ask_refused count m w v d limits p t.0 e.reason some (subst (λ z. IsAskFault z p t.0 e.reason) (sym o) t.1), t.2)
+
+-- the fault of a reader that a judge calls
+pub told_on : {X V : Type 0} (tells : V → Option ItemFault) (F Q : ItemFault → Type 0) → ((e : ItemFault) → F e → Q e) → (answer : Result X ItemFault) → IfErr answer F → (v : V) → Says tells (λ e. answer ≡ Err e) v → Says tells Q v
+told_on tells F Q more answer fault v s = says_more tells F Q more v (says_told tells F answer fault v s)
 
 -- a fault told at place 0
 pub told_at : (F : ℕ → Reason → Type 0) (reason : Reason) (e : ItemFault) → e ≡ record { place = told_place 0; reason = reason } → F 0 reason → Tells F e

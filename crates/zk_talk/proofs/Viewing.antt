@@ -76,22 +76,13 @@ module _ (count : ℕ) (kept p : List ℕ) (is : kept ≡ frame p) where
   pub not_none : kept ≡ [] → ⊥
   not_none e = some_frame p (sym is ∙ e)
 
-  module _ (k : (kept ≡ [] → ⊥) → (f : ClientFrame) × ShowsClient count kept f) where
-    pub client_lies : (n : ℕ) → n ≡ count → (f : ClientFrame) × ShowsClient n (frame p) f
-    client_lies n e = let x = k not_none in (x.0, subst (λ (b : List ℕ). ShowsClient n b x.0) is (subst (λ (m : ℕ). ShowsClient m kept x.0) (sym e) x.1))
+  -- by what a frame shows to be, which is the last of so many
+  module _ {X : Type 0} (IsShown : ℕ → List ℕ → X → Type 0) (k : (kept ≡ [] → ⊥) → (f : X) × IsShown count kept f) (n : ℕ) (e : n ≡ count) where
+    shown_here : IsShown n (frame p) (k not_none).0
+    shown_here = subst (λ (b : List ℕ). IsShown n b (k not_none).0) is (subst (λ (m : ℕ). IsShown m kept (k not_none).0) (sym e) (k not_none).1)
 
-    pub client_made : (n : ℕ) → n ≡ count → (r : ClientFrame) → ((f : ClientFrame) → ShowsClient n (frame p) f → r ≡ f) → ShowsClient count kept r
-    client_made n e r only =
-        let x = k not_none in
-        let same = only x.0 (subst (λ (b : List ℕ). ShowsClient n b x.0) is (subst (λ (m : ℕ). ShowsClient m kept x.0) (sym e) x.1)) in
-        subst (ShowsClient count kept) (sym same) x.1
+    pub lies : (f : X) × IsShown n (frame p) f
+    lies = ((k not_none).0, shown_here)
 
-  module _ (op : Option Replied) (k : (kept ≡ [] → ⊥) → (s : ServerFrame) × ShowsServer count op kept s) where
-    pub server_lies : (n : ℕ) → n ≡ count → (s : ServerFrame) × ShowsServer n op (frame p) s
-    server_lies n e = let x = k not_none in (x.0, subst (λ (b : List ℕ). ShowsServer n op b x.0) is (subst (λ (m : ℕ). ShowsServer m op kept x.0) (sym e) x.1))
-
-    pub server_made : (n : ℕ) → n ≡ count → (r : ServerFrame) → ((s : ServerFrame) → ShowsServer n op (frame p) s → r ≡ s) → ShowsServer count op kept r
-    server_made n e r only =
-        let x = k not_none in
-        let same = only x.0 (subst (λ (b : List ℕ). ShowsServer n op b x.0) is (subst (λ (m : ℕ). ShowsServer m op kept x.0) (sym e) x.1)) in
-        subst (ShowsServer count op kept) (sym same) x.1
+    pub made : (r : X) → ((f : X) → IsShown n (frame p) f → r ≡ f) → IsShown count kept r
+    made r only = subst (IsShown count kept) (sym (only (k not_none).0 shown_here)) (k not_none).1

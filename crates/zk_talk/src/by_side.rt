@@ -1,5 +1,5 @@
 //! What a talk does with a piece of the client's, and with one of the server's.
-ghost use Rattle.std.specs.Prelude.{false, true, ◌≡◌, ◌≢◌, [], ◌∷◌, length, None, Some, IsOk, IfOk, IfErr, OnOk, OnErr, IfSome, IfNone, MatchOption};
+ghost use Rattle.std.specs.Prelude.{false, true, ◌≡◌, ◌≢◌, [], ◌∷◌, length, None, Some, IsOk, IfOk, IfErr, OnErr, IfSome, IfNone, MatchOption};
 ghost use Rattle.std.specs.Option.{option_to_list};
 ghost use Rattle.zk_jute.specs.declared.fault.Reason.TheVariants.{NoMemory};
 ghost use Rattle.zk_talk.specs.Held.{Message};
@@ -7,13 +7,49 @@ ghost use Rattle.zk_talk.specs.Stands.{held_on, kept_on};
 ghost use Rattle.zk_talk.specs.Viewed.{Leaves, other_side};
 ghost use Rattle.zk_talk.specs.Taking.{TakesOn, StepsOn, IsRefused, Fails};
 
-use crate::frame::{
-    client_frame, keep_client, keep_server, pass_client, pass_server, server_frame,
-};
+use crate::frame::{client_frame, keep_client, keep_server, server_frame};
+use crate::judge::{await_ask, settle};
 use crate::message::{Fault, Message, Side};
 use crate::received::{receive, refuse};
+use crate::stream::carried;
 use crate::talk::{Stepped, Taken, Talk};
-use zk_jute::{ItemFault, Undecided};
+use zk_jute::Undecided;
+
+/// What a piece gives: `$none` where it makes no frame whole; else the frame is judged, and it gives `$told`, or the fault.
+macro_rules! judged {
+    (
+        $talk:ident.$stream:ident, $side:ident, $piece:ident, $judge:ident($($given:expr),*),
+        $made:ident.$field:ident: $none:expr, $found:pat => $told:expr
+    ) => {{
+        let Some(used) = receive(&mut $talk.fault, $side, &mut $talk.$stream, $piece)? else {
+            return Ok($made {
+                used: $piece.len(),
+                $field: $none,
+            });
+        };
+        match $judge($($given,)* &mut $talk.$stream, &mut $talk.waiting, used) {
+            Ok($found) => Ok($made {
+                used,
+                $field: $told,
+            }),
+            Err(item) => Err(refuse(&mut $talk.fault, $side, &$talk.$stream, used, item)),
+        }
+    }};
+}
+
+/// The whole frame at the front of a piece is passed, if its payload is judged to be one that may come next.
+macro_rules! passed {
+    ($talk:ident.$stream:ident, $piece:ident => $judge:ident($($given:expr),*)) => {{
+        let used = $talk.$stream.front($piece)?;
+        match $judge::<Undecided>($($given,)* &mut $talk.waiting, carried($piece, used)) {
+            Ok(_told) => {
+                $talk.$stream.pass_whole(used);
+                Some(used)
+            }
+            Err(_undecided) => None,
+        }
+    }};
+}
 
 impl Talk {
     /// `take` of a piece, before any fault and where no frame is kept on the side.
@@ -30,38 +66,14 @@ impl Talk {
     {
         let alloc = self.alloc;
         match side {
-            Side::Client => {
-                let Some(used) = receive(&mut self.fault, side, &mut self.client, piece)? else {
-                    return Ok(Taken {
-                        used: piece.len(),
-                        message: None,
-                    });
-                };
-                let profile = self.limits.profile();
-                match client_frame(alloc, profile, &mut self.client, &mut self.waiting, used) {
-                    Ok(frame) => Ok(Taken {
-                        used,
-                        message: Some(Message::Client(frame)),
-                    }),
-                    Err(item) => Err(refuse(&mut self.fault, side, &self.client, used, item)),
-                }
-            }
-            Side::Server => {
-                let Some(used) = receive(&mut self.fault, side, &mut self.server, piece)? else {
-                    return Ok(Taken {
-                        used: piece.len(),
-                        message: None,
-                    });
-                };
-                let asked = self.client.count();
-                match server_frame(alloc, asked, &mut self.server, &mut self.waiting, used) {
-                    Ok(frame) => Ok(Taken {
-                        used,
-                        message: Some(Message::Server(frame)),
-                    }),
-                    Err(item) => Err(refuse(&mut self.fault, side, &self.server, used, item)),
-                }
-            }
+            Side::Client => judged!(
+                self.client, side, piece, client_frame(alloc, self.limits.profile()),
+                Taken.message: None, frame => Some(Message::Client(frame))
+            ),
+            Side::Server => judged!(
+                self.server, side, piece, server_frame(alloc, self.client.count()),
+                Taken.message: None, frame => Some(Message::Server(frame))
+            ),
         }
     }
 
@@ -121,32 +133,12 @@ impl Talk {
     {
         match side {
             Side::Client => {
-                let used = self.client.front(piece)?;
-                let profile = self.limits.profile();
-                let Ok(()) = pass_client::<Undecided>(
-                    profile,
-                    &mut self.client,
-                    &mut self.waiting,
-                    piece,
-                    used,
-                ) else {
-                    return None;
-                };
-                Some(used)
+                let count = self.client.count();
+                passed!(self.client, piece => await_ask(self.limits.profile(), count, count))
             }
             Side::Server => {
-                let used = self.server.front(piece)?;
-                let asked = self.client.count();
-                let Ok(()) = pass_server::<Undecided>(
-                    asked,
-                    &mut self.server,
-                    &mut self.waiting,
-                    piece,
-                    used,
-                ) else {
-                    return None;
-                };
-                Some(used)
+                let frames = self.server.count();
+                passed!(self.server, piece => settle(self.client.count(), frames))
             }
         }
     }
@@ -156,44 +148,24 @@ impl Talk {
         requires good { self.old.fault ≡ None }
         requires given_up { kept_on side self.old ≡ [] }
         ensures limits { self.new.limits ≡ self.old.limits }
-        ensures ok { IfOk result (λ s. StepsOn self.old side piece.now s.used s.whole self.new) }
+        ensures ok { IfOk result (λ s. (self.new.fault ≡ None) × StepsOn self.old side piece.now s.used s.whole self.new) }
         ensures exact { IfOk result (λ s. s.whole ≡ false → s.used ≡ length piece.now) }
         ensures other { Leaves (other_side side) self.old self.new }
-        ensures err { IfErr result (λ e. (e.reason ≢ NoMemory) × IsRefused self.old side piece.now e self.new) }
+        ensures err { IfErr result (λ e. (self.new.fault ≡ Some e) × (e.reason ≢ NoMemory) × IsRefused self.old side piece.now e self.new) }
         ensures none { OnErr result (kept_on side self.new ≡ []) }
-        ensures well { OnOk result (self.new.fault ≡ None) }
-        ensures kept { IfErr result (λ e. self.new.fault ≡ Some e) }
     {
         match side {
-            Side::Client => {
-                let Some(used) = receive(&mut self.fault, side, &mut self.client, piece)? else {
-                    return Ok(Stepped {
-                        used: piece.len(),
-                        whole: false,
-                    });
-                };
-                let profile = self.limits.profile();
-                match keep_client::<ItemFault>(profile, &mut self.client, &mut self.waiting, used) {
-                    Ok(()) => Ok(Stepped { used, whole: true }),
-                    Err(item) => Err(refuse(&mut self.fault, side, &self.client, used, item)),
+            Side::Client => judged!(
+                self.client, side, piece, keep_client(self.limits.profile()),
+                Stepped.whole: false, () => true
+            ),
+            Side::Server => judged!(
+                self.server, side, piece, keep_server(self.client.count()),
+                Stepped.whole: false, answered => {
+                    self.answered = answered;
+                    true
                 }
-            }
-            Side::Server => {
-                let Some(used) = receive(&mut self.fault, side, &mut self.server, piece)? else {
-                    return Ok(Stepped {
-                        used: piece.len(),
-                        whole: false,
-                    });
-                };
-                let asked = self.client.count();
-                match keep_server::<ItemFault>(asked, &mut self.server, &mut self.waiting, used) {
-                    Ok(answered) => {
-                        self.answered = answered;
-                        Ok(Stepped { used, whole: true })
-                    }
-                    Err(item) => Err(refuse(&mut self.fault, side, &self.server, used, item)),
-                }
-            }
+            ),
         }
     }
 }

@@ -1,17 +1,18 @@
 //! What is done with a side's whole frame: it is judged, and then kept or passed.
-ghost use Rattle.std.specs.Prelude.{◌≡◌, ◌≢◌, ◌<◌, ◌≤◌, ◌↔◌, [], length, take, drop, IfOk, IfErr, OnOk, OnErr, IsTrue};
+ghost use Rattle.std.specs.Prelude.{◌≡◌, ◌≢◌, ◌↔◌, drop, IfOk, IfErr, OnOk, OnErr, IsTrue};
 ghost use Rattle.zk_jute.specs.declared.fault.Reason.TheVariants.{NoMemory};
 ghost use Rattle.zk_jute.specs.Verdict.{Says};
 ghost use Rattle.zk_asks.specs.Held as asks;
 ghost use Rattle.zk_answers.specs.Held as answers;
 ghost use Rattle.zk_talk.specs.Judged.{KeepsClient, KeepsServer, TellsClient, TellsServer, PassesClient, PassesServer, HasNextClient, HasNextServer};
-ghost use Rattle.zk_talk.specs.Streams.{IsAtFrame, TakenBack, passed, kept_now, held_in};
+ghost use Rattle.zk_talk.specs.Streams.{IsAtFrame, TakenBack, passed, kept_now};
 
 use crate::judge::{
-    await_ask, forget_asked, has_room, judge_client, next_server, put_asked, replied, settle,
+    await_ask, forget_asked, has_room, has_spoken, judge_client, judge_server, put_asked, replied,
+    settle,
 };
 use crate::replied::Replied;
-use crate::stream::{Stream, carried};
+use crate::stream::Stream;
 use crate::view::shown_server;
 use std::alloc::Global;
 use zk_answers::ServerFrame;
@@ -52,31 +53,6 @@ pub fn keep_client<V: Verdict>(
     Ok(())
 }
 
-/// Passes the client's frame `piece[..used]` if it is one that may come next under `profile`; else changes nothing. Copies
-/// nothing.
-#[inline(always)]
-pub fn pass_client<V: Verdict>(
-    profile: Profile,
-    stream: &mut Stream,
-    waiting: &mut Awaited,
-    piece: &[u8],
-    used: usize,
-) -> Result<(), V>
-    requires part { used ≤ length piece.now }
-    requires front { IsAtFrame (held_in stream.old (take used piece.now)) used }
-    requires none { (stream.old.held ≡ []) × (stream.old.kept ≡ []) }
-    ensures max { waiting.new.max ≡ waiting.old.max }
-    ensures found { OnOk result ((f : asks.ClientFrame) × PassesClient profile stream.old waiting.old (take used piece.now) f waiting.new) }
-    ensures passed { OnOk result (stream.new ≡ passed stream.old used) }
-    ensures same { OnErr result ((waiting.new ≡ waiting.old) × (stream.new ≡ stream.old)) }
-    ensures fault { IfErr result (Says V.tells (λ e. (e.reason ≢ NoMemory) × TellsClient profile stream.old.count waiting.old (drop 4 (take used piece.now)) e)) }
-{
-    let count = stream.count();
-    await_ask::<V>(profile, count, count, waiting, carried(piece, used))?;
-    stream.pass_whole(used);
-    Ok(())
-}
-
 /// Judges the client's whole frame, whose last `used` bytes are new, under `profile`, passes it, and returns its message.
 /// If memory is refused, the `used` bytes are not taken after all.
 pub fn client_frame(
@@ -97,14 +73,15 @@ pub fn client_frame(
     ensures fault { IfErr result (λ e. e.reason ≢ NoMemory → TellsClient profile stream.old.count waiting.old (drop 4 stream.old.held) e) }
 {
     let count = stream.count();
-    let asked = judge_client::<ItemFault>(profile, count, stream.payload())?;
-    if !has_room(waiting, stream.payload(), asked) {
+    let payload = stream.payload();
+    let asked = judge_client::<ItemFault>(profile, count, payload)?;
+    if !has_room(waiting, payload, asked) {
         return Err(ItemFault::at(0, Reason::QueueFull));
     }
-    let seen = judged_ref(asked, stream.payload());
+    let seen = judged_ref(asked, payload);
     match seen.own(alloc) {
         Ok(frame) => {
-            put_asked(waiting, stream.payload(), asked, count);
+            put_asked(waiting, payload, asked, count);
             stream.pass(used);
             Ok(frame)
         }
@@ -136,30 +113,6 @@ pub fn keep_server<V: Verdict>(
     Ok(answered)
 }
 
-/// Passes the server's frame `piece[..used]` if it may come next, where the client has sent `asked` frames; else changes
-/// nothing. Copies nothing.
-#[inline(always)]
-pub fn pass_server<V: Verdict>(
-    asked: u64,
-    stream: &mut Stream,
-    waiting: &mut Awaited,
-    piece: &[u8],
-    used: usize,
-) -> Result<(), V>
-    requires part { used ≤ length piece.now }
-    requires front { IsAtFrame (held_in stream.old (take used piece.now)) used }
-    requires none { (stream.old.held ≡ []) × (stream.old.kept ≡ []) }
-    ensures max { waiting.new.max ≡ waiting.old.max }
-    ensures found { OnOk result ((s : answers.ServerFrame) × PassesServer asked stream.old waiting.old (take used piece.now) s waiting.new) }
-    ensures passed { OnOk result (stream.new ≡ passed stream.old used) }
-    ensures same { OnErr result ((waiting.new ≡ waiting.old) × (stream.new ≡ stream.old)) }
-    ensures fault { IfErr result (Says V.tells (λ e. (e.reason ≢ NoMemory) × TellsServer asked stream.old.count waiting.old (drop 4 (take used piece.now)) e)) }
-{
-    settle::<V>(asked, stream.count(), waiting, carried(piece, used))?;
-    stream.pass_whole(used);
-    Ok(())
-}
-
 /// Judges the server's whole frame, whose last `used` bytes are new, where the client has sent `asked` frames; passes it,
 /// and returns its message. If memory is refused, the `used` bytes are not taken after all.
 pub fn server_frame(
@@ -180,9 +133,10 @@ pub fn server_frame(
     ensures fault { IfErr result (λ e. e.reason ≢ NoMemory → TellsServer asked stream.old.count waiting.old (drop 4 stream.old.held) e) }
 {
     let count = stream.count();
-    let answer = next_server::<ItemFault>(asked, count, waiting, stream.payload())?;
+    let payload = stream.payload();
+    let answer = judge_server::<ItemFault>(has_spoken(asked), has_spoken(count), waiting, payload)?;
     let told = replied(answer);
-    let seen = shown_server(count + 1, told, stream.payload());
+    let seen = shown_server(count + 1, told, payload);
     match seen.own(alloc) {
         Ok(frame) => {
             forget_asked(waiting, answer);

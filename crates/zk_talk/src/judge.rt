@@ -13,7 +13,7 @@ ghost use Rattle.zk_answers.specs.Faults.{IsHead, IsEventFault};
 ghost use Rattle.zk_answers.specs.Held as answered;
 ghost use Rattle.zk_answers.specs.Frames as answers;
 ghost use Rattle.zk_talk.specs.Payloads.{client_payload};
-ghost use Rattle.zk_talk.specs.Settled.{IsAsking, IsComing, IsAwaited, IsDueReply, IsHeard, IsExpected, IsSettled, Answers, replied_of};
+ghost use Rattle.zk_talk.specs.Settled.{IsAsking, IsComing, IsAwaited, IsDueReply, IsHeard, IsSettled, Answers, replied_of};
 ghost use Rattle.zk_talk.specs.Judged.{TellsLater, TellsClient, TellsServer, IsTurnFault, IsPutRefusal, HasRoomFor, IsNumbered, IsRemembered, HasAsk, IsForgotten};
 ghost use Rattle.zk_talk.specs.SaidPayload.{HearsFault};
 
@@ -174,22 +174,20 @@ fn judge_answer<V: Verdict>(
     Ok(Replied { op, frame })
 }
 
-/// `judge_answer` of any lane.
+/// `judge_answer` of the lane of the header's xid.
 // Not inlined, so that the way of the plain lane holds no values of the others.
 #[inline(never)]
 fn judge_special<V: Verdict>(
-    lane: Lane,
     head: &ReplyHeader,
     waiting: &Awaited,
     payload: &[u8],
 ) -> Result<Replied, V>
-    requires lane { lane ≡ lane_of head.now.xid }
     requires head { (rest : List ℕ) × IsHead payload.now head.now rest }
     requires reply { head.now.xid ≢ event_xid }
     ensures found { IfOk result (λ told. (r : answered.Reply) × IsDueReply head.now.xid payload.now told waiting.now r) }
     ensures fault { IfErr result (Says V.tells (λ e. (e.reason ≢ NoMemory) × TellsLater waiting.now payload.now e)) }
 {
-    judge_answer::<V>(lane, head, waiting, payload)
+    judge_answer::<V>(lane_of(head.xid), head, waiting, payload)
 }
 
 /// Judges whether `payload`, which begins with the header `head`, is an event.
@@ -228,7 +226,7 @@ pub fn judge_server<V: Verdict>(
                 Ok(Some((Lane::Plain, told)))
             }
             lane => {
-                let told = judge_special::<V>(lane, &head, waiting, payload)?;
+                let told = judge_special::<V>(&head, waiting, payload)?;
                 Ok(Some((lane, told)))
             }
         }
@@ -241,24 +239,10 @@ pub fn judge_server<V: Verdict>(
 }
 
 /// Whether a side has spoken, of which `count` frames have come.
-fn has_spoken(count: u64) -> bool
+pub fn has_spoken(count: u64) -> bool
     ensures { MatchBool result (count ≡ 0 → ⊥) (count ≡ 0) }
 {
     count > 0
-}
-
-/// As `judge_server`, after `asked` frames of the client and `count` of the server.
-#[inline(always)]
-pub fn next_server<V: Verdict>(
-    asked: u64,
-    count: u64,
-    waiting: &Awaited,
-    payload: &[u8],
-) -> Result<Option<(Lane, Replied)>, V>
-    ensures found { IfOk result (λ answer. (s : answered.ServerFrame) × IsExpected asked count payload.now waiting.now answer s) }
-    ensures fault { IfErr result (Says V.tells (λ e. (e.reason ≢ NoMemory) × TellsServer asked count waiting.now payload.now e)) }
-{
-    judge_server::<V>(has_spoken(asked), has_spoken(count), waiting, payload)
 }
 
 /// The request that is replied to.
@@ -296,7 +280,7 @@ pub fn settle<V: Verdict>(
     ensures same { OnErr result (waiting.new ≡ waiting.old) }
     ensures fault { IfErr result (Says V.tells (λ e. (e.reason ≢ NoMemory) × TellsServer asked count waiting.old payload.now e)) }
 {
-    let answer = next_server::<V>(asked, count, waiting, payload)?;
+    let answer = judge_server::<V>(has_spoken(asked), has_spoken(count), waiting, payload)?;
     let told = replied(answer);
     forget_asked(waiting, answer);
     Ok(told)

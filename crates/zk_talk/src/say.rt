@@ -47,15 +47,14 @@ pub enum SayFault {
 pub fn say_name(fault: &SayFault) -> &'static str
     ensures { result.now ≡ names.say_name fault.now }
 {
-    match fault {
-        SayFault::NotFirst => "NotFirst",
-        SayFault::Unasked => "Unasked",
-        SayFault::XidOrder { .. } => "XidOrder",
-        SayFault::Misfit => "Misfit",
-        SayFault::TooLong => "TooLong",
-        SayFault::QueueFull => "QueueFull",
-        SayFault::NoMemory => "NoMemory",
+    macro_rules! name_of {
+        ($($name:ident)*) => {
+            match fault {
+                $(SayFault::$name { .. } => stringify!($name),)*
+            }
+        };
     }
+    name_of!(NotFirst Unasked XidOrder Misfit TooLong QueueFull NoMemory)
 }
 
 /// The fault's name; after that of `XidOrder` its two xids.
@@ -81,6 +80,24 @@ pub fn put_length(size: u32, out: &mut Vec<u8>) -> Result<(), AllocError>
     Ok(())
 }
 
+/// Appends the frame of a message whose payload is at most `$limit` bytes, and is written by `$write`.
+macro_rules! put {
+    ($message:ident, $limit:ident, $out:ident, $write:ident) => {{
+        let Some(size) = $message.size_within($limit) else {
+            return Err(SayFault::TooLong);
+        };
+        let start = $out.len();
+        let Ok(()) = put_length(size, $out) else {
+            return Err(SayFault::NoMemory);
+        };
+        let Ok(()) = $write($message, $out) else {
+            $out.truncate(start);
+            return Err(SayFault::NoMemory);
+        };
+        Ok(())
+    }};
+}
+
 /// Appends the frame of a message of the client, whose payload is at most `limit` bytes.
 fn put_client(message: &ClientFrame, limit: u32, out: &mut Vec<u8>) -> Result<(), SayFault>
     requires allowed { asks.MaySend message.now }
@@ -92,18 +109,7 @@ fn put_client(message: &ClientFrame, limit: u32, out: &mut Vec<u8>) -> Result<()
     // Memory is needed for what fits alone.
     ensures lacks { IfErr result (λ e. e ≡ NoMemory → Fit limit (asks.frame_items message.now)) }
 {
-    let Some(size) = message.size_within(limit) else {
-        return Err(SayFault::TooLong);
-    };
-    let start = out.len();
-    let Ok(()) = put_length(size, out) else {
-        return Err(SayFault::NoMemory);
-    };
-    let Ok(()) = write_client(message, out) else {
-        out.truncate(start);
-        return Err(SayFault::NoMemory);
-    };
-    Ok(())
+    put!(message, limit, out, write_client)
 }
 
 /// Appends the frame of a message of the server, whose payload is at most `limit` bytes.
@@ -117,18 +123,7 @@ fn put_server(message: &ServerFrame, limit: u32, out: &mut Vec<u8>) -> Result<()
     // Memory is needed for what fits alone.
     ensures lacks { IfErr result (λ e. e ≡ NoMemory → Fit limit (answers.frame_items message.now)) }
 {
-    let Some(size) = message.size_within(limit) else {
-        return Err(SayFault::TooLong);
-    };
-    let start = out.len();
-    let Ok(()) = put_length(size, out) else {
-        return Err(SayFault::NoMemory);
-    };
-    let Ok(()) = write_server(message, out) else {
-        out.truncate(start);
-        return Err(SayFault::NoMemory);
-    };
-    Ok(())
+    put!(message, limit, out, write_server)
 }
 
 fn is_connect(message: &ClientFrame) -> bool

@@ -39,6 +39,19 @@ impl Model for Speaker {
     ghost invariant = { λ s. s.waiting.max ≡ s.limits.waiting };
 }
 
+/// What is said of a side, which then has spoken.
+macro_rules! said {
+    ($speaker:ident.$spoken:ident => $said:expr) => {
+        match $said {
+            Ok(()) => {
+                $speaker.$spoken = true;
+                Ok(())
+            }
+            Err(e) => Err(e),
+        }
+    };
+}
+
 impl Speaker {
     /// A speaker that has said nothing.
     ///
@@ -90,36 +103,13 @@ impl Speaker {
         ensures exact { IfErr result (λ e. e ≢ NoMemory → (before : List Message) → Says self.old before → MaySay self.old.limits before message.now → ⊥) }
     {
         match message {
-            Message::Client(frame) => {
-                match say_client(
-                    self.alloc,
-                    self.limits,
-                    self.asked,
-                    &mut self.waiting,
-                    frame,
-                    out,
-                ) {
-                    Ok(()) => {}
-                    Err(e) => return Err(e),
-                }
-                self.asked = true;
-            }
-            Message::Server(frame) => {
-                match say_server(
-                    self.limits,
-                    self.asked,
-                    self.welcomed,
-                    &mut self.waiting,
-                    frame,
-                    out,
-                ) {
-                    Ok(()) => {}
-                    Err(e) => return Err(e),
-                }
-                self.welcomed = true;
-            }
+            Message::Client(frame) => said!(self.asked => say_client(
+                self.alloc, self.limits, self.asked, &mut self.waiting, frame, out
+            )),
+            Message::Server(frame) => said!(self.welcomed => say_server(
+                self.limits, self.asked, self.welcomed, &mut self.waiting, frame, out
+            )),
         }
-        Ok(())
     }
 
     /// Appends the frame of the side's `payload` to `out` if its message may be said next, as `say` does, and only then. The
@@ -148,29 +138,13 @@ impl Speaker {
         ensures exact { IfErr result (λ e. e ≢ Say NoMemory → CannotSay self.old side payload.now) }
     {
         match side {
-            Side::Client => {
-                match say_client_payload(self.limits, self.asked, &mut self.waiting, payload, out) {
-                    Ok(()) => {}
-                    Err(e) => return Err(e),
-                }
-                self.asked = true;
-            }
-            Side::Server => {
-                match say_server_payload(
-                    self.limits,
-                    self.asked,
-                    self.welcomed,
-                    &mut self.waiting,
-                    payload,
-                    out,
-                ) {
-                    Ok(()) => {}
-                    Err(e) => return Err(e),
-                }
-                self.welcomed = true;
-            }
+            Side::Client => said!(self.asked => say_client_payload(
+                self.limits, self.asked, &mut self.waiting, payload, out
+            )),
+            Side::Server => said!(self.welcomed => say_server_payload(
+                self.limits, self.asked, self.welcomed, &mut self.waiting, payload, out
+            )),
         }
-        Ok(())
     }
 
     /// Judges the message of this kind and payload, and says it, but for its bytes; false: undecided, or it can't be said, and

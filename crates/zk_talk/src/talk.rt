@@ -48,6 +48,21 @@ pub struct Stepped {
     pub whole: bool,
 }
 
+/// Ends where the side's stream is within a frame.
+macro_rules! cut {
+    ($talk:ident.$stream:ident, $side:expr) => {{
+        let got = $talk.$stream.held();
+        if got > 0 {
+            let frame = $talk.$stream.count();
+            return Ending::Cut {
+                side: $side,
+                frame,
+                got,
+            };
+        }
+    }};
+}
+
 /// What is known of a conversation after the bytes so far. The bytes of both sides come in any pieces; a reply may not
 /// end before its request has ended.
 #[derive(Drop)]
@@ -311,24 +326,8 @@ impl Talk {
         if let Some(fault) = self.fault {
             return Ending::Refused(fault);
         }
-        let got = self.client.held();
-        if got > 0 {
-            let frame = self.client.count();
-            return Ending::Cut {
-                side: Side::Client,
-                frame,
-                got,
-            };
-        }
-        let got = self.server.held();
-        if got > 0 {
-            let frame = self.server.count();
-            return Ending::Cut {
-                side: Side::Server,
-                frame,
-                got,
-            };
-        }
+        cut!(self.client, Side::Client);
+        cut!(self.server, Side::Server);
         let asks = self.waiting.count();
         if self.client.count() > 0 && self.server.count() == 0 {
             Ending::Whole {

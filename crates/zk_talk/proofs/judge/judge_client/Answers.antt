@@ -1,23 +1,20 @@
 use Rattle.std.proofs.lemmas.Result.{err_from_is_err_and}
 use Rattle.zk_jute.specs.Told.{IsSurelyTold}
-use Rattle.zk_jute.proofs.Judged.{says_more, says_told}
+use Rattle.zk_jute.proofs.Judged.{says_more}
 use Rattle.zk_asks.specs.Held.{ClientFrame}
 use Rattle.zk_asks.specs.Frames.{IsFirst, IsSent, payload}
 use Rattle.zk_asks.specs.Faults.{IsFirstFault}
 use Rattle.zk_asks.proofs.Knowing.{of_answer}
 use Rattle.std.proofs.Common.{◌≡◌}
 use Rattle.zk_talk.proofs.Settling.{connect_comes, ask_comes}
-use Rattle.zk_talk.proofs.Telling.{told_first, told_later}
+use Rattle.zk_talk.proofs.Telling.{told_first, told_later, told_on}
 use Rattle.zk_talk.proofs.judge.judge_client.Goals as goal
 
 pub returns-in_err-on-clause-fault : goal.returns-in_err-on-clause-fault
 returns-in_err-on-clause-fault g c =
     let p = err_from_is_err_and c.from_residual.result c.from_residual.ensures.1 in
-    let tells = g.V.Verdict.tells in
-    let src = c.args.payload.now in
-    let v = c.in_err-on.field-0.0 in
-    let fault = says_told tells (IsSurelyTold (IsFirstFault src)) c.scan_first.result c.scan_first.ensures.fault v c.in_err-on.ensures in
-    rw (p.1, p.2) (says_more tells _ _ (λ e f. told_first c.args.profile c.args.count src e c.if-count-eq0.true f) v fault)
+    rw (p.1, p.2) (told_on g.V.Verdict.tells (IsSurelyTold (IsFirstFault c.args.payload.now)) _ (λ e f. told_first c.args.profile c.args.count c.args.payload.now e c.if-count-eq0.true f)
+    c.scan_first.result c.scan_first.ensures.fault c.in_err-on.field-0.0 c.in_err-on.ensures)
 
 pub returns-in_ok-on-clause-found : goal.returns-in_ok-on-clause-found
 returns-in_ok-on-clause-found g c =

@@ -3,7 +3,7 @@ use Rattle.std.specs.Prelude.{ℕ}
 use Rattle.std.proofs.lemmas.Int.{ints, to_z-of_z}
 use Rattle.std.proofs.lemmas.Result.{err_from_is_err_and}
 use Rattle.zk_jute.specs.Told.{IsSurelyTold}
-use Rattle.zk_jute.proofs.Judged.{says_more, says_told}
+use Rattle.zk_jute.proofs.Judged.{says_more}
 use Rattle.zk_asks.proofs.Knowing.{of_answer}
 use Rattle.zk_answers.specs.Held.{ServerFrame}
 use Rattle.zk_answers.specs.Frames as answers
@@ -16,7 +16,7 @@ use Rattle.zk_talk.specs.Said.{Heard}
 use Rattle.zk_talk.proofs.Judging as J
 use Rattle.zk_talk.proofs.Hearing.{described, none_spoken, some_spoken}
 use Rattle.zk_talk.proofs.Settling.{reply_heard, event_heard, connected_heard}
-use Rattle.zk_talk.proofs.Telling.{told_server}
+use Rattle.zk_talk.proofs.Telling.{told_server, told_on}
 use Rattle.zk_talk.proofs.judge.judge_server.Goals as goal
 
 pub returns-in_err-judge_change-clause-fault : goal.returns-in_err-judge_change-clause-fault
@@ -59,13 +59,10 @@ returns-in_err-on-clause-fault g c =
     let e' = err_from_is_err_and c.from_residual-in_err-on.result c.from_residual-in_err-on.ensures.1 in
     let p = c.args.payload.now in
     let w = c.args.waiting.now in
-    let tells = g.V.Verdict.tells in
-    let v' = c.in_err-on.field-0.0 in
-    let fault = says_told tells (IsSurelyTold (IsConnectedFault p)) c.scan_connected.result c.scan_connected.ensures.fault v' c.in_err-on.ensures in
-    rw (e'.1, e'.2) (says_more tells _ _
+    rw (e'.1, e'.2) (told_on g.V.Verdict.tells (IsSurelyTold (IsConnectedFault p)) _
     (told_server (Heard c.args.asked c.args.welcomed w) _ p
     (λ v heard place reason x. J.connected_refused _ _ _ v (described c.args.asked c.args.welcomed w v heard) p place reason (none_spoken c.args.welcomed v.server heard.server c.if-welcomed.false) (some_spoken c.args.asked v.client heard.client c.if-asked.true) x))
-    v' fault)
+    c.scan_connected.result c.scan_connected.ensures.fault c.in_err-on.field-0.0 c.in_err-on.ensures)
 
 pub returns-in_ok-told-in-Plain-clause-found : goal.returns-in_ok-told-in-Plain-clause-found
 returns-in_ok-told-in-Plain-clause-found g c =
