@@ -29,13 +29,8 @@ use Rattle.zk_through.proofs.Fitting.{its_good, begins}
 use Rattle.zk_through.proofs.Seen.{client_counts}
 
 -- ---- Where the fault's byte is
-head_or : {X : Type 0} → X → List X → X
-head_or d [] = d
-head_or d (x ∷ xs) = x
-
 heads : {X : Type 0} (x y : X) (xs ys : List X) → x ∷ xs ≡ y ∷ ys → x ≡ y
-unfolding head_or
-heads x y xs ys e = ap (head_or x) e
+heads x y xs ys e = cc
 
 split : {X : Type 0} (xs ys zs : List X) (w : X) (ws : List X) → xs ++ ys ≡ zs ++ w ∷ ws → ((u : List X) × (zs ≡ xs ++ u) × (ys ≡ u ++ w ∷ ws)) ⊎ ((u : List X) × (xs ≡ zs ++ w ∷ u))
 split [] ys zs w ws e = inl (zs, refl, e)

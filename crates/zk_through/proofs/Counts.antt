@@ -29,10 +29,6 @@ use Rattle.zk_talk.proofs.Queues.{requests-length}
 use Rattle.zk_talk.proofs.Turns.{count_cons}
 use Rattle.zk_through.specs.LeftOut.{xid_of, is_turn_xid, has_turn}
 
-pub not_both : (b : Bool) → b ≡ true → b ≡ false → ⊥
-not_both true t f = cc
-not_both false t f = cc
-
 -- ---- A reply's header
 not_event : (xid : ℤ) → xid ≢ negsuc 0 → is_turn_xid xid ≡ true
 unfolding is_turn_xid
@@ -73,9 +69,7 @@ number f = cond {A = ℕ} (f Ping) 1 0 + cond {A = ℕ} (f Auth) 1 0 + cond {A =
 
 one_of : (l : Lane) → number (λ k. same_lane k l) ≡ 1
 one_of Ping = refl
-one_of Auth = refl
-one_of Watches = refl
-one_of Plain = refl
+one_of _ = refl
 
 -- no reply
 abbrev pub IsNoReply : ServerFrame → Type 0

@@ -3,6 +3,7 @@ use Rattle.std.proofs.Common.{◌≡◌, ◌≢◌, ℕ, ◌≤◌, ℤ, List, [
 use Rattle.std.specs.Prelude.{slice_get, ◌||◌}
 use Rattle.std.specs.List.{list_any}
 use Rattle.std.specs.Ordering.{int_eq}
+use Rattle.std.proofs.lemmas.Bool.{false≢true}
 use Rattle.std.proofs.lemmas.List.{nil_from_length}
 use Rattle.zk_records.specs.declared.profile.Profile.{Profile}
 use Rattle.zk_waiting.specs.declared.lane.Lane.{Lane}
@@ -77,11 +78,7 @@ module _ (profile : Profile) (c : Came) (t : TurnsState) (b : AreLanes profile c
   -- what isn't passed over is seen
   module _ (late : Bool) (r : late ≡ true → TellsMatched flag c) (q : List ℕ) where
     pub seen_other : (payloads Server c ≢ [] → has_turn 16 q ≡ false) → IsSeen late c (Server, q)
-    seen_other off e u = cases (has_turn 16 q) u.1 (off u.0)
-      where
-        cases : (b : Bool) → b ≡ true → b ≡ false → ⊥
-        cases true t f = cc
-        cases false t f = cc
+    seen_other off e u = false≢true (sym (off u.0) ∙ u.1)
 
     pub seen_reply : (xid : ℤ) → xid ≡ xid_of q → (late ≡ true → IsEarlier flag t (Some xid) → ⊥) → IsSeen late c (Server, q)
     seen_reply xid is none e u = none e (subst (λ z. IsEarlierOn (lane_of z) flag t z) (sym is) (earlier_on (r e) q (lane_in q) u.2))

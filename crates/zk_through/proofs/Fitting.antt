@@ -1,5 +1,5 @@
 -- The talk takes a request of the profile that there is room for.
-use Rattle.std.proofs.Common.{◌≡◌, ◌≢◌, ℕ, zero, suc, ◌+◌, ◌<◌, ◌≤◌, ◌^◌, ◌⊎◌, inl, inr, List, [], ◌∷◌, ◌++◌, length, take, refl, sym, ap, ◌∙◌, subst, arith, length-append}
+use Rattle.std.proofs.Common.{◌≡◌, ◌≢◌, ℕ, zero, suc, ◌+◌, ◌<◌, ◌≤◌, ◌^◌, inl, inr, List, [], ◌∷◌, ◌++◌, length, take, refl, sym, ap, ◌∙◌, subst, arith, length-append}
 use Rattle.std.proofs.lemmas.List.{length-take-le, append-nil, nil_from_length, length-map}
 use Rattle.zk_records.specs.declared.profile.Profile.{Profile}
 use Rattle.zk_asks.specs.Held.{ClientFrame}
@@ -129,10 +129,10 @@ module _ (t : ThroughState) (h : History) (c k : Came) (M : List Message) (r : R
     bounded : length (side_bytes Client (told k)) + length (frame p) < 2 ^ 62
     bounded =
         let held = t.client.held in
-        let whole : length (side_bytes Client h) ≡ length (frames (payloads Client r.all)) + length held = ap length r.frames.cut.client.whole ∙ length-append (frames (payloads Client r.all)) held in
+        let whole : length (side_bytes Client h) ≡ length (frames (payloads Client r.all)) + length held = ap length (r.frames.cut Client).whole ∙ length-append (frames (payloads Client r.all)) held in
         let same : length (frames (payloads Client c)) ≡ length (frames (payloads Client r.all)) = ap (λ z. length (frames z)) (seen_client t.late r.all c r.seen) in
         let all : length (frame p) ≡ length held + used = ap length (sym is) ∙ length-append held (take used piece) ∙ ap (λ z. length held + z) (length-take-le used piece part) in
-        omega (arith, small, r.client_size, whole, same, all, ap length (bytes_are k), no_more t.talk.limits.profile [] c k r.kept)
+        omega (arith, small, r.sizes Client, whole, same, all, ap length (bytes_are k), no_more t.talk.limits.profile [] c k r.kept)
 
     pub talk_takes : (w : ℕ) (q : IsRequestOf t.talk.limits.profile p w) → load r.stands.conversation.client r.stands.conversation.server + w ≤ t.talk.limits.waiting →
         Good t.talk.limits (told k ++ on Client (frame p)) (with_client r.stands.conversation q.0) [] []

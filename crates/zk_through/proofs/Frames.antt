@@ -1,20 +1,20 @@
 -- The frames of a history with more bytes.
-use Rattle.std.proofs.Common.{◌≡◌, ℕ, ◌<◌, ◌≤◌, List, [], ◌∷◌, ◌++◌, length, refl, sym, ap, ◌∙◌, subst, arith, append_assoc}
+use Rattle.std.proofs.Common.{◌≡◌, ℕ, ◌<◌, ◌≤◌, false, List, [], ◌∷◌, ◌++◌, length, refl, sym, ap, ◌∙◌, subst, arith, append_assoc}
 use Rattle.std.proofs.lemmas.List.{append-nil}
 use Rattle.std.proofs.lemmas.List.Concat.{flat_map-append}
 use Rattle.zk_frames.specs.Framing.{frame, IsBeginning, IsCut}
+use Rattle.zk_frames.proofs.Taking.{beginning_front, frame_front, goes_on, goes_whole}
 use Rattle.zk_talk.specs.declared.message.Side.{Side}
 use Rattle.zk_talk.specs.declared.message.Side.TheVariants.{Client, Server}
 use Rattle.zk_talk.specs.declared.limits.Limits.{Limits}
 use Rattle.zk_talk.specs.History.{History, side_bytes, on}
 use Rattle.zk_talk.specs.Viewed.{other_side}
-use Rattle.zk_talk.proofs.Histories.{side_bytes-same, other-bytes}
-use Rattle.zk_talk.proofs.Cuts.{cut_more, cut_whole}
-use Rattle.zk_talk.proofs.Lists.{last_of, FrontOfPushed, front_of_pushed}
+use Rattle.zk_talk.specs.Fault.{side_limit}
+use Rattle.zk_talk.proofs.Lists.{front_of_pushed}
 use Rattle.zk_talk.proofs.Lists.FrontOfPushed.{all_of_it, front_of}
-use Rattle.zk_frames.proofs.Taking.{beginning_front}
-use Rattle.zk_talk.proofs.Standing.{frame_front, last-on}
-use Rattle.zk_through.specs.Came.{Came, payload_on, payloads, AreCut, AreFrames, told}
+use Rattle.zk_talk.proofs.Standing.{other-on}
+use Rattle.zk_through.specs.Came.{Came, payload_on, payloads, IsCutOn, HasFirst, AreFrames, told}
+use Rattle.zk_through.proofs.Telling.{bytes_more}
 
 -- ---- One frame more
 payloads-append : (side : Side) (a b : Came) → payloads side (a ++ b) ≡ payloads side a ++ payloads side b
@@ -60,88 +60,63 @@ some_server q k e = omega (arith, ap length e)
 pub told-push : (k : Came) (x : Side × List ℕ) → told (k ++ x ∷ []) ≡ told k ++ on x.0 (frame x.1)
 told-push k x = flat_map-append (λ (y : Side × List ℕ). on y.0 (frame y.1)) k (x ∷ []) ∙ ap (λ z. told k ++ z) (append-nil (on x.0 (frame x.1)))
 
--- ---- One byte more
-module _ (limits : Limits) (h : History) (came : Came) (c s : List ℕ) (b : ℕ) (cut : AreCut limits h came c s) where
-  client_on : IsBeginning limits.client (c ++ b ∷ []) → AreCut limits (h ++ (Client, b) ∷ []) came (c ++ b ∷ []) s
-  client_on begin = record {
-    client = subst (λ z. IsCut limits.client z (payloads Client came) (c ++ b ∷ [])) (sym (side_bytes-same Client h b)) (cut_more limits.client (side_bytes Client h) b (payloads Client came) c cut.client begin);
-    server = subst (λ z. IsCut limits.server z (payloads Server came) s) (sym (other-bytes Client h b)) cut.server;
-  }
+-- ---- A piece more
+-- what holds of a side and of the other holds of each
+pub by_sides : (P : Side → Type 0) (side : Side) → P side → P (other_side side) → (z : Side) → P z
+by_sides P Client own other Client = own
+by_sides P Client own other Server = other
+by_sides P Server own other Client = other
+by_sides P Server own other Server = own
 
-  server_on : IsBeginning limits.server (s ++ b ∷ []) → AreCut limits (h ++ (Server, b) ∷ []) came c (s ++ b ∷ [])
-  server_on begin = record {
-    client = subst (λ z. IsCut limits.client z (payloads Client came) c) (sym (other-bytes Server h b)) cut.client;
-    server = subst (λ z. IsCut limits.server z (payloads Server came) (s ++ b ∷ [])) (sym (side_bytes-same Server h b)) (cut_more limits.server (side_bytes Server h) b (payloads Server came) s cut.server begin);
-  }
-
-  client_whole : (p : List ℕ) → length p ≤ limits.client → c ++ b ∷ [] ≡ frame p → AreCut limits (h ++ (Client, b) ∷ []) (came ++ (Client, p) ∷ []) [] s
-  client_whole p fits is = record {
-    client = subst (λ z. IsCut limits.client z (payloads Client (came ++ (Client, p) ∷ [])) []) (sym (side_bytes-same Client h b))
-        (subst (λ z. IsCut limits.client (side_bytes Client h ++ b ∷ []) z []) (sym (payloads-same Client came p)) (cut_whole limits.client (side_bytes Client h) b (payloads Client came) c p cut.client is fits));
-    server = subst (λ z. IsCut limits.server z (payloads Server (came ++ (Client, p) ∷ [])) s) (sym (other-bytes Client h b))
-        (subst (λ z. IsCut limits.server (side_bytes Server h) z s) (sym (payloads-other Client came p)) cut.server);
-  }
-
-  server_whole : (p : List ℕ) → length p ≤ limits.server → s ++ b ∷ [] ≡ frame p → AreCut limits (h ++ (Server, b) ∷ []) (came ++ (Server, p) ∷ []) c []
-  server_whole p fits is = record {
-    client = subst (λ z. IsCut limits.client z (payloads Client (came ++ (Server, p) ∷ [])) c) (sym (other-bytes Server h b))
-        (subst (λ z. IsCut limits.client (side_bytes Client h) z c) (sym (payloads-other Server came p)) cut.client);
-    server = subst (λ z. IsCut limits.server z (payloads Server (came ++ (Server, p) ∷ [])) []) (sym (side_bytes-same Server h b))
-        (subst (λ z. IsCut limits.server (side_bytes Server h ++ b ∷ []) z []) (sym (payloads-same Server came p)) (cut_whole limits.server (side_bytes Server h) b (payloads Server came) s p cut.server is fits));
-  }
-
--- in their order, with those that the byte makes whole
-order_more : (limits : Limits) (h : History) (x : Side × ℕ) (came more : Came) (c s c' s' : List ℕ) → AreFrames limits h came c s → AreCut limits (h ++ x ∷ []) (came ++ more) c' s' → AreFrames limits (h ++ x ∷ []) (came ++ more) c' s'
-order_more limits h x came more c s c' s' o cut = record { cut = cut; fronts = λ front rest e. go front rest (front_of_pushed h x front rest e) }
+-- a front of a history with a piece more is one of the history, or ends with some of the piece
+fronts_on : (P : History → Type 0) (side : Side) (bs : List ℕ) (h : History) → ((front back : History) → h ≡ front ++ back → P front) → ((x y : List ℕ) → bs ≡ x ++ y → P (h ++ on side x)) →
+    (front back : History) → h ++ on side bs ≡ front ++ back → P front
+fronts_on P side [] h before within front back e = before front back (sym (append-nil h) ∙ e)
+fronts_on P side (b ∷ bs) h before within front back e =
+    fronts_on P side bs (h ++ (side, b) ∷ []) pushed (λ x y s. subst P (sym (append_assoc h ((side, b) ∷ []) (on side x))) (within (b ∷ x) y (ap (λ z. b ∷ z) s))) front back
+    (append_assoc h ((side, b) ∷ []) (on side bs) ∙ e)
   where
-    go : (front rest : History) → FrontOfPushed h x front rest → (first after : Came) × (came ++ more ≡ first ++ after) × (d : List ℕ) × (t : List ℕ) × AreCut limits front first d t
-    go front rest (all_of_it f r) = (came ++ more, [], sym (append-nil (came ++ more)), c', s', subst (λ z. AreCut limits z (came ++ more) c' s') (sym f) cut)
-    go front rest (front_of r' f r) =
-        let p = o.fronts front r' f in
-        (p.0, p.1 ++ more, ap (λ z. z ++ more) p.2 ∙ append_assoc p.0 p.1 more, p.3, p.4, p.5)
+    pushed : (f r : History) → h ++ (side, b) ∷ [] ≡ f ++ r → P f
+    pushed f r s = elim (front_of_pushed h (side, b) f r s) [ all_of_it is none ↦ subst P (sym is) (within (b ∷ []) bs refl) | front_of r' is more ↦ before f r' is ]
 
-order_same : (limits : Limits) (h : History) (x : Side × ℕ) (came : Came) (c s c' s' : List ℕ) → AreFrames limits h came c s → AreCut limits (h ++ x ∷ []) came c' s' → AreFrames limits (h ++ x ∷ []) came c' s'
-order_same limits h x came c s c' s' o cut =
-    subst (λ z. AreFrames limits (h ++ x ∷ []) z c' s') (append-nil came)
-    (order_more limits h x came [] c s c' s' o (subst (λ z. AreCut limits (h ++ x ∷ []) z c' s') (sym (append-nil came)) cut))
+recut : (limit : ℕ) {bytes bytes' rest : List ℕ} {P P' : List (List ℕ)} → bytes' ≡ bytes → P' ≡ P → IsCut limit bytes P rest → IsCut limit bytes' P' rest
+recut limit {bytes} {bytes'} {rest} {P} {P'} e f cut = subst (λ z. IsCut limit z P' rest) (sym e) (subst (λ z. IsCut limit bytes z rest) (sym f) cut)
 
--- ---- A piece
-module _ (limits : Limits) (came : Came) where
-  pub within_client : (bs : List ℕ) (h : History) (c s : List ℕ) → AreFrames limits h came c s → IsBeginning limits.client (c ++ bs) → AreFrames limits (h ++ on Client bs) came (c ++ bs) s
-  within_client [] h c s o begin = subst (λ z. AreFrames limits z came (c ++ []) s) (sym (append-nil h)) (subst (λ z. AreFrames limits h came z s) (sym (append-nil c)) o)
-  within_client (b ∷ bs) h c s o begin =
-      let begin' = subst (IsBeginning limits.client) (sym (append_assoc c (b ∷ []) bs)) begin in
-      let cut = client_on limits h came c s b o.cut (beginning_front limits.client (c ++ b ∷ []) bs begin') in
-      let next = within_client bs (h ++ (Client, b) ∷ []) (c ++ b ∷ []) s (order_same limits h (Client, b) came c s (c ++ b ∷ []) s o cut) begin' in
-      subst (λ z. AreFrames limits z came (c ++ b ∷ bs) s) (append_assoc h ((Client, b) ∷ []) (on Client bs))
-      (subst (λ z. AreFrames limits ((h ++ (Client, b) ∷ []) ++ on Client bs) came z s) (append_assoc c (b ∷ []) bs) next)
+module _ (limits : Limits) (side : Side) (bs : List ℕ) (h : History) (came : Came) (rest : Side → List ℕ) (o : AreFrames limits h came rest) where
+  -- the side's bytes are in no frame that is whole
+  own_cut : (x : List ℕ) → IsBeginning (side_limit limits side) (rest side ++ x) → IsCutOn limits (h ++ on side x) came side (rest side ++ x)
+  own_cut x begin = recut (side_limit limits side) (bytes_more side h x) refl (goes_on false (side_limit limits side) (rest side) x (side_bytes side h) (payloads side came) (o.cut side) begin)
 
-  pub within_server : (bs : List ℕ) (h : History) (c s : List ℕ) → AreFrames limits h came c s → IsBeginning limits.server (s ++ bs) → AreFrames limits (h ++ on Server bs) came c (s ++ bs)
-  within_server [] h c s o begin = subst (λ z. AreFrames limits z came c (s ++ [])) (sym (append-nil h)) (subst (λ z. AreFrames limits h came c z) (sym (append-nil s)) o)
-  within_server (b ∷ bs) h c s o begin =
-      let begin' = subst (IsBeginning limits.server) (sym (append_assoc s (b ∷ []) bs)) begin in
-      let cut = server_on limits h came c s b o.cut (beginning_front limits.server (s ++ b ∷ []) bs begin') in
-      let next = within_server bs (h ++ (Server, b) ∷ []) c (s ++ b ∷ []) (order_same limits h (Server, b) came c s c (s ++ b ∷ []) o cut) begin' in
-      subst (λ z. AreFrames limits z came c (s ++ b ∷ bs)) (append_assoc h ((Server, b) ∷ []) (on Server bs))
-      (subst (λ z. AreFrames limits ((h ++ (Server, b) ∷ []) ++ on Server bs) came c z) (append_assoc s (b ∷ []) bs) next)
+  -- the other side has no more
+  other_cut : (x : List ℕ) (came' : Came) → payloads (other_side side) came' ≡ payloads (other_side side) came → IsCutOn limits (h ++ on side x) came' (other_side side) (rest (other_side side))
+  other_cut x came' same = recut (side_limit limits (other_side side)) (other-on side x h) same (o.cut (other_side side))
 
-  module _ (part : List ℕ) (h : History) (c s p : List ℕ) (o : AreFrames limits h came c s) (some : 0 < length part) where
-    pub whole_client : length p ≤ limits.client → c ++ part ≡ frame p → AreFrames limits (h ++ on Client part) (came ++ (Client, p) ∷ []) [] s
-    whole_client fits is =
-        let q = last_of part some in
-        let at_end : (c ++ q.init) ++ q.last ∷ [] ≡ frame p = append_assoc c q.init (q.last ∷ []) ∙ ap (λ z. c ++ z) (sym q.is) ∙ is in
-        let before = within_client q.init h c s o (frame_front limits.client (c ++ q.init) [] p q.last fits at_end) in
-        let cut = client_whole limits (h ++ on Client q.init) came (c ++ q.init) s q.last before.cut p fits at_end in
-        let r = order_more limits (h ++ on Client q.init) (Client, q.last) came ((Client, p) ∷ []) (c ++ q.init) s [] s before cut in
-        subst (λ z. AreFrames limits (h ++ on Client z) (came ++ (Client, p) ∷ []) [] s) (sym q.is)
-        (subst (λ z. AreFrames limits z (came ++ (Client, p) ∷ []) [] s) (last-on Client h q.init q.last) r)
+  -- in their order, with those that the piece makes whole
+  module _ (more came' : Came) (is : came' ≡ came ++ more) (rest' : Side → List ℕ) (same : payloads (other_side side) came' ≡ payloads (other_side side) came) (stays : rest' (other_side side) ≡ rest (other_side side)) where
+    order_on : IsCutOn limits (h ++ on side bs) came' side (rest' side) → ((x y : List ℕ) → bs ≡ x ++ y → 0 < length y → IsBeginning (side_limit limits side) (rest side ++ x)) → AreFrames limits (h ++ on side bs) came' rest'
+    order_on own begins = record { cut = cut; fronts = fronts_on (HasFirst limits came') side bs h before within }
+      where
+        cut : (z : Side) → IsCutOn limits (h ++ on side bs) came' z (rest' z)
+        cut = by_sides _ side own (subst (IsCutOn limits (h ++ on side bs) came' (other_side side)) (sym stays) (other_cut bs came' same))
 
-    pub whole_server : length p ≤ limits.server → s ++ part ≡ frame p → AreFrames limits (h ++ on Server part) (came ++ (Server, p) ∷ []) c []
-    whole_server fits is =
-        let q = last_of part some in
-        let at_end : (s ++ q.init) ++ q.last ∷ [] ≡ frame p = append_assoc s q.init (q.last ∷ []) ∙ ap (λ z. s ++ z) (sym q.is) ∙ is in
-        let before = within_server q.init h c s o (frame_front limits.server (s ++ q.init) [] p q.last fits at_end) in
-        let cut = server_whole limits (h ++ on Server q.init) came c (s ++ q.init) q.last before.cut p fits at_end in
-        let r = order_more limits (h ++ on Server q.init) (Server, q.last) came ((Server, p) ∷ []) c (s ++ q.init) c [] before cut in
-        subst (λ z. AreFrames limits (h ++ on Server z) (came ++ (Server, p) ∷ []) c []) (sym q.is)
-        (subst (λ z. AreFrames limits z (came ++ (Server, p) ∷ []) c []) (last-on Server h q.init q.last) r)
+        before : (front back : History) → h ≡ front ++ back → HasFirst limits came' front
+        before front back e =
+            let f = o.fronts front back e in
+            (f.0, f.1 ++ more, is ∙ ap (λ z. z ++ more) f.2 ∙ append_assoc f.0 f.1 more, f.3)
+
+        within : (x y : List ℕ) → bs ≡ x ++ y → HasFirst limits came' (h ++ on side x)
+        within x [] e = (came', [], sym (append-nil came'), λ z. (rest' z, subst (λ w. IsCutOn limits (h ++ on side w) came' z (rest' z)) (e ∙ append-nil x) (cut z)))
+        within x (b ∷ y) e = (came, more, is, by_sides _ side (rest side ++ x, own_cut x (begins x (b ∷ y) e (omega arith))) (rest (other_side side), other_cut x came refl))
+
+  pub within_on : (rest' : Side → List ℕ) → rest' side ≡ rest side ++ bs → rest' (other_side side) ≡ rest (other_side side) → IsBeginning (side_limit limits side) (rest side ++ bs) → AreFrames limits (h ++ on side bs) came rest'
+  within_on rest' own stays begin =
+      order_on [] came (sym (append-nil came)) rest' refl stays (subst (IsCutOn limits (h ++ on side bs) came side) (sym own) (own_cut bs begin))
+      (λ x y e some. beginning_front (side_limit limits side) (rest side ++ x) y (subst (IsBeginning (side_limit limits side)) (ap (λ z. rest side ++ z) e ∙ sym (append_assoc (rest side) x y)) begin))
+
+  pub whole_on : (rest' : Side → List ℕ) → rest' side ≡ [] → rest' (other_side side) ≡ rest (other_side side) → (p : List ℕ) → length p ≤ side_limit limits side → rest side ++ bs ≡ frame p → AreFrames limits (h ++ on side bs) (came ++ (side, p) ∷ []) rest'
+  whole_on rest' none stays p fits is =
+      let limit = side_limit limits side in
+      let came' = came ++ (side, p) ∷ [] in
+      order_on ((side, p) ∷ []) came' refl rest' (payloads-other side came p) stays
+      (subst (IsCutOn limits (h ++ on side bs) came' side) (sym none) (recut limit (bytes_more side h bs) (payloads-same side came p) (goes_whole limit (rest side) bs (side_bytes side h) (payloads side came) p (o.cut side) is fits)))
+      (λ x y e some. frame_front limit (rest side ++ x) y some (p, append_assoc (rest side) x y ∙ ap (λ z. rest side ++ z) (sym e) ∙ is, fits))

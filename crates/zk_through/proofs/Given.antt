@@ -12,7 +12,8 @@ use Rattle.zk_through.specs.declared.through.Went.{Went}
 use Rattle.zk_through.specs.declared.through.Passed.{Passed}
 use Rattle.zk_through.specs.declared.through.Went.TheVariants as went
 use Rattle.zk_through.specs.Came.{Came}
-use Rattle.zk_through.specs.Runs.{ThroughState, Runs, WentOn, IsRefused, IsWhy, IsNeverFull, LeavesSide, KeepsWaiting, given_up, stream_on}
+use Rattle.zk_through.specs.Runs.{ThroughState, AreStreams, Runs, WentOn, IsRefused, IsWhy, IsNeverFull, LeavesSide, KeepsWaiting, given_up, stream_on}
+use Rattle.zk_through.proofs.Frames.{by_sides}
 use Rattle.zk_through.proofs.Steps.{with_streams}
 use Rattle.zk_through.proofs.Never.{never_full}
 
@@ -23,7 +24,14 @@ keeping t a b = record t { client = record t.client { kept = a }; server = recor
 module _ (t : ThroughState) (a b : List ℕ) where
   runs_keeping : (h : History) (c k : Came) (M : List Message) → Runs t h c k M → Runs (keeping t a b) h c k M
   runs_keeping h c k M r =
-      with_streams t (record t.client { kept = a }) (record t.server { kept = b }) t.late t.matched h h c k M r r.all r.frames r.seen r.matched (r.client_count, r.server_count) (r.client_size, r.server_size)
+      with_streams t (record t.client { kept = a }) (record t.server { kept = b }) t.late t.matched h h c k M r r.all streams r.seen r.matched
+    where
+      streams : AreStreams t.talk.limits (record t.client { kept = a }) (record t.server { kept = b }) h r.all
+      streams = record {
+        frames = record { cut = by_sides _ Client (r.frames.cut Client) (r.frames.cut Server); fronts = r.frames.fronts };
+        counts = by_sides _ Client (r.counts Client) (r.counts Server);
+        sizes = by_sides _ Client (r.sizes Client) (r.sizes Server);
+      }
 
   went_keeping : (side : Side) (piece : List ℕ) (used : ℕ) (w : Went) (new : ThroughState) → WentOn (keeping t a b) side piece used w new → WentOn t side piece used w new
   unfolding runs_keeping with_streams

@@ -66,7 +66,7 @@ module _ (begun asked joined : ThroughState) (p q : List ℕ) (late : joined.lat
   request_same : p ≡ request
   request_same =
       let limits = joined.talk.limits in
-      let cut = after.1.frames.cut.client in
+      let cut = after.1.frames.cut Client in
       let bytes : side_bytes Client history ≡ frame request = other-on Server answer_frame (on Client request_frame) ∙ own_bytes Client request_frame ∙ sym request_is in
       let ps : payloads Client after.1.all ≡ p ∷ [] = ap (payloads Client) all_is ∙ of_client p ((Server, q) ∷ []) ∙ ap (λ z. p ∷ z) (of_server q [] ∙ no_payloads Client) in
       one_frame limits.client (side_bytes Client history) p request joined.client.held (small_limits limits).0 (omega (arith, limits.in_range)) bytes (subst (λ z. IsCut limits.client (side_bytes Client history) z joined.client.held) ps cut)
@@ -74,7 +74,7 @@ module _ (begun asked joined : ThroughState) (p q : List ℕ) (late : joined.lat
   answer_same : q ≡ answer
   answer_same =
       let limits = joined.talk.limits in
-      let cut = after.1.frames.cut.server in
+      let cut = after.1.frames.cut Server in
       let bytes : side_bytes Server history ≡ frame answer =
       bytes_more Server (on Client request_frame) answer_frame ∙ ap (λ z. z ++ answer_frame) (other-on Client request_frame [] ∙ no_bytes Server) ∙ sym answer_is in
       let ps : payloads Server after.1.all ≡ q ∷ [] = ap (payloads Server) all_is ∙ past_client p ((Server, q) ∷ []) ∙ its_server q [] ∙ ap (λ z. q ∷ z) (no_payloads Server) in
@@ -91,7 +91,6 @@ module _ (begun asked joined : ThroughState) (p q : List ℕ) (late : joined.lat
     where
       made_late : Runs (record joined { late = true; matched = false }) history ((Client, p) ∷ (Server, q) ∷ []) ((Client, p) ∷ (Server, q) ∷ []) after.0
       made_late =
-          with_streams joined joined.client joined.server true false history history ((Client, p) ∷ (Server, q) ∷ []) ((Client, p) ∷ (Server, q) ∷ []) after.0 after.1 after.1.all after.1.frames
+          with_streams joined joined.client joined.server true false history history ((Client, p) ∷ (Server, q) ∷ []) ((Client, p) ∷ (Server, q) ∷ []) after.0 after.1 after.1.all after.1.streams
           (subst (λ (z : Came). SeenAfter [] z ((Client, p) ∷ (Server, q) ∷ [])) (sym all_is) (pair_seen p q))
           (λ e. ap (λ z. length (filter (is_on Plain 16) (drop 1 z))) (past_client p ((Server, q) ∷ []) ∙ its_server q [] ∙ ap (λ z. q ∷ z) (no_payloads Server)))
-          (after.1.client_count, after.1.server_count) (after.1.client_size, after.1.server_size)

@@ -1,5 +1,5 @@
 -- Requests and replies of a lane, with one frame more.
-use Rattle.std.proofs.Common.{◌≡◌, ◌≢◌, ℕ, zero, suc, ◌+◌, ◌-◌, ◌≤◌, ◌<◌, ◌⊎◌, inl, inr, List, [], ◌∷◌, ◌++◌, length, map, drop, filter, refl, sym, ap, ◌∙◌, subst, arith, append_assoc, length-append, Bool, true, false, cond, Option, Some, None}
+use Rattle.std.proofs.Common.{◌≡◌, ◌≢◌, ℕ, zero, suc, ◌+◌, ◌-◌, ◌≤◌, ◌<◌, inl, inr, List, [], ◌∷◌, ◌++◌, length, map, drop, filter, refl, sym, ap, ◌∙◌, subst, arith, append_assoc, length-append, Bool, true, false, cond, Some, None}
 use Rattle.std.specs.Prelude.{slice_get, if◌then◌else◌}
 use Rattle.std.specs.List.{enumerate_from}
 use Rattle.std.proofs.lemmas.List.{append-nil, drop-append-le, length-drop, length-map, length_push, map-append}
@@ -18,10 +18,6 @@ use Rattle.zk_through.specs.LeftOut.{xid_of, has_turn, lane_in, is_on, asked, re
 use Rattle.zk_through.specs.Turns.{TurnsState, turn_of, waits_on, with_waits, IsLane, IsLacked, AreLacked, AreLeft, AreLanes, IsDue, and_turn}
 use Rattle.zk_through.proofs.Frames.{payloads-same, payloads-other}
 
-pub nil_or_some : {X : Type 0} (xs : List X) → (xs ≡ []) ⊎ (0 < length xs)
-nil_or_some [] = inl refl
-nil_or_some (x ∷ xs) = inr (omega arith)
-
 pub some_not_nil : {X : Type 0} (xs : List X) → 0 < length xs → xs ≢ []
 some_not_nil xs some none = omega (arith, ap length none)
 
@@ -31,8 +27,9 @@ module _ {X : Type 0} (f : X → Bool) where
   later_push [] x some = absurd (some refl)
   later_push (y ∷ xs) x some = filter-append f xs (x ∷ [])
 
-  later_first : (xs : List X) (x : X) → xs ≡ [] → filter f (drop 1 (xs ++ x ∷ [])) ≡ filter f (drop 1 xs)
-  later_first xs x none = ap (λ z. filter f (drop 1 (z ++ x ∷ []))) none ∙ sym (ap (λ z. filter f (drop 1 z)) none)
+  later_still : (xs : List X) (x : X) → (xs ≢ [] → f x ≡ false) → filter f (drop 1 (xs ++ x ∷ [])) ≡ filter f (drop 1 xs)
+  later_still [] x other = refl
+  later_still (y ∷ xs) x other = filter-append f xs (x ∷ []) ∙ ap (λ b. filter f xs ++ cond b (x ∷ []) []) (other (λ e. omega (arith, ap length e))) ∙ append-nil (filter f xs)
 
 numbered_push : (n m : ℕ) (xs : List (List ℕ)) (p : List ℕ) → m ≡ n + length xs → enumerate_from n (xs ++ p ∷ []) ≡ enumerate_from n xs ++ (m, p) ∷ []
 numbered_push n m [] p e =
@@ -60,19 +57,11 @@ module _ (lane : Lane) (c : Came) (p : List ℕ) where
   numbered : enumerate_from 0 (payloads Client (c ++ (Client, p) ∷ [])) ≡ enumerate_from 0 (payloads Client c) ++ (length (payloads Client c), p) ∷ []
   numbered = ap (enumerate_from 0) (payloads-same Client c p) ∙ numbered_push 0 (length (payloads Client c)) (payloads Client c) p (omega arith)
 
-  asked_first : payloads Client c ≡ [] → asked lane (c ++ (Client, p) ∷ []) ≡ asked lane c
-  asked_first none =
-      ap (λ z. filter (λ (x : ℕ × List ℕ). is_on lane 8 x.1) (drop 1 z)) numbered
-      ∙ later_first (λ (x : ℕ × List ℕ). is_on lane 8 x.1) (enumerate_from 0 (payloads Client c)) (length (payloads Client c), p) (ap (enumerate_from 0) none)
-
-  asked_more : payloads Client c ≢ [] → (b : Bool) → is_on lane 8 p ≡ b → asked lane (c ++ (Client, p) ∷ []) ≡ asked lane c ++ cond b ((length (payloads Client c), p) ∷ []) []
-  asked_more some b e =
+  asked_more : payloads Client c ≢ [] → is_on lane 8 p ≡ true → asked lane (c ++ (Client, p) ∷ []) ≡ asked lane c ++ (length (payloads Client c), p) ∷ []
+  asked_more some on =
       ap (λ z. filter (λ (x : ℕ × List ℕ). is_on lane 8 x.1) (drop 1 z)) numbered
       ∙ later_push (λ (x : ℕ × List ℕ). is_on lane 8 x.1) (enumerate_from 0 (payloads Client c)) (length (payloads Client c), p) (numbered_some 0 (payloads Client c) some)
-      ∙ ap (λ z. asked lane c ++ cond z ((length (payloads Client c), p) ∷ []) []) e
-
-  replied_first : payloads Server c ≡ [] → replied lane (c ++ (Server, p) ∷ []) ≡ replied lane c
-  replied_first none = ap length (ap (λ z. filter (is_on lane 16) (drop 1 z)) (payloads-same Server c p) ∙ later_first (is_on lane 16) (payloads Server c) p none)
+      ∙ ap (λ z. asked lane c ++ cond z ((length (payloads Client c), p) ∷ []) []) on
 
   pub replied_more : payloads Server c ≢ [] → (b : Bool) → is_on lane 16 p ≡ b → replied lane (c ++ (Server, p) ∷ []) ≡ replied lane c + length (cond {A = List (List ℕ)} b (p ∷ []) [])
   replied_more some b e =
@@ -80,18 +69,12 @@ module _ (lane : Lane) (c : Came) (p : List ℕ) where
       ∙ length-append (filter (is_on lane 16) (drop 1 (payloads Server c))) (cond b (p ∷ []) [])
 
   asked_still : (payloads Client c ≢ [] → is_on lane 8 p ≡ false) → asked lane (c ++ (Client, p) ∷ []) ≡ asked lane c
-  asked_still other = go (nil_or_some (payloads Client c))
-    where
-      go : ((payloads Client c ≡ []) ⊎ (0 < length (payloads Client c))) → asked lane (c ++ (Client, p) ∷ []) ≡ asked lane c
-      go (inl none) = asked_first none
-      go (inr more) = asked_more (some_not_nil (payloads Client c) more) false (other (some_not_nil (payloads Client c) more)) ∙ append-nil (asked lane c)
+  asked_still other =
+      ap (λ z. filter (λ (x : ℕ × List ℕ). is_on lane 8 x.1) (drop 1 z)) numbered
+      ∙ later_still (λ (x : ℕ × List ℕ). is_on lane 8 x.1) (enumerate_from 0 (payloads Client c)) (length (payloads Client c), p) (λ some. other (λ none. some (ap (enumerate_from 0) none)))
 
   pub replied_still : (payloads Server c ≢ [] → is_on lane 16 p ≡ false) → replied lane (c ++ (Server, p) ∷ []) ≡ replied lane c
-  replied_still other = go (nil_or_some (payloads Server c))
-    where
-      go : ((payloads Server c ≡ []) ⊎ (0 < length (payloads Server c))) → replied lane (c ++ (Server, p) ∷ []) ≡ replied lane c
-      go (inl none) = replied_first none
-      go (inr more) = replied_more (some_not_nil (payloads Server c) more) false (other (some_not_nil (payloads Server c) more)) ∙ plus_none (replied lane c)
+  replied_still other = ap length (ap (λ z. filter (is_on lane 16) (drop 1 z)) (payloads-same Server c p) ∙ later_still (is_on lane 16) (payloads Server c) p other)
 
 -- ---- What is kept
 module _ (profile : Profile) (x : Side × List ℕ) where
@@ -107,21 +90,8 @@ module _ (profile : Profile) (x : Side × List ℕ) where
       inr (a.0, a.1 ++ x ∷ [], ap (λ z. z ++ x ∷ []) a.2, kept_told (before ++ y ∷ []) came a.1 a.3 (λ out. stays (subst (λ z. IsLeftOut profile z x) (append_assoc before (y ∷ []) came) out)))
 
 -- ---- Those that wait
-value : (ℕ × List ℕ) → Option (ℕ × List ℕ) → ℕ × List ℕ
-value d None = d
-value d (Some x) = x
-
-pub same_some : (a b : ℕ × List ℕ) → Some a ≡ Some b → a ≡ b
-unfolding value
-same_some a b e = ap (value a) e
-
-turn_value : Turn → Option Turn → Turn
-turn_value d None = d
-turn_value d (Some x) = x
-
-same_turn : (a b : Turn) → Some a ≡ Some b → a ≡ b
-unfolding turn_value
-same_turn a b e = ap (turn_value a) e
+pub same_some : {X : Type 0} (a b : X) → Some a ≡ Some b → a ≡ b
+same_some a b e = cc
 
 cut_at : {X : Type 0} (n : ℕ) (xs : List X) → n < length xs → (x : X) × (slice_get xs n ≡ Some x) × (drop n xs ≡ x ∷ drop (suc n) xs)
 cut_at n [] l = absurd (omega (arith, l))
@@ -154,14 +124,11 @@ module _ (lane : Lane) (waits : List Turn) where
     lane_server other = lane_same c (c ++ (Server, p) ∷ []) (asked_by_server lane c p) (replied_still lane c p other) x
 
     module _ (some : payloads Client c ≢ []) (on : is_on lane 8 p ≡ true) where
-      asks : asked lane (c ++ (Client, p) ∷ []) ≡ asked lane c ++ (length (payloads Client c), p) ∷ []
-      asks = asked_more lane c p some true on
-
       rests : drop (replied lane c) (asked lane (c ++ (Client, p) ∷ [])) ≡ drop (replied lane c) (asked lane c) ++ (length (payloads Client c), p) ∷ []
-      rests = ap (drop (replied lane c)) asks ∙ drop-append-le (replied lane c) (asked lane c) ((length (payloads Client c), p) ∷ []) x.paired
+      rests = ap (drop (replied lane c)) (asked_more lane c p some on) ∙ drop-append-le (replied lane c) (asked lane c) ((length (payloads Client c), p) ∷ []) x.paired
 
       more : length (asked lane (c ++ (Client, p) ∷ [])) ≡ length (asked lane c) + 1
-      more = ap length asks ∙ length_push (asked lane c) (length (payloads Client c), p)
+      more = ap length (asked_more lane c p some on) ∙ length_push (asked lane c) (length (payloads Client c), p)
 
       pub lane_request : (turn : Turn) → turn ≡ turn_of (length (payloads Client c), p) → IsLane lane (c ++ (Client, p) ∷ []) (waits ++ turn ∷ [])
       lane_request turn is =
@@ -186,7 +153,7 @@ module _ (lane : Lane) (waits : List Turn) where
     pub oldest_is : (turn : Turn) → slice_get waits 0 ≡ Some turn → (y : ℕ × List ℕ) × (slice_get (asked lane c) (replied lane c) ≡ Some y) × (turn ≡ turn_of y)
     oldest_is turn e =
         let k = first_of (slice_get_within waits 0 turn e) in
-        (k.0, k.1, same_turn turn (turn_of k.0) (sym e ∙ ap (λ z. slice_get z 0) k.2))
+        (k.0, k.1, same_some turn (turn_of k.0) (sym e ∙ ap (λ z. slice_get z 0) k.2))
 
     pub none_is : slice_get waits 0 ≡ None → length (asked lane c) ≤ replied lane c
     none_is e = omega (arith, none_first waits e, waiting)
@@ -218,13 +185,13 @@ module _ (profile : Profile) (turn : Turn) where
 
   lacked_drop : (turns : List Turn) (n : ℕ) → slice_get turns 0 ≡ Some turn → (IsLacked profile turn → ⊥) → AreLacked profile turns n → AreLacked profile (drop 1 turns) n
   lacked_drop [] n e known a = absurd (cc)
-  lacked_drop (y ∷ ys) n e known (inl a) = absurd (known (subst (IsLacked profile) (same_turn y turn e) a.0))
+  lacked_drop (y ∷ ys) n e known (inl a) = absurd (known (subst (IsLacked profile) (same_some y turn e) a.0))
   lacked_drop (y ∷ ys) n e known (inr a) = a.1
 
   lacked_less : (turns : List Turn) (n : ℕ) → slice_get turns 0 ≡ Some turn → IsLacked profile turn → AreLacked profile turns n → (m : ℕ) × (n ≡ suc m) × AreLacked profile (drop 1 turns) m
   lacked_less [] n e lacked a = absurd (cc)
   lacked_less (y ∷ ys) n e lacked (inl a) = (a.1, a.2, a.3)
-  lacked_less (y ∷ ys) n e lacked (inr a) = absurd (a.0 (subst (IsLacked profile) (sym (same_turn y turn e)) lacked))
+  lacked_less (y ∷ ys) n e lacked (inr a) = absurd (a.0 (subst (IsLacked profile) (sym (same_some y turn e)) lacked))
 
 -- ---- The lanes, with one changed
 changed : (k l : Lane) (f : List Turn → List Turn) (t : TurnsState) → waits_on k (with_waits l f t) ≡ cond (same_lane k l) (f (waits_on k t)) (waits_on k t)
@@ -234,18 +201,14 @@ changed Watches Watches f t = refl
 changed Plain Plain f t = refl
 changed _ _ f t = refl
 
-left_stays : (l : Lane) (f : List Turn → List Turn) (t : TurnsState) → with_waits l f t ≡ record (with_waits l f t) { left = t.left }
+pub left_stays : (l : Lane) (f : List Turn → List Turn) (t : TurnsState) → with_waits l f t ≡ record (with_waits l f t) { left = t.left }
 left_stays Ping f t = refl
-left_stays Auth f t = refl
-left_stays Watches f t = refl
-left_stays Plain f t = refl
+left_stays _ f t = refl
 
 -- the count beside the lanes is of no weight for them
 waits_still : (k l : Lane) (f : List Turn → List Turn) (t : TurnsState) (n : ℕ) → waits_on k (record (with_waits l f t) { left = n }) ≡ waits_on k (with_waits l f t)
 waits_still Ping l f t n = refl
-waits_still Auth l f t n = refl
-waits_still Watches l f t n = refl
-waits_still Plain l f t n = refl
+waits_still _ l f t n = refl
 
 abbrev left_on : (profile : Profile) (t : TurnsState) → AreLeft profile t → Lane → ℕ
 left_on profile t a Ping = a.ping
@@ -363,9 +326,7 @@ module _ (profile : Profile) (c : Came) (t : TurnsState) (p : List ℕ) (b : Are
         where
           no_more : (l : Lane) → left_on profile t b.left l ≤ t.left
           no_more Ping = omega (arith, b.left.all)
-          no_more Auth = omega (arith, b.left.all)
-          no_more Watches = omega (arith, b.left.all)
-          no_more Plain = omega (arith, b.left.all)
+          no_more _ = omega (arith, b.left.all)
 
       pub lanes_answer : IsLacked profile due → AreLanes profile (c ++ (Server, p) ∷ []) (record (with_waits (lane_in p) (drop 1) t) { left = t.left - 1 })
       lanes_answer lacked = record {

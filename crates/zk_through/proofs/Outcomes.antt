@@ -1,5 +1,6 @@
 -- What becomes of a whole frame: it is told, or left out.
 use Rattle.std.proofs.Common.{◌≡◌, ◌≢◌, ℕ, ◌<◌, ◌-◌, inl, inr, List, [], ◌∷◌, ◌++◌, length, drop, take, Some, None, refl, sym, ap, ◌∙◌, subst, arith, true, false, ◌≤◌, ◌+◌, zero, suc}
+use Rattle.std.proofs.lemmas.Bool.{false≢true}
 use Rattle.std.proofs.lemmas.List.{append-nil}
 use Rattle.std.proofs.lemmas.Option.{slice_get_within}
 use Rattle.zk_frames.specs.Framing.{frame}
@@ -22,7 +23,6 @@ use Rattle.zk_through.proofs.Frames.{told-push}
 use Rattle.zk_through.proofs.Lanes.{some_not_nil, same_some, kept_out, kept_told, lanes_client, lanes_server, lanes_request, lanes_left, lanes_reply, lanes_answer, some_left, turn_is}
 use Rattle.zk_through.proofs.Fitting.{its_good}
 use Rattle.zk_through.proofs.Rooms.{with_one, without_one, waits_fit, kept_client, one_more, weighs_some, load_client, one_less, kept_server, load_server}
-use Rattle.zk_through.proofs.Counts.{not_both}
 use Rattle.zk_through.proofs.Seen.{client_counts, none_counts, server_some, some_counts}
 use Rattle.zk_through.proofs.Earlier.{to_earlier, seen_other, seen_reply, matched_client, matched_other, matched_reply}
 use Rattle.zk_through.proofs.Steps.{FrameCame, frame_came, over_came}
@@ -92,7 +92,7 @@ module _ (old new : ThroughState) (piece : List ℕ) (used : ℕ) (p : List ℕ)
     client_other same other =
         told_client (λ h c k M r m shows st ch sh.
         let off : payloads Client c ≢ [] → has_turn 8 p ≡ false = λ some. other (counted old.client.count (payloads Client c) (client_counts old h c k M r) some) in (
-          (λ out. not_both (has_turn 8 p) out.1 (off out.0)),
+          (λ out. false≢true (sym (off out.0) ∙ out.1)),
           subst (AreLanes old.talk.limits.profile (c ++ (Client, p) ∷ [])) (sym same) (lanes_client old.talk.limits.profile c old.turns p r.lanes off),
           omega (arith, r.few, left, ap number_of_turns same, kept_client old h c k M r new.talk x.limits ch sh p x.fits m shows st),
         ))
@@ -158,7 +158,7 @@ module _ (old new : ThroughState) (piece : List ℕ) (used : ℕ) (q : List ℕ)
     server_other same replies other first later =
         told_server (λ h c k M r m shows st ch sh.
         let off : payloads Server c ≢ [] → has_turn 16 q ≡ false = λ some. other (some_counts old h c k M r some) in (
-          (λ out. not_both (has_turn 16 q) out.1 (off out.0)),
+          (λ out. false≢true (sym (off out.0) ∙ out.1)),
           subst (AreLanes old.talk.limits.profile (c ++ (Server, q) ∷ [])) (sym same) (lanes_server old.talk.limits.profile c old.turns q r.lanes off),
           omega (arith, r.few, left, ap number_of_turns same, kept_server old h c k M r new.talk x.limits ch sh q x.fits m shows st other),
           answers c (payloads Server c) refl (none_counts old h c k M r) (some_counts old h c k M r) off,

@@ -1,11 +1,10 @@
 -- Why a side's frame is refused.
-use Rattle.std.proofs.Common.{◌≡◌, ◌≢◌, ℕ, ◌+◌, ◌≤◌, List, ◌++◌, length, take, Some, None, refl, sym, ap, ◌∙◌, subst, arith, true}
-use Rattle.std.specs.Prelude.{slice_get}
+use Rattle.std.proofs.Common.{◌≡◌, ℕ, ◌+◌, ◌≤◌, inl, inr, List, ◌++◌, length, take, Some, refl, sym, ap, ◌∙◌, subst, arith, true}
 use Rattle.zk_jute.specs.declared.fault.Reason.{Reason}
-use Rattle.zk_jute.specs.declared.fault.Reason.TheVariants.{Unasked, XidOrder}
+use Rattle.zk_jute.specs.declared.fault.Reason.TheVariants.{XidOrder}
 use Rattle.zk_frames.specs.Framing.{frame, IsBadLength}
 use Rattle.zk_talk.specs.declared.message.Side.{Side}
-use Rattle.zk_talk.specs.declared.message.Side.TheVariants.{Client, Server}
+use Rattle.zk_talk.specs.declared.message.Side.TheVariants.{Server}
 use Rattle.zk_talk.specs.declared.message.Fault.{Fault}
 use Rattle.zk_talk.specs.Held.{Message}
 use Rattle.zk_talk.specs.History.{History, side_bytes, on}
@@ -15,22 +14,14 @@ use Rattle.zk_talk.specs.Advance.{IsStop}
 use Rattle.zk_talk.specs.Advance.IsStop.{too_many, out_of_range}
 use Rattle.zk_talk.specs.Receiving.{IsStopped as WasStopped}
 use Rattle.zk_through.specs.declared.turn.Turn.{Turn}
-use Rattle.zk_through.specs.Came.{Came, payloads, told}
-use Rattle.zk_through.specs.LeftOut.{has_turn, lane_in, xid_of}
+use Rattle.zk_through.specs.Came.{Came, told}
+use Rattle.zk_through.specs.LeftOut.{has_turn, xid_of}
 use Rattle.zk_through.specs.Unseen.{IsSeen}
-use Rattle.zk_through.specs.Turns.{IsDue, IsLacked, IsEarlier, waits_on}
+use Rattle.zk_through.specs.Turns.{IsLacked, IsEarlier, IsBadTurn}
 use Rattle.zk_through.specs.Runs.{ThroughState, Runs, IsWhy, IsRefused, IsNotTold, IsNoRequest, stream_on}
 use Rattle.zk_through.specs.Runs.IsWhy.{stream_end, length_range, unasked, other_turn, told_so}
 use Rattle.zk_through.proofs.Lanes.{turn_is, none_due}
 use Rattle.zk_through.proofs.Earlier.{seen_reply}
-
-count_on : (side : Side) (t : ThroughState) (h : History) (c k : Came) (M : List Message) (r : Runs t h c k M) → (stream_on side t).count ≡ length (payloads side r.all)
-count_on Client t h c k M r = r.client_count
-count_on Server t h c k M r = r.server_count
-
-size_on : (side : Side) (t : ThroughState) (h : History) (c k : Came) (M : List Message) → Runs t h c k M → (stream_on side t).size ≡ length (side_bytes side h)
-size_on Client t h c k M r = r.client_size
-size_on Server t h c k M r = r.server_size
 
 -- the fault with its own place and reason
 exactly : (side : Side) (frame offset place : ℕ) (reason : Reason) (e : Fault) → e ≡ fault_of side frame offset place reason → e ≡ fault_of side frame offset e.place e.reason
@@ -44,7 +35,7 @@ module _ (side : Side) (old new : ThroughState) (piece : List ℕ) (used : ℕ) 
     λ h c k M r. record {
       used = used;
       part = part;
-      told = at ∙ (λ i. fault_of side (count_on side old h c k M r i) (size_on side old h c k M r i + used) e.place e.reason);
+      told = at ∙ (λ i. fault_of side (r.counts side i) (r.sizes side i + used) e.place e.reason);
       why = why h c k M r;
     },
   )
@@ -62,7 +53,7 @@ module _ (side : Side) (old new : ThroughState) (piece : List ℕ) (used : ℕ) 
   -- before a frame is whole
   stopped_why : (limit : ℕ) → limit ≡ side_limit old.talk.limits side → e.place ≡ 0 → (reason : Reason) → e.reason ≡ reason → IsStop limit (stream_on side old).size (stream_on side old).held piece used reason →
       (h : History) (c k : Came) (M : List Message) → Runs old h c k M → IsWhy old.talk.limits old.late c k side (length (side_bytes side h) + used) ((stream_on side old).held ++ take used piece) e.place e.reason
-  stopped_why limit same place reason is (too_many n u l full begin r') h c k M r = stream_end (omega (arith, u, full, size_on side old h c k M r)) place (is ∙ r')
+  stopped_why limit same place reason is (too_many n u l full begin r') h c k M r = stream_end (omega (arith, u, full, r.sizes side)) place (is ∙ r')
   stopped_why limit same place reason is (out_of_range some l fits few bad r') h c k M r =
       length_range (subst (λ z. IsBadLength z ((stream_on side old).held ++ take used piece)) same bad) place (is ∙ r')
 
@@ -77,15 +68,14 @@ module _ (old new : ThroughState) (piece : List ℕ) (used : ℕ) (e : Fault) (p
   its_seen : (h : History) (c k : Came) (M : List Message) → Runs old h c k M → IsSeen old.late c (Server, q)
   its_seen h c k M r = seen_reply old.talk.limits.profile c old.turns r.lanes old.matched old.late r.matched q (xid_of q) refl stays
 
-  pub refused_unasked : slice_get (waits_on (lane_in q) old.turns) 0 ≡ None → e ≡ fault_of Server old.server.count (old.server.size + used) 0 Unasked → IsRefused old Server piece e new
-  refused_unasked none at =
-      refused_at Server old new piece used e part kept (exactly Server old.server.count (old.server.size + used) 0 Unasked e at)
-      (λ h c k M r. unasked refl q is (its_seen h c k M r) turn (none_due old.talk.limits.profile c old.turns q r.lanes turn none) (ap (λ (z : Fault). z.place) at) (ap (λ (z : Fault). z.reason) at))
+  bad_why : (reason : Reason) → IsBadTurn old.talk.limits.profile old.turns (xid_of q) reason → e.place ≡ 0 → e.reason ≡ reason → (h : History) (c k : Came) (M : List Message) → Runs old h c k M →
+      IsWhy old.talk.limits old.late c k Server (length (side_bytes Server h) + used) (old.server.held ++ take used piece) e.place e.reason
+  bad_why reason (inl none) place because h c k M r = unasked refl q is (its_seen h c k M r) turn (none_due old.talk.limits.profile c old.turns q r.lanes turn none.0) place (because ∙ none.1)
+  bad_why reason (inr b) place because h c k M r =
+      let y = turn_is old.talk.limits.profile c old.turns q r.lanes turn b.0 b.1 in
+      let xid : b.0.xid ≡ xid_of y.0.1 = ap (λ (z : Turn). z.xid) y.2 in
+      other_turn refl q is (its_seen h c k M r) turn y.0 y.1 (subst (IsLacked old.talk.limits.profile) y.2 b.2) (λ same. b.3 (xid ∙ same)) place (because ∙ b.4 ∙ ap (λ z. XidOrder z (xid_of q)) xid)
 
-  pub refused_turn : (due : Turn) → IsDue old.turns (xid_of q) due → IsLacked old.talk.limits.profile due → due.xid ≢ xid_of q → e ≡ fault_of Server old.server.count (old.server.size + used) 0 (XidOrder due.xid (xid_of q)) → IsRefused old Server piece e new
-  refused_turn due is_due lacked other at =
-      refused_at Server old new piece used e part kept (exactly Server old.server.count (old.server.size + used) 0 (XidOrder due.xid (xid_of q)) e at)
-      (λ h c k M r.
-      let y = turn_is old.talk.limits.profile c old.turns q r.lanes turn due is_due in
-      let xid : due.xid ≡ xid_of y.0.1 = ap (λ (z : Turn). z.xid) y.2 in
-      other_turn refl q is (its_seen h c k M r) turn y.0 y.1 (subst (IsLacked old.talk.limits.profile) y.2 lacked) (λ same. other (xid ∙ same)) (ap (λ (z : Fault). z.place) at) (ap (λ (z : Fault). z.reason) at ∙ ap (λ z. XidOrder z (xid_of q)) xid))
+  pub refused_bad : (reason : Reason) → IsBadTurn old.talk.limits.profile old.turns (xid_of q) reason → e ≡ fault_of Server old.server.count (old.server.size + used) 0 reason → IsRefused old Server piece e new
+  refused_bad reason bad at =
+      refused_at Server old new piece used e part kept (exactly Server old.server.count (old.server.size + used) 0 reason e at) (bad_why reason bad (ap (λ (z : Fault). z.place) at) (ap (λ (z : Fault). z.reason) at))

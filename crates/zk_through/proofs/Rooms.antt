@@ -1,5 +1,6 @@
 -- What waits weighs no more than may, those that are left out too; and each lane has room for it.
 use Rattle.std.proofs.Common.{◌≡◌, ◌≢◌, ℕ, ◌+◌, ◌-◌, ◌^◌, ◌<◌, ◌≤◌, map, List, [], ◌∷◌, ◌++◌, length, drop, refl, sym, ap, ◌∙◌, subst, arith, false}
+use Rattle.std.proofs.lemmas.Bool.{false≢true}
 use Rattle.std.proofs.lemmas.List.{append-nil, map-append, same_from_push, length_push, length-drop}
 use Rattle.zk_records.specs.declared.profile.Profile.{Profile}
 use Rattle.zk_asks.specs.Held.{ClientFrame}
@@ -10,7 +11,7 @@ use Rattle.zk_answers.specs.declared.frame.ServerFrameOf.TheVariants.{Connected,
 use Rattle.zk_frames.specs.Framing.{frame, frames, IsCut}
 use Rattle.zk_frames.proofs.Cuts.{whole_frame}
 use Rattle.zk_waiting.specs.declared.lane.Lane.{Lane}
-use Rattle.zk_waiting.specs.declared.lane.Lane.TheVariants.{Ping, Auth, Watches, Plain}
+use Rattle.zk_waiting.specs.declared.lane.Lane.TheVariants.{Ping}
 use Rattle.zk_waiting.specs.Waiting.{count_of}
 use Rattle.zk_talk.specs.declared.message.Side.TheVariants.{Client, Server}
 use Rattle.zk_talk.specs.declared.message.MessageOf.TheVariants.{Client as FromClient, Server as FromServer}
@@ -33,16 +34,14 @@ use Rattle.zk_through.specs.Came.{Came, told}
 use Rattle.zk_through.specs.LeftOut.{has_turn}
 use Rattle.zk_through.specs.Turns.{TurnsState, left_out, waits_on, with_waits, and_turn, number_of_turns}
 use Rattle.zk_through.specs.Runs.{ThroughState, Runs, IsRequestOf}
-use Rattle.zk_through.proofs.Counts.{IsNoReply, not_both, reply_has_turn, count_kept, count_ask, count_reply, count_still, count_weighs}
+use Rattle.zk_through.proofs.Counts.{IsNoReply, reply_has_turn, count_kept, count_ask, count_reply, count_still, count_weighs}
 use Rattle.zk_through.proofs.Telling.{bytes_more}
 use Rattle.zk_through.proofs.Fitting.{its_good, begins, server_begins, has_begun, some_weight}
 
 -- ---- How many wait, with one lane changed
 turns_with : (l : Lane) (f : List Turn → List Turn) (t : TurnsState) → number_of_turns (with_waits l f t) + length (waits_on l t) ≡ number_of_turns t + length (f (waits_on l t))
 turns_with Ping f t = omega arith
-turns_with Auth f t = omega arith
-turns_with Watches f t = omega arith
-turns_with Plain f t = omega arith
+turns_with _ f t = omega arith
 
 pub with_one : (l : Lane) (turn : Turn) (t : TurnsState) → number_of_turns (with_waits l (and_turn t.room turn) t) ≤ number_of_turns t + 1
 with_one l turn t =
@@ -54,9 +53,7 @@ without_one l t some = omega (arith, some, turns_with l (drop 1) t, length-drop 
 
 in_lane : (l : Lane) (t : TurnsState) → length (waits_on l t) ≤ number_of_turns t
 in_lane Ping t = omega arith
-in_lane Auth t = omega arith
-in_lane Watches t = omega arith
-in_lane Plain t = omega arith
+in_lane _ t = omega arith
 
 -- ---- Those of the talk
 -- the payload of the frame that a side has more, where its bytes are those of a frame more
@@ -184,7 +181,7 @@ module _ (t : ThroughState) (h : History) (c k : Came) (M : List Message) (r : R
             no_reply (Connected hello read_only) S e may payload = tt
             no_reply (Event zxid event) S e may payload = tt
             no_reply (Answered reply) [] e may payload = absurd may
-            no_reply (Answered reply) (first ∷ S) e may payload = not_both (has_turn 16 q) (reply_has_turn reply q may.0 payload) (other (begun first S e))
+            no_reply (Answered reply) (first ∷ S) e may payload = false≢true (sym (other (begun first S e)) ∙ reply_has_turn reply q may.0 payload)
 
         -- and the load is less by what is answered
         pub load_server : (v : Conversation) → Good t.talk.limits (told k ++ on Server (frame q)) v [] [] → load v.client v.server ≤ load r.stands.conversation.client r.stands.conversation.server

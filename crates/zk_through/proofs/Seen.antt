@@ -90,13 +90,13 @@ one_seen true all a b x y = one_after [] all a b x y
 -- ---- How many came
 module _ (t : ThroughState) (h : History) (c k : Came) (M : List Message) (r : Runs t h c k M) where
   pub client_counts : t.client.count ≡ length (payloads Client c)
-  client_counts = r.client_count ∙ ap length (sym (seen_client t.late r.all c r.seen))
+  client_counts = r.counts Client ∙ ap length (sym (seen_client t.late r.all c r.seen))
 
   pub none_counts : payloads Server c ≡ [] → t.server.count ≡ 0
-  none_counts none = r.server_count ∙ ap length (none_seen t.late r.all c r.seen none)
+  none_counts none = r.counts Server ∙ ap length (none_seen t.late r.all c r.seen none)
 
   pub counts_none : t.server.count ≡ 0 → payloads Server c ≡ []
-  counts_none nothing = none_came t.late r.all c r.seen (nil_from_length (payloads Server r.all) (omega (arith, nothing, r.server_count)))
+  counts_none nothing = none_came t.late r.all c r.seen (nil_from_length (payloads Server r.all) (omega (arith, nothing, r.counts Server)))
 
   pub server_some : 0 < t.server.count → payloads Server c ≢ []
   server_some some none = omega (arith, some, none_counts none)

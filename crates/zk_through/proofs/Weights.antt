@@ -67,13 +67,8 @@ none_weighs profile s payload is none = record {
   only = λ begun p n at q. absurd (none q.0 q.1 q.3 q.2 (frame_once payload p (sym is ∙ at) ∙ sym q.4 ∙ payload_of q.0));
 }
 
-ok_value : {X E : Type 0} → X → Result X E → X
-ok_value d (Ok x) = x
-ok_value d (Err e) = d
-
 pub same_ok : {X E : Type 0} (a b : X) (r : Result X E) → r ≡ Ok a → r ≡ Ok b → a ≡ b
-unfolding ok_value
-same_ok a b r e f = ap (ok_value a) (sym e ∙ f)
+same_ok a b r e f = cc
 
 pub not_ok : {X E : Type 0} (a : X) (b : E) (r : Result X E) → r ≡ Err b → r ≡ Ok a → ⊥
 not_ok a b r e f = cc

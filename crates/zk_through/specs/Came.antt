@@ -5,6 +5,7 @@ use Rattle.zk_frames.specs.Framing.{frame, IsCut}
 use Rattle.zk_talk.specs.declared.message.Side.{Side}
 use Rattle.zk_talk.specs.declared.message.Side.TheVariants.{Client, Server}
 use Rattle.zk_talk.specs.declared.limits.Limits.{Limits}
+use Rattle.zk_talk.specs.Fault.{side_limit}
 use Rattle.zk_talk.specs.History.{History, side_bytes, on}
 
 -- payloads of frames, each with the side that sent it
@@ -21,16 +22,18 @@ payload_on Server Client p = []
 unfoldable pub payloads : Side → Came → List (List ℕ)
 payloads side came = flat_map (λ (x : Side × List ℕ). payload_on side x.0 x.1) came
 
--- the history's bytes are these frames, and then a beginning on each side
-pub record AreCut (limits : Limits) (h : History) (came : Came) (client_rest server_rest : List ℕ) : Type 0 where
-  pub client : IsCut limits.client (side_bytes Client h) (payloads Client came) client_rest
-  pub server : IsCut limits.server (side_bytes Server h) (payloads Server came) server_rest
+-- of the history's bytes the side's are these frames, and then this beginning
+abbrev pub IsCutOn : Limits → History → Came → Side → List ℕ → Type 0
+IsCutOn limits h came side rest = IsCut (side_limit limits side) (side_bytes side h) (payloads side came) rest
 
--- and in this order: those that are whole in a front of the history come first
-pub record AreFrames (limits : Limits) (h : History) (came : Came) (client_rest server_rest : List ℕ) : Type 0 where
-  pub cut : AreCut limits h came client_rest server_rest
-  pub fronts : (front rest : History) → h ≡ front ++ rest →
-      (first more : Came) × (came ≡ first ++ more) × (c : List ℕ) × (s : List ℕ) × AreCut limits front first c s
+-- the first of these frames are the history's, and then there is a beginning on each side
+abbrev pub HasFirst : Limits → Came → History → Type 0
+HasFirst limits came h = (first more : Came) × (came ≡ first ++ more) × ((side : Side) → (rest : List ℕ) × IsCutOn limits h first side rest)
+
+-- each side is cut so, and in this order: the frames that are whole in a front of the history come first
+pub record AreFrames (limits : Limits) (h : History) (came : Came) (rest : Side → List ℕ) : Type 0 where
+  pub cut : (side : Side) → IsCutOn limits h came side (rest side)
+  pub fronts : (front back : History) → h ≡ front ++ back → HasFirst limits came front
 
 -- the history of these frames, one after another
 abbrev pub told : Came → History

@@ -23,6 +23,7 @@ use Rattle.zk_talk.specs.Stands.{TalkState, Stands, Refuses}
 use Rattle.zk_talk.specs.Streams.{StreamState}
 use Rattle.zk_talk.specs.Viewed.{Shows, Leaves}
 use Rattle.zk_waiting.specs.Waiting.{count_of}
+use Rattle.zk_through.specs.declared.turn.Turn.{Turn}
 use Rattle.zk_through.specs.declared.through.Went.{Went}
 use Rattle.zk_through.specs.declared.through.Went.TheVariants as went
 use Rattle.zk_through.specs.Came.{Came, payloads, AreFrames, told}
@@ -42,24 +43,41 @@ pub record ThroughState : Type 0 where
   pub answered : Option ℕ
   pub fault : Option Fault
 
+-- the side's own of the client's and the server's
+abbrev pub of_side : {X : Type 0} → Side → X → X → X
+of_side Client client server = client
+of_side Server client server = server
+
+-- what is held and kept of the side's frames
+abbrev pub stream_on : Side → ThroughState → StreamState
+stream_on side t = of_side side t.client t.server
+
+-- the history's bytes are these frames, as the sides count them, and then what they hold
+pub record AreStreams (limits : Limits) (client server : StreamState) (h : History) (all : Came) : Type 0 where
+  pub frames : AreFrames limits h all (λ side. (of_side side client server).held)
+  pub counts : (side : Side) → (of_side side client server).count ≡ length (payloads side all)
+  pub sizes : (side : Side) → (of_side side client server).size ≡ length (side_bytes side h)
+
+-- of the frames that were seen the talk was given `given`, of which the messages are; and these requests wait
+pub record IsGiven (talk : TalkState) (turns : TurnsState) (newest : Option ℕ) (came given : Came) (messages : List Message) : Type 0 where
+  pub kept : Kept talk.limits.profile came given
+  pub stands : Stands talk (told given) messages
+  pub alone : (talk.client_held ≡ []) × (talk.server_held ≡ [])
+  pub lanes : AreLanes talk.limits.profile came turns
+  pub few : number_of_turns turns ≤ count_of talk.waiting + left_out turns
+  pub answered : NewestAnswers came newest
+  pub room : (v : Conversation) → Good talk.limits (told given) v [] [] → load v.client v.server + left_out turns ≤ talk.limits.waiting
+
 -- Of the history's frames `came` were seen: all, but for replies to requests that weren't, where it is seen late. The talk was
 -- given `given` of them, of which the messages are.
 pub record Runs (t : ThroughState) (h : History) (came given : Came) (messages : List Message) : Type 0 where
   pub all : Came
-  pub frames : AreFrames t.talk.limits h all t.client.held t.server.held
+  pub streams : AreStreams t.talk.limits t.client t.server h all
+  pub open streams use *
   pub seen : Seen t.late all came
-  pub kept : Kept t.talk.limits.profile came given
-  pub stands : Stands t.talk (told given) messages
-  pub alone : (t.talk.client_held ≡ []) × (t.talk.server_held ≡ [])
-  pub lanes : AreLanes t.talk.limits.profile came t.turns
-  pub few : number_of_turns t.turns ≤ count_of t.talk.waiting + left_out t.turns
   pub matched : t.late ≡ true → TellsMatched t.matched came
-  pub answered : NewestAnswers came t.answered
-  pub room : (v : Conversation) → Good t.talk.limits (told given) v [] [] → load v.client v.server + left_out t.turns ≤ t.talk.limits.waiting
-  pub client_count : t.client.count ≡ length (payloads Client all)
-  pub server_count : t.server.count ≡ length (payloads Server all)
-  pub client_size : t.client.size ≡ length (side_bytes Client h)
-  pub server_size : t.server.size ≡ length (side_bytes Server h)
+  pub gives : IsGiven t.talk t.turns t.answered came given messages
+  pub open gives use *
   pub no_fault : t.fault ≡ None
 
 -- this holds of the conversation that the talk was given
@@ -85,11 +103,6 @@ abbrev pub PassesOver : ThroughState → List ℕ → List ℕ → ThroughState 
 PassesOver old used q new = (old.late ≡ true) ×
     ((h : History) (c k : Came) (M : List Message) (r : Runs old h c k M) → IsUnseen c (Server, q) ×
     (s : Runs new (h ++ on Server used) c k M) × (s.all ≡ r.all ++ (Server, q) ∷ []))
-
--- what is held and kept of the side's frames
-abbrev pub stream_on : Side → ThroughState → StreamState
-stream_on Client t = t.client
-stream_on Server t = t.server
 
 -- the frame that was left out or passed over last on the side, until the side's next call
 abbrev pub left_on : Side → ThroughState → List ℕ
@@ -219,6 +232,16 @@ IsHeader s head = (q : List ℕ) → s.held ≡ frame q → head ≡ (xid_of q, 
 -- it is no such frame
 abbrev pub IsNotAhead : ℕ → StreamState → Type 0
 IsNotAhead size s = (0 < s.count) → (p : List ℕ) → s.held ≡ frame p → has_turn size p ≡ false
+
+-- the request of the client's whole frame, if that is a later one with such a header
+abbrev pub TellsRequest : StreamState → Option Turn → Type 0
+TellsRequest s (Some turn) = IsAhead 8 s (λ p. turn ≡ turn_of (s.count, p))
+TellsRequest s None = IsNotAhead 8 s
+
+-- and the xid of the server's
+abbrev pub TellsReply : StreamState → Option ℤ → Type 0
+TellsReply s (Some xid) = IsAhead 16 s (λ q. xid ≡ xid_of q)
+TellsReply s None = IsNotAhead 16 s
 
 -- the fault is kept, at the side's own frame and offset, and the side is as it was
 abbrev pub IsKeptAt : Side → StreamState → ℕ → Fault → Option Fault → Type 0

@@ -4,7 +4,7 @@ ghost use Rattle.zk_frames.specs.Framing.{IsFrame};
 ghost use Rattle.zk_through.specs.declared.turn.Turn.{Turn};
 ghost use Rattle.zk_through.specs.LeftOut.{is_turn_xid, has_turn, xid_of, zxid_of, err_of};
 ghost use Rattle.zk_through.specs.Turns.{turn_of, IsLacked};
-ghost use Rattle.zk_through.specs.Runs.{IsAhead, IsNotAhead, IsWeighed};
+ghost use Rattle.zk_through.specs.Runs.{TellsRequest, TellsReply, IsWeighed};
 
 use crate::turn::{Turn, is_lacked};
 use zk_asks::{Asked, ClientFrameOf, RequestRef, borrow_ask};
@@ -76,8 +76,7 @@ pub fn header(payload: &[u8]) -> Option<(i32, i64, i32)>
 /// The request of the client's whole frame, if that is a later one, its header is whole and has such an xid.
 pub fn asked(client: &Stream) -> Option<Turn>
     requires { IsFrame client.now.limit client.now.held }
-    ensures some { IfSome result (λ turn. IsAhead 8 client.now (λ p. turn ≡ turn_of (client.now.count, p))) }
-    ensures none { IfNone result (IsNotAhead 8 client.now) }
+    ensures { TellsRequest client.now result }
 {
     let frame = client.count();
     if frame == 0 {
@@ -89,8 +88,7 @@ pub fn asked(client: &Stream) -> Option<Turn>
 /// The xid of the server's whole frame, if that is a later one, its header is whole and has such an xid.
 pub fn replied(server: &Stream) -> Option<i32>
     requires { IsFrame server.now.limit server.now.held }
-    ensures some { IfSome result (λ xid. IsAhead 16 server.now (λ p. xid ≡ xid_of p)) }
-    ensures none { IfNone result (IsNotAhead 16 server.now) }
+    ensures { TellsReply server.now result }
 {
     if server.count() == 0 {
         return None;

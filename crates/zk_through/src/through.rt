@@ -287,7 +287,7 @@ impl Through {
     ///
     /// Why the frame is refused, at the side's own frame and offset, those left out counted; never `QueueFull`. It is
     /// kept, and each later call returns it and uses nothing.
-    #[tactic(auto, using(crate::proofs::Given::went_then, crate::proofs::Given::leaves_then, crate::proofs::Given::waits_then))]
+    #[tactic(auto, using(crate::proofs::Given::leaves_then, crate::proofs::Given::waits_then))]
     #[inline(always)]
     pub fn step(&mut self, side: Side, piece: &[u8]) -> Result<Passed, Fault>
         ensures limits { self.new.talk.limits ≡ self.old.talk.limits }

@@ -1,39 +1,29 @@
 //! Whether a reply is to a request that wasn't seen, of a connection that is seen late.
-ghost use Rattle.std.specs.Prelude.{◌≡◌, true, IfSome, IfNone};
+ghost use Rattle.std.specs.Prelude.{◌≡◌, true, IfSome, IfNone, MatchBool};
 ghost use Rattle.zk_frames.specs.Framing.{IsFrame};
-ghost use Rattle.zk_through.specs.LeftOut.{xid_of};
 ghost use Rattle.zk_through.specs.Turns.{IsEarlier, matched_after};
-ghost use Rattle.zk_through.specs.Runs.{IsAhead, IsHeader};
+ghost use Rattle.zk_through.specs.Runs.{TellsReply, IsHeader};
 
 use crate::ahead::header;
 use crate::turns::{Turns, has_matched};
 use zk_talk::Stream;
 
-/// The xid, the zxid and the err of the server's whole frame, if that is a reply to a request that wasn't seen. If it
-/// isn't, it counts for `matched`.
+/// Whether the reply with this xid is to a request that wasn't seen. If it isn't, it counts for `matched`.
 #[cold]
 #[inline(never)]
-fn unseen_late(
-    matched: &mut bool,
-    turns: &Turns,
-    server: &Stream,
-    ahead: Option<i32>,
-) -> Option<(i32, i64, i32)>
-    requires whole { IsFrame server.now.limit server.now.held }
-    requires ahead { IfSome ahead (λ xid. IsAhead 16 server.now (λ q. xid ≡ xid_of q)) }
-    ensures some { IfSome result (λ head. IsEarlier matched.old turns.now ahead × IsHeader server.now head) }
-    ensures none { IfNone result (IsEarlier matched.old turns.now ahead → ⊥) }
-    ensures same { IsEarlier matched.old turns.now ahead → matched.new ≡ matched.old }
-    ensures counts { (IsEarlier matched.old turns.now ahead → ⊥) → matched.new ≡ matched_after ahead matched.old }
+fn is_unseen(matched: &mut bool, turns: &Turns, ahead: Option<i32>) -> bool
+    ensures earlier { MatchBool result (IsEarlier matched.old turns.now ahead) (IsEarlier matched.old turns.now ahead → ⊥) }
+    ensures now { MatchBool result (matched.new ≡ matched.old) (matched.new ≡ matched_after ahead matched.old) }
 {
-    if !turns.is_earlier(ahead, *matched) {
-        *matched = has_matched(ahead, *matched);
-        return None;
+    if turns.is_earlier(ahead, *matched) {
+        return true;
     }
-    header(server.payload())
+    *matched = has_matched(ahead, *matched);
+    false
 }
 
-/// The same, of a connection that is seen `late`; nothing of another.
+/// The xid, the zxid and the err of the server's whole frame, if that is such a reply, of a connection that is seen
+/// `late`; nothing of another.
 #[inline(always)]
 pub fn unseen(
     late: bool,
@@ -43,7 +33,7 @@ pub fn unseen(
     ahead: Option<i32>,
 ) -> Option<(i32, i64, i32)>
     requires whole { IsFrame server.now.limit server.now.held }
-    requires ahead { IfSome ahead (λ xid. IsAhead 16 server.now (λ q. xid ≡ xid_of q)) }
+    requires ahead { TellsReply server.now ahead }
     ensures late { IfSome result (λ head. late ≡ true) }
     ensures some { IfSome result (λ head. IsEarlier matched.old turns.now ahead × IsHeader server.now head) }
     ensures none { IfNone result (late ≡ true → IsEarlier matched.old turns.now ahead → ⊥) }
@@ -53,5 +43,8 @@ pub fn unseen(
     if !late {
         return None;
     }
-    unseen_late(matched, turns, server, ahead)
+    if !is_unseen(matched, turns, ahead) {
+        return None;
+    }
+    header(server.payload())
 }

@@ -1,7 +1,7 @@
 use Rattle.std.proofs.Common.{◌≡◌, ◌∙◌, Some, sym, ap}
 use Rattle.zk_talk.specs.declared.message.Side.TheVariants.{Client, Server}
 use Rattle.zk_through.specs.Runs.{ThroughState, given_up}
-use Rattle.zk_through.proofs.Given.{given_itself, given_waits, fault_stays, kept_refused, refused_then, room_then}
+use Rattle.zk_through.proofs.Given.{given_itself, given_waits, fault_stays, kept_refused, went_then, refused_then, room_then}
 use Rattle.zk_through.proofs.Never.{never_full}
 use Rattle.zk_through.proofs.through.Through.step.Goals as goal
 
@@ -15,11 +15,17 @@ returns-in-Some-clause-err c =
 pub returns-in-Some-clause-other : goal.returns-in-Some-clause-other
 returns-in-Some-clause-other c = rw c.give_up.ensures (given_itself c.args.side c.args.self.now)
 
+pub returns-in-Client-clause-ok : goal.returns-in-Client-clause-ok
+returns-in-Client-clause-ok c = went_then c.args.side Client c.in-Client.is c.args.self.now c.give_up.new.self c.client_step.new.self c.give_up.ensures c.args.piece.now c.client_step.result c.client_step.ensures.ok
+
 pub returns-in-Client-clause-err : goal.returns-in-Client-clause-err
 returns-in-Client-clause-err c = refused_then c.args.side Client c.in-Client.is c.args.self.now c.give_up.new.self c.client_step.new.self c.give_up.ensures c.args.piece.now c.client_step.result c.client_step.ensures.err
 
 pub returns-in-Client-clause-room : goal.returns-in-Client-clause-room
 returns-in-Client-clause-room c = room_then c.args.side Client c.in-Client.is c.args.self.now c.give_up.new.self c.client_step.new.self c.give_up.ensures c.args.piece.now c.client_step.result c.client_step.ensures.err
+
+pub returns-in-Server-clause-ok : goal.returns-in-Server-clause-ok
+returns-in-Server-clause-ok c = went_then c.args.side Server c.in-Server.is c.args.self.now c.give_up.new.self c.server_step.new.self c.give_up.ensures c.args.piece.now c.server_step.result c.server_step.ensures.ok
 
 pub returns-in-Server-clause-err : goal.returns-in-Server-clause-err
 returns-in-Server-clause-err c = refused_then c.args.side Server c.in-Server.is c.args.self.now c.give_up.new.self c.server_step.new.self c.give_up.ensures c.args.piece.now c.server_step.result c.server_step.ensures.err

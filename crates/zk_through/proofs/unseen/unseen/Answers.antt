@@ -3,7 +3,7 @@ use Rattle.std.proofs.lemmas.Option.{IfSome_then}
 use Rattle.zk_through.specs.LeftOut.{xid_of, zxid_of, err_of}
 use Rattle.zk_through.specs.Turns.{IsEarlier}
 use Rattle.zk_talk.proofs.Bodies.{frame_once}
-use Rattle.zk_through.proofs.unseen.unseen_late.Goals as goal
+use Rattle.zk_through.proofs.unseen.unseen.Goals as goal
 
 pub returns-clause-some : goal.returns-clause-some
 returns-clause-some c =
