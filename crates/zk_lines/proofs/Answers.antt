@@ -34,8 +34,8 @@ use Rattle.zk_lines.proofs.Named.{IsNames, IsFound, IsRead, named_is, names_of, 
 use Rattle.zk_lines.proofs.LawsPrinted.{Printed}
 use Rattle.zk_lines.proofs.Held.{int_fits}
 use Rattle.zk_lines.proofs.Shown.{error_shown}
-use Rattle.zk_lines.proofs.Rows.{IsItem, IsRow, IsRowOf, IsTable, ◌with◌, field_of, row_of_fields, row_of_record, row_of_series, nothing_is, table_is, table_opens, table_again, table_sound, table_held, table_shown, named_shown}
-use Rattle.zk_lines.proofs.Items.{int_item, long_item, ro_item, blob_item, event_code_item, path_field, blob_field, acl_field, version_field, zxid_field, stat_field, names_field}
+use Rattle.zk_lines.proofs.Rows.{IsItem, IsRow, IsRowOf, IsTable, ◌with◌, field_of, row_of_fields, row_of_record, nothing_is, table_opens, table_again, table_sound, table_held, table_series, table_shown}
+use Rattle.zk_lines.proofs.Items.{int_item, long_item, ro_item, blob_item, texts_item, acls_item, event_code_item, path_field, version_field, stat_field}
 use Rattle.zk_lines.proofs.Asks.{op_names}
 
 -- ---- records
@@ -54,7 +54,7 @@ connected_is =
     row_of_record _ _ (version_field with field_of words.Timeout int_item with field_of words.Session long_item with field_of words.Passwd blob_item with field_of words.ReadOnly ro_item) _ _ (λ _. refl) (λ _. refl)
 
 pub event_is : IsRow answers.event (λ p. wired.long.items p.0 ++ records.watcher_event.items p.1)
-event_is = row_of_record _ _ (zxid_field with field_of words.Kind event_code_item with field_of words.State int_item with path_field) _ _ (λ _. refl) (λ _. refl)
+event_is = row_of_record _ _ (field_of words.Zxid long_item with field_of words.Kind event_code_item with field_of words.State int_item with path_field) _ _ (λ _. refl) (λ _. refl)
 
 path_row : IsRow (field words.Path text) wired.ustring.items
 path_row = row_of_fields path_field
@@ -63,22 +63,22 @@ stat_row : IsRow (field words.Stat stat) records.stat.items
 stat_row = row_of_fields stat_field
 
 names_row : IsRow (field words.Names (list_of text)) (wired.vector wired.ustring).items
-names_row = row_of_fields names_field
+names_row = row_of_fields (field_of words.Names texts_item)
 
 failed_row : IsRow (field words.Err error_code) wired.int.items
 failed_row = row_of_fields (field_of words.Err error_is)
 
 content_is : IsRow answers.content records.data_body.items
-content_is = row_of_record _ _ (blob_field with stat_field) _ _ (λ _. refl) (λ _. refl)
+content_is = row_of_record _ _ (field_of words.Blob blob_item with stat_field) _ _ (λ _. refl) (λ _. refl)
 
 acls_is : IsRow answers.acls records.acl_body.items
-acls_is = row_of_record _ _ (acl_field with stat_field) _ _ (λ _. refl) (λ _. refl)
+acls_is = row_of_record _ _ (field_of words.Acl acls_item with stat_field) _ _ (λ _. refl) (λ _. refl)
 
 created_is : IsRow answers.created records.create_body.items
 created_is = row_of_record _ _ (path_field with stat_field) _ _ (λ _. refl) (λ _. refl)
 
 children_is : IsRow answers.children records.children_body.items
-children_is = row_of_record _ _ (names_field with stat_field) _ _ (λ _. refl) (λ _. refl)
+children_is = row_of_record _ _ (field_of words.Names texts_item with stat_field) _ _ (λ _. refl) (λ _. refl)
 
 -- ---- results of a multi
 
@@ -101,24 +101,13 @@ done_rows names.Fail = (failed_row, λ x. (refl, refl))
 done_table : IsTable answers.done_line_of answers.done_written answers.name_of_done result_of
 done_table = record { each = answers.by_done; rows = done_rows }
 
-done_is : Lawful answers.done_form
-done_is = table_is done_table done_names
-
-done_begins : (x : PartDone) (rest : List ℕ) → answers.done_form.fits x → word_at (125 ∷ []) (answers.done_form.spell x ++ rest) ≡ None
-unfolding word_at
-done_begins (done.Created p) rest fit = refl
-done_begins _ rest fit = refl
-
 -- behind the header
 result_has : (d : PartDone) → HaveBytes (done_items d) → HaveBytes (result_of d)
 result_has (done.Created p) h = h.1.1.1
 result_has _ h = h.1.1.1
 
-done_held : (d : PartDone) → HaveBytes (done_items d) → answers.done_form.fits d
-done_held d h = table_held done_table d (result_has d h)
-
 multi_is : IsRow answers.multi multi_items
-multi_is = row_of_series done_items (marked end_header) done_is done_begins done_held (named_shown done_table done_names)
+multi_is = table_series done_table done_names done_items (marked end_header) result_has
 
 -- ---- replies
 

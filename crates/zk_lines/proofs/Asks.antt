@@ -1,5 +1,5 @@
 -- The lines of what a client sends have the laws of lines.
-use Rattle.std.proofs.Common.{◌≡◌, ℕ, List, [], ◌∷◌, ◌++◌, Some, None, refl}
+use Rattle.std.proofs.Common.{◌++◌, refl}
 use Rattle.zk_jute.specs.Flagged.{flag_items}
 use Rattle.zk_jute.specs.Item.{HaveBytes}
 use Rattle.zk_records.specs.Records as records
@@ -8,11 +8,9 @@ use Rattle.zk_records.specs.declared.op.Op.TheVariants as ops
 use Rattle.zk_records.specs.declared.op.PartOp.{PartOp}
 use Rattle.zk_records.specs.declared.op.PartOp.TheVariants as parts
 use Rattle.zk_records.specs.Codes.{op_name, all_ops, part_name, all_parts}
-use Rattle.zk_asks.specs.Held.{Part, Ask}
-use Rattle.zk_asks.specs.declared.frame.PartOf.TheVariants as part
+use Rattle.zk_asks.specs.Held.{Ask}
 use Rattle.zk_asks.specs.Parts.{op_of_part, record_of, part_items, part_header, end_header, marked, multi_items}
 use Rattle.zk_asks.specs.Rows.{op_of_ask, body_items}
-use Rattle.zk_items.specs.Form.{word_at}
 use Rattle.zk_items.specs.Leaf.{int}
 use Rattle.zk_lines.specs.Words.{field}
 use Rattle.zk_lines.specs.declared.word.Word.TheVariants as words
@@ -21,22 +19,21 @@ use Rattle.zk_items.proofs.Forms.{IsField, and_is}
 use Rattle.zk_items.proofs.Numbers.{int_is}
 use Rattle.zk_lines.proofs.Words.{field_is}
 use Rattle.zk_lines.specs.Asks as asks
-use Rattle.zk_lines.specs.Rows.{row_at}
 use Rattle.zk_lines.proofs.Named.{IsNames, IsFound, names_of}
 use Rattle.zk_lines.proofs.Held.{parted}
 use Rattle.zk_lines.proofs.Shown.{Shown}
-use Rattle.zk_lines.proofs.Rows.{IsRow, IsRowOf, IsTable, ◌with◌, field_of, row_of_record, row_of_series, nothing_is, table_is, table_held, table_sound, named_shown}
-use Rattle.zk_lines.proofs.Items.{int_item, long_item, bit_item, ro_item, text_item, blob_item, texts_item, path_field, blob_field, acl_field, version_field, zxid_field}
+use Rattle.zk_lines.proofs.Rows.{IsRow, IsRowOf, IsTable, ◌with◌, field_of, row_of_record, nothing_is, table_is, table_held, table_series, named_shown}
+use Rattle.zk_lines.proofs.Items.{int_item, long_item, bit_item, ro_item, text_item, blob_item, texts_item, acls_item, path_field, version_field}
 
 -- ---- records
 
 pub connect_is : IsRow asks.connect (λ p. records.connect_request.items p.0 ++ flag_items p.1)
 connect_is =
-    row_of_record _ _ (version_field with zxid_field with field_of words.Timeout int_item with field_of words.Session long_item with field_of words.Passwd blob_item with field_of words.ReadOnly ro_item) _ _
+    row_of_record _ _ (version_field with field_of words.Zxid long_item with field_of words.Timeout int_item with field_of words.Session long_item with field_of words.Passwd blob_item with field_of words.ReadOnly ro_item) _ _
     (λ _. refl) (λ _. refl)
 
 create_is : IsRow asks.create records.create_ask.items
-create_is = row_of_record _ _ (path_field with blob_field with acl_field with field_of words.Flags int_item) _ _ (λ _. refl) (λ _. refl)
+create_is = row_of_record _ _ (path_field with field_of words.Blob blob_item with field_of words.Acl acls_item with field_of words.Flags int_item) _ _ (λ _. refl) (λ _. refl)
 
 delete_is : IsRow asks.delete records.delete_ask.items
 delete_is = row_of_record _ _ (path_field with version_field) _ _ (λ _. refl) (λ _. refl)
@@ -45,20 +42,20 @@ watch_is : IsRow asks.watch records.watch_ask.items
 watch_is = row_of_record _ _ (path_field with field_of words.Watch bit_item) _ _ (λ _. refl) (λ _. refl)
 
 set_data_is : IsRow asks.set_data records.set_data_ask.items
-set_data_is = row_of_record _ _ (path_field with blob_field with version_field) _ _ (λ _. refl) (λ _. refl)
+set_data_is = row_of_record _ _ (path_field with field_of words.Blob blob_item with version_field) _ _ (λ _. refl) (λ _. refl)
 
 path_is : IsRow asks.path records.path_ask.items
 path_is = row_of_record _ _ path_field _ _ (λ _. refl) (λ _. refl)
 
 set_acl_is : IsRow asks.set_acl records.set_acl_ask.items
-set_acl_is = row_of_record _ _ (path_field with acl_field with version_field) _ _ (λ _. refl) (λ _. refl)
+set_acl_is = row_of_record _ _ (path_field with field_of words.Acl acls_item with version_field) _ _ (λ _. refl) (λ _. refl)
 
 auth_is : IsRow asks.auth records.auth_ask.items
 auth_is = row_of_record _ _ (field_of words.Kind int_item with field_of words.Scheme text_item with field_of words.Auth blob_item) _ _ (λ _. refl) (λ _. refl)
 
 set_watches_is : IsRow asks.set_watches records.set_watches_ask.items
 set_watches_is =
-    row_of_record _ _ (zxid_field with field_of words.DataWatches texts_item with field_of words.ExistWatches texts_item with field_of words.ChildWatches texts_item) _ _ (λ _. refl) (λ _. refl)
+    row_of_record _ _ (field_of words.Zxid long_item with field_of words.DataWatches texts_item with field_of words.ExistWatches texts_item with field_of words.ChildWatches texts_item) _ _ (λ _. refl) (λ _. refl)
 
 check_is : IsRow asks.check records.check_ask.items
 check_is = row_of_record _ _ (path_field with version_field) _ _ (λ _. refl) (λ _. refl)
@@ -80,26 +77,11 @@ part_rows parts.Delete = (delete_is, λ x. (refl, refl))
 part_rows parts.SetData = (set_data_is, λ x. (refl, refl))
 part_rows parts.Check = (check_is, λ x. (refl, refl))
 
-part_table : IsTable asks.part_line_of asks.part_written op_of_part record_of
+pub part_table : IsTable asks.part_line_of asks.part_written op_of_part record_of
 part_table = record { each = asks.by_part; rows = part_rows }
 
--- what is read of a row is of its operation
-pub part_op : (op : PartOp) (bytes rest : List ℕ) (p : Part) → row_at (asks.part_line_of op) bytes ≡ Some (p, rest) → op_of_part p ≡ op
-part_op op bytes rest p e = (table_sound part_table op bytes p rest e).0
-
-part_is : Lawful asks.part_form
-part_is = table_is part_table part_names
-
-part_begins : (x : Part) (rest : List ℕ) → asks.part_form.fits x → word_at (125 ∷ []) (asks.part_form.spell x ++ rest) ≡ None
-unfolding word_at
-part_begins (part.Create a) rest fit = refl
-part_begins _ rest fit = refl
-
-part_held : (p : Part) → HaveBytes (part_items p) → asks.part_form.fits p
-part_held p h = table_held part_table p (parted (marked (part_header (op_of_part p))) (record_of p) h).1
-
 multi_is : IsRow asks.multi multi_items
-multi_is = row_of_series part_items (marked end_header) part_is part_begins part_held (named_shown part_table part_names)
+multi_is = table_series part_table part_names part_items (marked end_header) (λ p h. (parted (marked (part_header (op_of_part p))) (record_of p) h).1)
 
 -- ---- requests
 
@@ -118,14 +100,8 @@ ask_rows : (k : Op) → IsRowOf asks.line_of asks.ask_written op_of_ask body_ite
 ask_rows ops.Create = (create_is, λ x. (refl, refl))
 ask_rows _ = (search ask_records, λ x. (refl, refl))
 
-ask_table : IsTable asks.line_of asks.ask_written op_of_ask body_items
+pub ask_table : IsTable asks.line_of asks.ask_written op_of_ask body_items
 ask_table = record { each = asks.by_line; rows = ask_rows }
-
-pub ask_op : (op : Op) (bytes rest : List ℕ) (a : Ask) → row_at (asks.line_of op) bytes ≡ Some (a, rest) → op_of_ask a ≡ op
-ask_op op bytes rest a e = (table_sound ask_table op bytes a rest e).0
-
-ask_is : Lawful asks.ask_form
-ask_is = table_is ask_table op_names
 
 pub ask_held : (a : Ask) → HaveBytes (body_items a) → asks.ask_form.fits a
 ask_held = table_held ask_table
@@ -134,7 +110,7 @@ pub ask_shown : Shown asks.ask_form
 ask_shown = named_shown ask_table op_names
 
 asked_is : IsField (field words.Blank asks.ask_form)
-asked_is = field_is words.Blank asks.ask_form ask_is
+asked_is = field_is words.Blank asks.ask_form (table_is ask_table op_names)
 
 pub request_is : Lawful asks.request
 request_is = and_is int int_is (field words.Blank asks.ask_form) asked_is.lawful asked_is.opens

@@ -18,14 +18,15 @@ use Rattle.zk_lines.specs.Rows.{row_at}
 use Rattle.zk_lines.specs.Words.{word_of}
 use Rattle.zk_lines.specs.declared.word.Word.TheVariants as words
 use Rattle.zk_lines.proofs.Appended.{◌then◌, read_alone, field_copied, retold, headed, named_copied}
-use Rattle.zk_lines.proofs.Asks.{part_op, ask_op}
+use Rattle.zk_lines.proofs.Asks.{part_table, ask_table}
+use Rattle.zk_lines.proofs.Rows.{table_sound}
 
 -- a part: its name, for which its header is appended, and its record
 pub part_copied : (line name mid rest old first new : List ℕ) (op : PartOp) → name ≡ take (prefix_len in_name line) line → mid ≡ drop (prefix_len in_name line) line → asks.part_named name ≡ Some op
     → HaveBytes (marked (part_header op)) → first ≡ old ++ bytes_of (marked (part_header op)) → Copied (row_at (asks.part_line_of op)) record_of mid rest first new → Copied asks.part_form.at part_items line rest old new
 part_copied line name mid rest old first new op n m key have head c =
     retold {line = line} part_items (named_copied {line = line} asks.part_named (λ k bytes. row_at (asks.part_line_of k) bytes) op n m key (headed (marked (part_header op)) have head c))
-    (ap (λ (k : PartOp). marked (part_header k) ++ record_of c.value) (part_op op mid rest c.value c.read))
+    (ap (λ (k : PartOp). marked (part_header k) ++ record_of c.value) (table_sound part_table op mid c.value rest c.read).0)
 
 -- the xid and the name of a request, for which its header is appended, and its record
 pub request_copied : (line behind ahead name mid rest old first second new : List ℕ) (xid kind : ℤ) (op : Op) → num_at 31 line ≡ Some (xid, behind) → word_at (word_of words.Blank) behind ≡ Some ahead
@@ -35,4 +36,4 @@ pub request_copied : (line behind ahead name mid rest old first second new : Lis
 request_copied line behind ahead name mid rest old first second new xid kind op number blank n m key is head next c =
     retold {line = line} (λ p. frame_items (client.Ask p.0 p.1))
     (read_alone {at = num_at 31} {line = line} old xid number then field_copied words.Blank blank (named_copied {line = ahead} asks.op_named (λ k bytes. row_at (asks.line_of k) bytes) op n m key (headed (AnInt xid ∷ []) head.0 head.1 (headed (AnInt kind ∷ []) next.0 next.1 c))))
-    (ap (λ (k : Op). header_items xid (op_number k) ++ body_items c.value) (ask_op op mid rest c.value c.read) ∙ ap (λ (k : ℤ). header_items xid k ++ body_items c.value) (sym is))
+    (ap (λ (k : Op). header_items xid (op_number k) ++ body_items c.value) (table_sound ask_table op mid c.value rest c.read).0 ∙ ap (λ (k : ℤ). header_items xid k ++ body_items c.value) (sym is))

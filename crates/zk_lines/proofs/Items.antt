@@ -82,20 +82,8 @@ stat_item =
 pub path_field : IsFields (field words.Path text) wired.ustring.items
 path_field = field_of words.Path text_item
 
-pub blob_field : IsFields (field words.Blob blob) wired.buffer.items
-blob_field = field_of words.Blob blob_item
-
-pub acl_field : IsFields (field words.Acl (list_of acl)) (wired.vector records.acl).items
-acl_field = field_of words.Acl acls_item
-
 pub version_field : IsFields (field words.Version int) wired.int.items
 version_field = field_of words.Version int_item
 
-pub zxid_field : IsFields (field words.Zxid long) wired.long.items
-zxid_field = field_of words.Zxid long_item
-
 pub stat_field : IsFields (field words.Stat stat) records.stat.items
 stat_field = field_of words.Stat stat_item
-
-pub names_field : IsFields (field words.Names (list_of text)) (wired.vector wired.ustring).items
-names_field = field_of words.Names texts_item

@@ -1,11 +1,11 @@
 -- Values that begin with a name are read as they are spelled.
-use Rattle.std.proofs.Common.{◌≡◌, ℕ, List, [], ◌∷◌, ◌++◌, take, drop, Option, Some, Bool, true, false, length, ◌&&◌, refl, ap, sym, ◌∙◌, append_assoc, cond, arith, bytes_eq}
+use Rattle.std.proofs.Common.{◌≡◌, ℕ, List, [], ◌∷◌, ◌++◌, take, drop, Option, Some, None, Bool, true, false, length, ◌==◌, ◌&&◌, refl, ap, sym, ◌∙◌, append_assoc, cond, arith, bytes_eq}
 use Rattle.std.specs.List.{prefix_len, AllByRecursion}
 use Rattle.std.proofs.lemmas.Bool.{and_parts}
 use Rattle.std.proofs.lemmas.List.{take-append-drop}
 use Rattle.std.proofs.lemmas.Slice.Eq.{bytes_eq-Decides}
 use Rattle.std.proofs.Math.Seq.{take-append_seam, drop-append_seam}
-use Rattle.zk_items.specs.Form.{Form, ◌>>=◌, read_map, stops, in_item}
+use Rattle.zk_items.specs.Form.{Form, ◌>>=◌, read_map, stops, in_item, word_at}
 use Rattle.zk_items.specs.Leaf.{in_name}
 use Rattle.zk_items.specs.Laws.{LawfulBefore}
 use Rattle.zk_items.proofs.Forms.{bind_some, some_is}
@@ -26,28 +26,50 @@ first_sound {K} name (x ∷ keys) bytes k e = pick (bytes_eq bytes (name x)) ref
   pick true is e others = let h : x ≡ k = cc in same bytes (name x) is ∙ ap name h
   pick false is e others = others e
 
--- each key has its name, of letters and digits, and no other key has it
+-- each key has its name, of letters and digits, which begins with no brace, and no other key has it
 pub record IsNames {K : Type 0} (name : K → List ℕ) (key_at : List ℕ → Option K) : Type 0 where
   pub found : (k : K) → key_at (name k) ≡ Some k
   pub tells : (bytes : List ℕ) (k : K) → key_at bytes ≡ Some k → bytes ≡ name k
   pub letters : (k : K) → AllByRecursion (λ c. in_name c ≡ true) (name k)
+  pub unbraced : (k : K) (rest : List ℕ) → word_at (125 ∷ []) (name k ++ rest) ≡ None
 
 abbrev are_letters : List ℕ → Bool
 are_letters [] = true
 are_letters (b ∷ bytes) = in_name b && are_letters bytes
+
+abbrev is_name : List ℕ → Bool
+is_name [] = false
+is_name (b ∷ bytes) = are_letters (b ∷ bytes)
 
 -- names that are written out
 lettered : (bytes : List ℕ) → are_letters bytes ≡ true → AllByRecursion (λ c. in_name c ≡ true) bytes
 lettered [] e = tt
 lettered (b ∷ bytes) e = let p = and_parts (in_name b) (are_letters bytes) e in (p.0, lettered bytes p.1)
 
+named_letters : (bytes : List ℕ) → is_name bytes ≡ true → AllByRecursion (λ c. in_name c ≡ true) bytes
+named_letters [] e = tt
+named_letters (b ∷ bytes) e = lettered (b ∷ bytes) e
+
+no_brace : (bytes rest : List ℕ) → is_name bytes ≡ true → word_at (125 ∷ []) (bytes ++ rest) ≡ None
+unfolding word_at
+no_brace [] rest e = absurd cc
+no_brace (b ∷ bytes) rest e =
+    let letter = (and_parts (in_name b) (are_letters bytes) e).0 in
+    let other : (125 == b) ≡ false = grind (arith, letter) in
+    ap (λ (t : Bool). cond t (Some (bytes ++ rest)) None) other
+
 -- a key that is found by its name, of letters and digits
 abbrev pub IsFound : {K : Type 0} → (K → List ℕ) → List K → K → Type 0
-IsFound name keys k = (first_named name keys (name k) ≡ Some k) × (are_letters (name k) ≡ true)
+IsFound name keys k = (first_named name keys (name k) ≡ Some k) × (is_name (name k) ≡ true)
 
 -- names that are listed
 pub names_of : {K : Type 0} (name : K → List ℕ) (keys : List K) → ((k : K) → IsFound name keys k) → IsNames name (first_named name keys)
-names_of name keys found = record { found = λ k. (found k).0; tells = first_sound name keys; letters = λ k. lettered (name k) (found k).1 }
+names_of name keys found = record {
+  found = λ k. (found k).0;
+  tells = first_sound name keys;
+  letters = λ k. named_letters (name k) (found k).1;
+  unbraced = λ k rest. no_brace (name k) rest (found k).1;
+}
 
 pub record IsNamed {K X : Type 0} (behind : List ℕ → Bool) (b : Bodies K X) : Type 0 where
   -- names

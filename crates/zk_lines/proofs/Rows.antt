@@ -1,15 +1,15 @@
 -- Tables with a row a key: each value has the laws of its row.
-use Rattle.std.proofs.Common.{◌≡◌, ℕ, List, ◌++◌, Option, Some, true, refl, ap, sym, subst, ◌∙◌}
+use Rattle.std.proofs.Common.{◌≡◌, ℕ, List, [], ◌∷◌, ◌++◌, Option, Some, None, true, refl, ap, sym, subst, ◌∙◌, append_assoc}
 use Rattle.std.specs.List.{flat_map}
 use Rattle.zk_jute.specs.Item.{Item, HaveBytes}
-use Rattle.zk_items.specs.Form.{Form, read_map, stops, fields}
+use Rattle.zk_items.specs.Form.{Form, read_map, stops, fields, word_at}
 use Rattle.zk_items.specs.Form as form
 use Rattle.zk_items.specs.Laws.{Lawful}
 use Rattle.zk_items.proofs.Forms.{IsField, and_is, and_opens, fields_is, some_is}
 use Rattle.zk_lines.specs.Words.{field, word_of}
 use Rattle.zk_lines.specs.declared.word.Word.{Word}
 use Rattle.zk_lines.specs.declared.word.Word.TheVariants as words
-use Rattle.zk_lines.specs.Series.{series}
+use Rattle.zk_lines.specs.Series.{multi_of, series}
 use Rattle.zk_lines.specs.Named.{named}
 use Rattle.zk_lines.specs.Rows.{Row, holds, nothing, Content, remake, form_of, row_at, Written, written, bodies_of}
 use Rattle.zk_lines.proofs.Words.{field_is}
@@ -69,7 +69,7 @@ row_of_record f items is out made same back = record {
 }
 
 -- the elements of a multi, between braces
-pub row_of_series : {X : Type 0} {f : Form X} (items : X → List Item) (last : List Item) → Lawful f → NeverBegins f 125 → ((x : X) → HaveBytes (items x) → f.fits x) → Shown f → IsRow (field words.Parts (series 59 125 f)) (λ xs. flat_map items xs ++ last)
+row_of_series : {X : Type 0} {f : Form X} (items : X → List Item) (last : List Item) → Lawful f → NeverBegins f 125 → ((x : X) → HaveBytes (items x) → f.fits x) → Shown f → IsRow (field words.Parts (series 59 125 f)) (λ xs. flat_map items xs ++ last)
 row_of_series {X} {f} items last is begins held printed = record {
   lawful = spelled.lawful;
   opens = λ xs rest stop. spelled.opens xs rest;
@@ -144,3 +144,10 @@ module _ {K Y : Type 0} {row : K → Row Y} {write : Y → Written} {key : Y →
 
   pub named_shown : {name : K → List ℕ} {key_at : List ℕ → Option K} → IsNames name key_at → Shown (named (bodies_of name key_at key row write))
   named_shown {name} names = record { shown = λ y fit. joined (name (key y)) (write y).spell (letters_printed (name (key y)) (names.letters (key y))) (table_shown y fit) }
+
+  -- the values of a multi, of whose items those of the row are some
+  pub table_series : {name : K → List ℕ} {key_at : List ℕ → Option K} → IsNames name key_at → (all : Y → List Item) (last : List Item) → ((y : Y) → HaveBytes (all y) → HaveBytes (items y))
+      → IsRow (multi_of (named (bodies_of name key_at key row write))) (λ ys. flat_map all ys ++ last)
+  table_series {name} names all last own = row_of_series all last (table_is names) begins (λ y h. table_held y (own y h)) (named_shown names) where
+    begins : (y : Y) (rest : List ℕ) → (write y).fits → word_at (125 ∷ []) ((name (key y) ++ (write y).spell) ++ rest) ≡ None
+    begins y rest fit = ap (word_at (125 ∷ [])) (append_assoc (name (key y)) (write y).spell rest) ∙ names.unbraced (key y) ((write y).spell ++ rest)

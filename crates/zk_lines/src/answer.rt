@@ -11,7 +11,7 @@ ghost use Rattle.zk_lines.specs.Rows.{only_written};
 
 use crate::body::read_body;
 use crate::item::{Item, read_field, read_fields};
-use crate::name::op_named;
+use crate::name::{key, op_named};
 use crate::put::{Put, put_field, put_fields};
 use crate::word::{Word, field_word, put_word, read_word, word_bytes};
 use std::alloc::AllocError;
@@ -86,10 +86,7 @@ impl<'a> Put for OutcomeRef<'a> {
 fn read_named(line: &mut Reader<'_>) -> Result<(i64, Outcome), LineFault>
     ensures { Gives result line.new (answers.named_outcome.at line.old) }
 {
-    let fault = line.fault(LineReason::Word);
-    let Some(op) = op_named(line.name()) else {
-        return Err(fault);
-    };
+    let op = key!(line, op_named);
     let zxid = read_field(line, Word::Zxid)?;
     let outcome = read_outcome(line, op)?;
     Ok((zxid, outcome))

@@ -10,7 +10,7 @@ ghost use Rattle.zk_lines.specs.Lines as lines;
 ghost use Rattle.zk_lines.specs.Rows.{only_written, row_at};
 
 use crate::item::{Item, read_field, read_fields};
-use crate::name::{op_named, part_named};
+use crate::name::{key, op_named, part_named};
 use crate::put::{Put, put_field, put_fields};
 use crate::word::{Word, field_word};
 use std::alloc::AllocError;
@@ -64,10 +64,7 @@ impl<'a> Put for PartRef<'a> {
 
 impl Item for Part {
     fn read(line: &mut Reader<'_>) -> Result<Self, LineFault> {
-        let fault = line.fault(LineReason::Word);
-        let Some(op) = part_named(line.name()) else {
-            return Err(fault);
-        };
+        let op = key!(line, part_named);
         read_part(line, op)
     }
 }
@@ -138,10 +135,7 @@ impl<'a> Put for AskRef<'a> {
 
 impl Item for Ask {
     fn read(line: &mut Reader<'_>) -> Result<Self, LineFault> {
-        let fault = line.fault(LineReason::Word);
-        let Some(op) = op_named(line.name()) else {
-            return Err(fault);
-        };
+        let op = key!(line, op_named);
         read_body(line, op)
     }
 }

@@ -25,15 +25,24 @@ pub trait Copies: Item + Spell {
         ensures keeps { Keeps out.old.items out.new.items };
 }
 
+/// `read!(value = reading)` binds what was read; where that is an error, the function returns `None`.
+macro_rules! read {
+    ($value:tt = $reading:expr) => {
+        let Ok($value) = $reading else {
+            return None;
+        };
+    };
+}
+
+pub(crate) use read;
+
 /// Reads a field, `word` and then the value, and appends the value's bytes. `None`: undecided.
 #[inline(always)]
 pub fn copy_field<T: Copies>(line: &mut Reader<'_>, word: Word, out: &mut Vec<u8>) -> Option<()>
     ensures copied { OnSome result (Copied (field_at word T.form.at) T.items line.old line.new out.old.items out.new.items) }
     ensures keeps { Keeps out.old.items out.new.items }
 {
-    let Ok(()) = read_word(line, word) else {
-        return None;
-    };
+    read!(() = read_word(line, word));
     T::copy(line, out)
 }
 
@@ -69,44 +78,36 @@ pub fn copy_multi<T: Copies>(line: &mut Reader<'_>, out: &mut Vec<u8>) -> Option
     ensures copied { OnSome result (Copied (multi_at T.form.at) (λ xs. flat_map T.items xs ++ marked end_header) line.old line.new out.old.items out.new.items) }
     ensures keeps { Keeps out.old.items out.new.items }
 {
-    let Ok(()) = read_word(line, Word::Parts) else {
-        return None;
-    };
+    read!(() = read_word(line, Word::Parts));
     copy_series::<T>(line, PARTS, out)?;
     append_header(out, -1, true, -1)
 }
 
-/// `append_read!(out, read)` appends the bytes of what was read.
-macro_rules! append_read {
-    ($out:ident, $read:expr) => {{
-        let Ok(value) = $read else {
-            return None;
-        };
-        append($out, &value)
-    }};
-}
-
 impl Copies for i32 {
     fn copy(line: &mut Reader<'_>, out: &mut Vec<u8>) -> Option<()> {
-        append_read!(out, line.int())
+        read!(value = line.int());
+        append(out, &value)
     }
 }
 
 impl Copies for i64 {
     fn copy(line: &mut Reader<'_>, out: &mut Vec<u8>) -> Option<()> {
-        append_read!(out, line.long())
+        read!(value = line.long());
+        append(out, &value)
     }
 }
 
 impl Copies for bool {
     fn copy(line: &mut Reader<'_>, out: &mut Vec<u8>) -> Option<()> {
-        append_read!(out, line.bit())
+        read!(value = line.bit());
+        append(out, &value)
     }
 }
 
 impl Copies for Option<bool> {
     fn copy(line: &mut Reader<'_>, out: &mut Vec<u8>) -> Option<()> {
-        append_read!(out, line.read_only())
+        read!(value = line.read_only());
+        append(out, &value)
     }
 }
 
@@ -124,6 +125,7 @@ impl Copies for Blob {
 
 impl Copies for Stat {
     fn copy(line: &mut Reader<'_>, out: &mut Vec<u8>) -> Option<()> {
-        append_read!(out, Stat::read(line))
+        read!(value = Stat::read(line));
+        append(out, &value)
     }
 }

@@ -12,7 +12,7 @@ ghost use Rattle.zk_lines.specs.Lines.{server_at};
 
 use crate::answer::{after_first, event_fields, read_failure};
 use crate::body::copy_body;
-use crate::copies::{append, copy_field, copy_fields};
+use crate::copies::{append, copy_field, copy_fields, read};
 use crate::name::op_named;
 use crate::word::{Word, field_word, read_word, word_bytes};
 use zk_items::{Reader, read_event_code};
@@ -25,9 +25,7 @@ fn copy_outcome(line: &mut Reader<'_>, op: Op, out: &mut Vec<u8>) -> Option<()>
     ensures keeps { Keeps out.old.items out.new.items }
 {
     if line.passes(word_bytes(Word::Err)) {
-        let Ok(failure) = read_failure(line) else {
-            return None;
-        };
+        read!(failure = read_failure(line));
         return append(out, &failure.number());
     }
     append(out, &0_i32)?;
@@ -39,12 +37,8 @@ fn copy_reply(line: &mut Reader<'_>, out: &mut Vec<u8>) -> Option<Op>
     ensures copied { IfSome result (λ op. (c : Copied answers.reply.at reply_items line.old line.new out.old.items out.new.items) × (op_of_reply c.value ≡ op)) }
     ensures keeps { Keeps out.old.items out.new.items }
 {
-    let Ok(xid) = line.int() else {
-        return None;
-    };
-    let Ok(()) = read_word(line, Word::Blank) else {
-        return None;
-    };
+    read!(xid = line.int());
+    read!(() = read_word(line, Word::Blank));
     let op = op_named(line.name())?;
     append(out, &xid)?;
     copy_field::<i64>(line, Word::Zxid, out)?;
@@ -70,12 +64,8 @@ fn copy_event(line: &mut Reader<'_>, out: &mut Vec<u8>) -> Option<()>
     append(out, &-1_i32)?;
     copy_field::<i64>(line, Word::Zxid, out)?;
     append(out, &0_i32)?;
-    let Ok(()) = read_word(line, Word::Kind) else {
-        return None;
-    };
-    let Ok(kind) = read_event_code(line) else {
-        return None;
-    };
+    read!(() = read_word(line, Word::Kind));
+    read!(kind = read_event_code(line));
     append(out, &kind)?;
     event_fields!(copy_fields, line, out);
     Some(())
@@ -87,15 +77,11 @@ pub fn copy_server(line: &mut Reader<'_>, out: &mut Vec<u8>) -> Option<Kind>
     ensures keeps { Keeps out.old.items out.new.items }
 {
     if line.letters() == b"connect".as_slice() {
-        let Ok(()) = line.literal(b"connect") else {
-            return None;
-        };
+        read!(() = line.literal(b"connect"));
         copy_connected(line, out)?;
         Some(Kind::Connected)
     } else if line.letters() == b"event".as_slice() {
-        let Ok(()) = line.literal(b"event") else {
-            return None;
-        };
+        read!(() = line.literal(b"event"));
         copy_event(line, out)?;
         Some(Kind::Event)
     } else {

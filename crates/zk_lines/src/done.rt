@@ -10,9 +10,9 @@ ghost use Rattle.zk_lines.specs.declared.done.DoneName.TheVariants.{Fail};
 ghost use Rattle.zk_lines.specs.Answers as answers;
 ghost use Rattle.zk_lines.specs.Rows.{row_at};
 
-use crate::copies::{Copies, append, append_header, copy_field};
+use crate::copies::{Copies, append, append_header, copy_field, read};
 use crate::item::{Item, read_field};
-use crate::name::done_named;
+use crate::name::{done_named, key};
 use crate::put::{Put, put_field};
 use crate::word::{Word, put_word, read_word};
 use std::alloc::AllocError;
@@ -143,10 +143,7 @@ impl<'a> Put for PartDoneRef<'a> {
 
 impl Item for PartDone {
     fn read(line: &mut Reader<'_>) -> Result<Self, LineFault> {
-        let fault = line.fault(LineReason::Word);
-        let Some(name) = done_named(line.name()) else {
-            return Err(fault);
-        };
+        let name = key!(line, done_named);
         read_done(line, name)
     }
 }
@@ -156,12 +153,8 @@ fn copy_failed(line: &mut Reader<'_>, out: &mut Vec<u8>) -> Option<()>
     ensures copied { OnSome result (Copied (row_at (answers.done_line_of Fail)) results.done_items line.old line.new out.old.items out.new.items) }
     ensures keeps { Keeps out.old.items out.new.items }
 {
-    let Ok(()) = read_word(line, Word::Err) else {
-        return None;
-    };
-    let Ok(number) = read_error_code(line) else {
-        return None;
-    };
+    read!(() = read_word(line, Word::Err));
+    read!(number = read_error_code(line));
     append_header(out, -1, false, number)?;
     append(out, &number)
 }

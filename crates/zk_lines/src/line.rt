@@ -1,8 +1,8 @@
 //! `put_line`, `line_of`, `read_line`: the line of a message, and back.
-ghost use Rattle.std.specs.Prelude.{◌≡◌, ◌++◌, IfOk, OnErr, OnOk};
+ghost use Rattle.std.specs.Prelude.{◌≡◌, ◌++◌, IfOk, OnErr, OnOk, Some};
 ghost use Rattle.zk_items.specs.Form.{Answers};
 ghost use Rattle.zk_lines.specs.Lines as lines;
-ghost use Rattle.zk_lines.specs.Lines.{Fits, Reads, whole, client_at, server_at, message_at};
+ghost use Rattle.zk_lines.specs.Lines.{Fits, Reads, whole, message_at};
 ghost use Rattle.zk_lines.specs.Rows.{only_written};
 ghost use Rattle.zk_talk.specs.Held.{Message};
 
@@ -10,8 +10,6 @@ use crate::answer::read_server;
 use crate::ask::read_client;
 use crate::put::Put;
 use std::alloc::{AllocError, Global};
-use zk_answers::ServerFrame;
-use zk_asks::ClientFrame;
 use zk_items::{LineFault, LineReason, Reader};
 use zk_talk::{Message, MessageOf, MessageRef};
 
@@ -125,24 +123,15 @@ pub fn line_of_ref(alloc: Global, message: &MessageRef<'_>) -> Result<Vec<u8>, A
     spelled(alloc, message)
 }
 
-fn whole_client(line: &mut Reader<'_>) -> Result<ClientFrame, LineFault>
-    ensures { Answers result (whole (client_at line.old)) }
+/// `frame`, where nothing is left of the line; else the fault there.
+fn alone<F: Drop>(line: &Reader<'_>, frame: F) -> Result<F, LineFault>
+    ensures { Answers result (whole (Some (frame, line.now))) }
 {
-    let frame = read_client(line)?;
-    if !line.is_done() {
-        return Err(line.fault(LineReason::Rest));
+    if line.is_done() {
+        Ok(frame)
+    } else {
+        Err(line.fault(LineReason::Rest))
     }
-    Ok(frame)
-}
-
-fn whole_server(line: &mut Reader<'_>) -> Result<ServerFrame, LineFault>
-    ensures { Answers result (whole (server_at line.old)) }
-{
-    let frame = read_server(line)?;
-    if !line.is_done() {
-        return Err(line.fault(LineReason::Rest));
-    }
-    Ok(frame)
 }
 
 /// Reads the message, whose side comes first.
@@ -150,10 +139,12 @@ fn read_message(line: &mut Reader<'_>) -> Result<Message, LineFault>
     ensures { Answers result (message_at line.old) }
 {
     if line.passes(b"C ") {
-        Ok(Message::Client(whole_client(line)?))
+        let frame = read_client(line)?;
+        Ok(Message::Client(alone(line, frame)?))
     } else {
         line.literal(b"S ")?;
-        Ok(Message::Server(whole_server(line)?))
+        let frame = read_server(line)?;
+        Ok(Message::Server(alone(line, frame)?))
     }
 }
 

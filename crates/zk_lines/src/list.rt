@@ -8,7 +8,7 @@ ghost use Rattle.zk_lines.specs.Copied.{CopiedOthers, CopiedSeries};
 ghost use Rattle.zk_lines.specs.Series.{element_at, series_at, full_at, list_of, multi_of, series_spell};
 ghost use Rattle.zk_items.specs.Many.{many_at, with_first};
 
-use crate::copies::{Copies, append};
+use crate::copies::{Copies, append, read};
 use crate::item::Item;
 use crate::put::Put;
 use crate::word::{Word, put_word, read_word};
@@ -87,9 +87,7 @@ fn copy_others<T: Copies>(line: &mut Reader<'_>, signs: Signs, out: &mut Vec<u8>
         if line.passes(&[signs.behind]) {
             return Some(turn + 1);
         }
-        let Ok(()) = line.literal(&[signs.between]) else {
-            return None;
-        };
+        read!(() = line.literal(&[signs.between]));
         T::copy(line, out)?;
     }
     None
@@ -208,9 +206,7 @@ impl<T: Copies> Copies for List<T> {
         if line.passes(b"~") {
             return append(out, &-1_i32);
         }
-        let Ok(()) = line.literal(b"[") else {
-            return None;
-        };
+        read!(() = line.literal(b"["));
         copy_counted::<T>(line, out)
     }
 }

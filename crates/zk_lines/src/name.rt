@@ -47,6 +47,19 @@ pub fn part_named(name: &[u8]) -> Option<PartOp>
     part_codes!(row, name)
 }
 
+/// `key!(line, named)` reads a name, and is what `named` finds by it; where that is nothing, the function returns the fault.
+macro_rules! key {
+    ($line:ident, $named:ident) => {{
+        let fault = $line.fault(LineReason::Word);
+        let Some(key) = $named($line.name()) else {
+            return Err(fault);
+        };
+        key
+    }};
+}
+
+pub(crate) use key;
+
 /// What a result may begin with.
 const DONE_NAMES: [DoneName; 5] = [
     DoneName::Create,
