@@ -15,7 +15,7 @@ use Rattle.zk_talk.proofs.Headline.{fault_is_bad}
 use Rattle.zk_frames.proofs.Cuts.{AllByRecursion-left, AllByRecursion-right}
 use Rattle.zk_recordings.specs.declared.parts.DamageAt.{DamageAt}
 use Rattle.zk_recordings.specs.declared.parts.Format.{Format}
-use Rattle.zk_recordings.specs.Recording.{Recording, Breaks, Ends, Place, InPieces, Piece, format_of, head_bytes, spelled, piece_values, piece_bytes, piece_history, front, begun_of, history_at, bytes_of, history_of, limits_of, damage_of, Spells}
+use Rattle.zk_recordings.specs.Recording.{Recording, Breaks, Ends, Place, InPieces, Piece, format_of, head_bytes, spelled, piece_values, piece_bytes, piece_history, front, place_of, begun_of, begun_history, history_at, bytes_of, history_of, limits_of, damage_of, Spells}
 use Rattle.zk_listings.specs.declared.summary.Summary.{Summary}
 use Rattle.zk_listings.specs.declared.summary.Summary.TheVariants.{Ended, Broken}
 use Rattle.zk_listings.specs.Outcome.{IsOutcome, HasMessages, ComesTo}
@@ -54,14 +54,15 @@ at_bytes : (place : Place) → AllBytes (front place) → AreBytes (history_at p
 at_bytes (InPieces head pieces) bytes = all_pieces (format_of head) pieces (AllByRecursion-right (λ b. b < 256) (head_bytes head) (flat_map (piece_bytes (format_of head)) pieces) bytes)
 at_bytes _ bytes = tt
 
+begun_bytes : (r : Recording) → AllBytes (begun_of r) → AreBytes (begun_history r)
+begun_bytes (Breaks place b) bytes = tt
+begun_bytes (Ends head pieces last) bytes = one_piece (format_of head) last bytes
+
 history_bytes : (r : Recording) → AllBytes (bytes_of r) → AreBytes (history_of r)
-history_bytes (Breaks place b) bytes = both (history_at place) [] (at_bytes place (AllByRecursion-left (λ b. b < 256) (front place) (begun_of (Breaks place b)) bytes)) tt
-history_bytes (Ends head pieces last) bytes =
-    let before = front (InPieces head pieces) in
-    let begun = piece_bytes (format_of head) last in
-    both (history_at (InPieces head pieces)) (piece_history last)
-    (at_bytes (InPieces head pieces) (AllByRecursion-left (λ b. b < 256) before begun bytes))
-    (one_piece (format_of head) last (AllByRecursion-right (λ b. b < 256) before begun bytes))
+history_bytes r bytes =
+    let before = front (place_of r) in
+    both (history_at (place_of r)) (begun_history r) (at_bytes (place_of r) (AllByRecursion-left (λ b. b < 256) before (begun_of r) bytes))
+    (begun_bytes r (AllByRecursion-right (λ b. b < 256) before (begun_of r) bytes))
 
 -- ---- what it comes to
 

@@ -3,7 +3,7 @@ use Rattle.std.proofs.Common.{◌≡◌, ℕ, ◌+◌, ◌≤◌, Bool, true, fa
 use Rattle.std.specs.Io.KnownBytes.{Appends}
 use Rattle.std.proofs.lemmas.List.{take-append-drop, take_all, append-nil}
 use Rattle.std.proofs.lemmas.List.Concat.{flat_map-append}
-use Rattle.std.proofs.Math.Seq.{take-add, take-append-add, take-length}
+use Rattle.std.proofs.Math.Seq.{take-add, take-length}
 use Rattle.zk_talk.specs.declared.message.Side.{Side}
 use Rattle.zk_talk.specs.declared.message.Fault.{Fault}
 use Rattle.zk_talk.specs.Held.{Message}
@@ -20,6 +20,7 @@ use Rattle.zk_listings.specs.Lines.{message_line, text_of}
 use Rattle.zk_listings.specs.Outcome.{IsGoodWith, HasGrownIn}
 use Rattle.zk_listings.specs.Following.{Judges, Takes}
 use Rattle.zk_listings.proofs.Bytes.{Appends-then}
+use Rattle.zk_listings.proofs.Found.{grown-further}
 use Rattle.zk_recordings.proofs.Lists.{on-append}
 
 pub text_of-append : (listing : Listing) (a b : List Message) → text_of listing (a ++ b) ≡ text_of listing a ++ text_of listing b
@@ -36,21 +37,8 @@ good-here t l h messages e i = record {
   order = subst (λ k. IsOrder k h i.conversation messages) e i.order;
 }
 
--- a front of more lines
-grown-then : (listing : Listing) (before during after : Option (List ℕ)) (now more : List Message) → Appends before during (text_of listing now) →
-    HasGrownIn during after (text_of listing more) → HasGrownIn before after (text_of listing (now ++ more))
-grown-then listing before during after now more p q = (
-  length (text_of listing now) + q.0,
-  subst (Appends before after) (sym (take-append-add (text_of listing now) (text_of listing more) q.0) ∙ ap (take (length (text_of listing now) + q.0)) (sym (text_of-append listing now more)))
-      (Appends-then before during after _ _ p q.1),
-)
-
 pub grown-whole : (before after : Option (List ℕ)) (text : List ℕ) → Appends before after text → HasGrownIn before after text
 grown-whole before after text p = (length text, subst (Appends before after) (sym (take-length text)) p)
-
-told-then : (listing : Listing) (before during after : Option (List ℕ)) (now more : List Message) → Appends before during (text_of listing now) →
-    Appends during after (text_of listing more) → Appends before after (text_of listing (now ++ more))
-told-then listing before during after now more p q = subst (Appends before after) (sym (text_of-append listing now more)) (Appends-then before during after _ _ p q)
 
 -- the buffer, which was empty, has the lines of more messages
 module _ (listing : Listing) (before during after : Option (List ℕ)) (now more : List Message) (bytes buffer was : List ℕ) (is : bytes ≡ buffer) (added : buffer ≡ was ++ text_of listing more) (empty : was ≡ [])
@@ -59,10 +47,10 @@ module _ (listing : Listing) (before during after : Option (List ℕ)) (now more
   text = is ∙ added ∙ ap (λ l. l ++ text_of listing more) empty
 
   pub told-more : Appends during after bytes → Appends before after (text_of listing (now ++ more))
-  told-more p = told-then listing before during after now more told (subst (Appends during after) text p)
+  told-more p = subst (Appends before after) (sym (text_of-append listing now more)) (Appends-then before during after _ _ told (subst (Appends during after) text p))
 
   pub grown-more : HasGrownIn during after bytes → HasGrownIn before after (text_of listing (now ++ more))
-  grown-more p = grown-then listing before during after now more told (subst (HasGrownIn during after) text p)
+  grown-more p = subst (HasGrownIn before after) (sym (text_of-append listing now more)) (grown-further before during after (text_of listing now) (text_of listing more) told (subst (HasGrownIn during after) text p))
 
 -- ---- lines that are appended to a buffer
 

@@ -8,9 +8,9 @@ use Rattle.zk_listings.specs.declared.listing.Listing.{Listing}
 use Rattle.zk_listings.specs.declared.summary.Summary.{Summary}
 use Rattle.zk_listings.specs.Lines.{text_of}
 use Rattle.zk_recordings.specs.Recording.{Recording, Spells, history_of, limits_of}
-use Rattle.zk_listings.specs.Outcome.{IsBroken, IsDecided, IsGoodWith, IsOutcome, Reads, IsRunning, HasBegun, HasGrownIn}
+use Rattle.zk_listings.specs.Outcome.{IsBroken, IsDecided, IsGoodWith, Reads, IsRunning, HasGrownIn}
 use Rattle.zk_listings.specs.Running.{HasFoundBy}
-use Rattle.zk_listings.specs.Following.{IsKept, Finishes, Decides, Opens}
+use Rattle.zk_listings.specs.Following.{Finishes, Decides}
 use Rattle.std.proofs.Math.Seq.{take-append-add, take-append_seam}
 use Rattle.zk_listings.proofs.Bytes.{Appends-then}
 use Rattle.zk_listings.proofs.Outcomes.{outcome-once, outcome-good}
@@ -22,30 +22,27 @@ reads before after x r p i = record { consumed = p; just = record { spells = i; 
 -- a summary was found, and the lines of all messages written
 module _ (limits : Limits) (listing : Listing) (before after contents contents_now : Option (List ℕ)) (x : List ℕ) (messages : List Message) (talk : Option TalkState) (summary : Summary)
     (consumed : Consumes before after x) (written : Appends contents contents_now (text_of listing messages)) where
-  found-by : (r : Recording) → Spells x r → IsOutcome limits r messages summary → IsKept (limits_of limits r) talk (history_of r) messages summary → IsAtEnd after ⊎ IsDecided limits x r →
-      HasFoundBy limits listing before after contents contents_now talk summary
-  found-by r i is kept enough = record {
-    all = record {
-      messages = messages;
-      found = record {
-        bytes = x;
-        recording = r;
-        reads = reads before after x r consumed i;
-        is = is;
-        only = λ others other o. outcome-once limits r messages others summary other is o;
-        enough = enough;
-      };
-      written = written;
+  found-by : (f : Finishes limits x messages talk summary) → IsAtEnd after ⊎ IsDecided limits x f.recording → HasFoundBy limits listing before after contents contents_now talk summary
+  found-by f enough = record {
+    messages = messages;
+    found = record {
+      bytes = x;
+      recording = f.recording;
+      reads = reads before after x f.recording consumed f.spells;
+      is = f.is;
+      only = λ others other o. outcome-once limits f.recording messages others summary other f.is o;
+      enough = enough;
     };
-    kept = kept;
+    written = written;
+    kept = f.kept;
   }
 
   pub found-at_end : IsAtEnd after → Finishes limits x messages talk summary → HasFoundBy limits listing before after contents contents_now talk summary
-  found-at_end end f = found-by f.recording f.spells f.is f.kept (inl end)
+  found-at_end end f = found-by f (inl end)
 
   -- what stands whatever follows
   pub found-decided : Decides limits x messages talk summary → HasFoundBy limits listing before after contents contents_now talk summary
-  found-decided d = found-by d.recording d.spells d.is d.kept (inr d.decided)
+  found-decided d = found-by d.finishes (inr d.decided)
 
 -- what was read has these messages and no fault
 pub running : (limits : Limits) (before after : Option (List ℕ)) (x : List ℕ) (messages : List Message) (r : Recording) → Consumes before after x → Spells x r →
@@ -57,17 +54,6 @@ running limits before after x messages r p i unbroken good = record {
   unbroken = unbroken;
   good = good;
   only = λ others summary o. outcome-good limits r messages others summary good o;
-}
-
-pub begun-by : (limits : Limits) (before after : Option (List ℕ)) (x : List ℕ) (messages : List Message) → Consumes before after x → Opens limits x messages → HasBegun limits before after messages
-begun-by limits before after x messages p i = record {
-  bytes = x;
-  recording = i.recording;
-  reads = reads before after x i.recording p i.spells;
-  front = i.front;
-  rest = i.rest;
-  splits = i.splits;
-  good = i.good;
 }
 
 -- nothing, or a front, of what follows a text was written

@@ -1,5 +1,5 @@
 -- The beginning of a frame, which isn't given to the talk yet: with it no message has come.
-use Rattle.std.proofs.Common.{◌≡◌, ℕ, ◌+◌, ◌≤◌, ◌<◌, ◌^◌, inl, inr, List, [], ◌∷◌, ◌++◌, length, Option, None, Some, Result, Ok, Err, IfOk, sym, ap, ◌∙◌, subst, append_assoc, append-nil, arith, length-append}
+use Rattle.std.proofs.Common.{◌≡◌, ℕ, ◌+◌, ◌≤◌, ◌<◌, ◌^◌, inl, inr, List, [], ◌∷◌, ◌++◌, length, Option, None, Some, sym, ap, ◌∙◌, subst, append_assoc, append-nil, arith, length-append}
 use Rattle.std.specs.List.{flat_map}
 use Rattle.zk_frames.specs.Framing.{IsBeginning}
 use Rattle.zk_talk.specs.declared.limits.Limits.{Limits}
@@ -16,13 +16,13 @@ use Rattle.zk_talk.proofs.Small.{small_limits}
 use Rattle.zk_talk.proofs.Standing.{bytes-on, other-on, runs_client, runs_server}
 use Rattle.zk_recordings.specs.declared.parts.Format.{Format}
 use Rattle.zk_recordings.specs.declared.parts.Format.TheVariants.{Zkr1, Zkr2}
-use Rattle.zk_recordings.specs.Recording.{Breaks, Ends, InPieces, Piece, Recording, Spells, begun_of, format_of, head_bytes, history_of, limits_of, piece_bytes, piece_history}
+use Rattle.zk_recordings.specs.Recording.{Breaks, Ends, InPieces, Piece, Place, Recording, Spells, begun_history, begun_of, format_of, front, head_bytes, history_at, history_of, limits_of, piece_bytes, piece_history, place_of}
 use Rattle.zk_recordings.proofs.Lists.{on-append}
 use Rattle.zk_listings.specs.declared.listing.Listing.TheVariants.{Last}
 use Rattle.zk_listings.specs.declared.progress.Progress.{Progress}
 use Rattle.zk_listings.specs.Following.{Follows, Has, Judges, Takes}
 use Rattle.zk_listings.specs.Gathered.{SideBytes}
-use Rattle.zk_listings.specs.Gathering.{Begins, FollowsBut, Gathers, GathersIn, HasAllBut, HasAllButOr, HasAllButUnless, IsGathered, Turns}
+use Rattle.zk_listings.specs.Gathering.{Begins, FollowsBut, Gathers, HasAllBut, HasAllButOr, HasAllButUnless, IsGathered, Turns}
 use Rattle.zk_listings.specs.Outcome.{IsGoodWith}
 use Rattle.zk_listings.proofs.Talking.{has-good}
 
@@ -50,31 +50,18 @@ pieces-within side format (p ∷ ps) h =
       length-append (piece_bytes format p) (flat_map (piece_bytes format) ps),
     )
 
+place-within : (side : Side) (place : Place) → length (side_bytes side (history_at place)) ≤ length (front place)
+place-within side (InPieces head pieces) =
+    omega (arith, length-append (head_bytes head) (flat_map (piece_bytes (format_of head)) pieces), pieces-within side (format_of head) pieces [], ap length (no_bytes side))
+place-within side _ = omega (arith, ap length (no_bytes side))
+
+begun-within : (side : Side) (r : Recording) (h : History) → length (side_bytes side (h ++ begun_history r)) ≤ length (side_bytes side h) + length (begun_of r)
+begun-within side (Breaks place b) h = omega (arith, ap (λ z. length (side_bytes side z)) (append-nil h))
+begun-within side (Ends head pieces last) h = omega (arith, more-on side last.side last.content h, content-within (format_of head) last)
+
 pub history-within : (side : Side) (r : Recording) (x : List ℕ) → Spells x r → length (side_bytes side (history_of r)) ≤ length x
-history-within side (Breaks (InPieces head pieces) b) x i =
-    let all = flat_map (piece_bytes (format_of head)) pieces in
-    omega (
-      arith,
-      ap length i.is,
-      length-append (head_bytes head ++ all) (begun_of (Breaks (InPieces head pieces) b)),
-      length-append (head_bytes head) all,
-      ap (λ z. length (side_bytes side z)) (append-nil (flat_map piece_history pieces)),
-      pieces-within side (format_of head) pieces [],
-      ap length (no_bytes side),
-    )
-history-within side (Ends head pieces last) x i =
-    let all = flat_map (piece_bytes (format_of head)) pieces in
-    omega (
-      arith,
-      ap length i.is,
-      length-append (head_bytes head ++ all) (piece_bytes (format_of head) last),
-      length-append (head_bytes head) all,
-      more-on side last.side last.content (flat_map piece_history pieces),
-      content-within (format_of head) last,
-      pieces-within side (format_of head) pieces [],
-      ap length (no_bytes side),
-    )
-history-within side _ x i = omega (arith, ap length (no_bytes side))
+history-within side r x i =
+    omega (arith, ap length i.is, length-append (front (place_of r)) (begun_of r), begun-within side r (history_at (place_of r)), place-within side (place_of r))
 
 -- ---- the beginning of a frame
 
@@ -214,13 +201,3 @@ pub appends-then : (limits : Limits) (old mid new : TalkState) (g between now : 
     Gathers limits mid (record between { bytes = between.bytes ++ bytes }) [] refused new now → Gathers limits old g (on between.side bytes) refused new now
 appends-then limits old mid new g between now bytes refused turns gathers =
     turned-then limits old mid new g between now (on between.side bytes) refused turns (append-gathers limits mid new between now bytes refused gathers)
-
--- the talk has begun
-pub gathers-in : (limits : Limits) (old new : TalkState) (g now : SideBytes) (bytes : History) (refused : Option Fault) → Gathers limits old g bytes refused new now →
-    GathersIn limits (Some old) g bytes refused (Some new) now
-gathers-in limits old new g now bytes refused gathers h messages i e = gathers h messages i
-
-pub gathers-in-ok : {E : Type 0} (limits : Limits) (old new : TalkState) (g now : SideBytes) (bytes : History) (result : Result (Option Fault) E) →
-    IfOk result (λ refused. Gathers limits old g bytes refused new now) → IfOk result (λ refused. GathersIn limits (Some old) g bytes refused (Some new) now)
-gathers-in-ok limits old new g now bytes (Ok refused) i = gathers-in limits old new g now bytes refused i
-gathers-in-ok limits old new g now bytes (Err e) i = tt

@@ -14,7 +14,7 @@ use Rattle.zk_recordings.specs.Reading.{IsHeaded}
 use Rattle.zk_listings.specs.Outcome.{ComesTo, HasMessages, IsOutcome, IsDecided}
 use Rattle.zk_recordings.proofs.Any.{longer}
 use Rattle.zk_recordings.proofs.Once.{spells-once}
-use Rattle.zk_listings.proofs.Decided.{fault-headed, broken-by}
+use Rattle.zk_listings.proofs.Decided.{fault-headed}
 use Rattle.zk_recordings.proofs.Stages.{damaged-more}
 
 -- equal limits, histories and damages come to the same
@@ -48,7 +48,7 @@ module _ (limits : Limits) (x more : List ℕ) (r s : Recording) (messages : Lis
   pub decided-more : (summary : Summary) → IsDecided limits x r → IsOutcome limits r messages summary → IsOutcome limits s messages summary
   decided-more summary (inl f) o = by-fault f.0 f.1 (fault-headed limits r f.0 f.1) summary o
   decided-more summary (inr b) o =
-      let d = damaged-more b.damage x more r i (broken-by r x b i) in
+      let d = damaged-more b.0 x more r i b.1 in
       let history : history_of d.0 ≡ history_of r = ap (λ p. history_at p ++ begun_history d.0) d.3 ∙ ap (λ h. history_at (place_of r) ++ h) (d.5 ∙ append-nil (begun_history r)) in
       let same = spells-once (x ++ more) s d.0 j d.1 in
-      subst (λ q. IsOutcome limits q messages summary) same (same-outcome limits limits r d.0 messages summary (ap (limits_at limits) d.3) history (d.2.damage ∙ sym b.is) o)
+      subst (λ q. IsOutcome limits q messages summary) same (same-outcome limits limits r d.0 messages summary (ap (limits_at limits) d.3) history (d.2.damage ∙ sym b.1.damage) o)

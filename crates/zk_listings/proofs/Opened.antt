@@ -3,15 +3,15 @@ use Rattle.std.proofs.Common.{ℕ, List, [], ◌∷◌, ◌++◌, Option, None, 
 use Rattle.zk_talk.specs.declared.limits.Limits.{Limits}
 use Rattle.zk_talk.specs.Held.{Message}
 use Rattle.zk_talk.specs.declared.message.Ending.TheVariants.{Refused}
+use Rattle.zk_talk.specs.History.{History}
 use Rattle.zk_talk.specs.Stands.{TalkState}
-use Rattle.zk_listings.specs.declared.progress.Progress.{Progress}
 use Rattle.zk_listings.specs.declared.summary.Summary.{Summary}
 use Rattle.zk_listings.specs.declared.summary.Summary.TheVariants.{Ended, Broken}
 use Rattle.zk_recordings.specs.Recording.{Recording, Spells, history_of, limits_of, place_of}
-use Rattle.zk_recordings.specs.Reading.{IsHeaded}
 use Rattle.zk_listings.specs.Outcome.{IsGoodWith}
-use Rattle.zk_listings.specs.Following.{Follows, Talks, Decides, Opens}
+use Rattle.zk_listings.specs.Following.{Has, IsHeadedBy, Finishes, Opens}
 use Rattle.zk_recordings.proofs.Any.{longer}
+use Rattle.zk_listings.proofs.Outcomes.{good-all, good-before}
 use Rattle.zk_listings.proofs.Talking.{has-good}
 
 -- all of a recording
@@ -19,25 +19,34 @@ pub opens-whole : (limits : Limits) (x : List ℕ) (messages : List Message) (r 
 opens-whole limits x messages r i good = record { recording = r; spells = i; front = history_of r; rest = []; splits = sym (append-nil (history_of r)); good = good }
 
 -- what comes to something begins with its messages
-pub opens-decided : (limits : Limits) (x : List ℕ) (messages : List Message) (talk : Option TalkState) (summary : Summary) → Decides limits x messages talk summary → Opens limits x messages
-opens-decided limits x messages talk (Ended (Refused fault)) d =
-    let m = d.is.messages_are in
+pub opens-finished : (limits : Limits) (x : List ℕ) (messages : List Message) (talk : Option TalkState) (summary : Summary) → Finishes limits x messages talk summary → Opens limits x messages
+opens-finished limits x messages talk (Ended (Refused fault)) f =
+    let m = f.is.messages_are in
     record {
-      recording = d.recording;
-      spells = d.spells;
+      recording = f.recording;
+      spells = f.spells;
       front = m.0.before;
       rest = (fault.side, m.0.byte) ∷ m.0.after;
       splits = m.0.stands;
-      good = record { conversation = m.0.conversation; client_rest = m.0.client_rest; server_rest = m.0.server_rest; good = m.0.good; order = m.1 };
+      good = good-before (limits_of limits f.recording) (history_of f.recording) messages fault m;
     }
-opens-decided limits x messages talk (Broken damage) d = opens-whole limits x messages d.recording d.spells d.is.messages_are
-opens-decided limits x messages talk _ d =
-    let m = d.is.messages_are in
-    opens-whole limits x messages d.recording d.spells (record { conversation = m.0; client_rest = m.1; server_rest = m.2; good = m.3; order = m.4 })
+opens-finished limits x messages talk (Broken damage) f = opens-whole limits x messages f.recording f.spells f.is.messages_are
+opens-finished limits x messages talk _ f = opens-whole limits x messages f.recording f.spells (good-all (limits_of limits f.recording) (history_of f.recording) messages f.is.messages_are)
 
--- whatever follows a whole head
-pub opens-longer : (limits : Limits) (x more : List ℕ) (messages : List Message) (r : Recording) → Spells x r → IsHeaded (place_of r) → IsGoodWith (limits_of limits r) (history_of r) messages → Opens limits (x ++ more) messages
-opens-longer limits x more messages r i headed good =
+-- and whatever follows: nothing has come, or the recording has its head
+pub opens-later : (limits : Limits) (x more : List ℕ) (messages : List Message) (r : Recording) (talk : Option TalkState) (h : History) → Spells x r → IsHeadedBy talk (place_of r) →
+    Has (limits_of limits r) talk h messages → IsGoodWith (limits_of limits r) (history_of r) messages → Opens limits (x ++ more) messages
+opens-later limits x more messages r None h i headed has good =
+    let l = longer r x more i in
+    record {
+      recording = l.new;
+      spells = l.spells;
+      front = [];
+      rest = history_of l.new;
+      splits = refl;
+      good = has-good (limits_of limits l.new) None [] messages (refl, has.1);
+    }
+opens-later limits x more messages r (Some t) h i headed has good =
     let l = longer r x more i in
     record {
       recording = l.new;
@@ -47,21 +56,3 @@ opens-longer limits x more messages r i headed good =
       splits = l.history;
       good = subst (λ z. IsGoodWith z (history_of r) messages) (sym (l.limits_are headed limits)) good;
     }
-
--- nothing has come, or the recording has its head
-opens-by : (limits : Limits) (x more : List ℕ) (messages : List Message) (r : Recording) (talk : Option TalkState) → Spells x r → Talks limits r messages talk → Opens limits (x ++ more) messages
-opens-by limits x more messages r None i talks =
-    let l = longer r x more i in
-    record {
-      recording = l.new;
-      spells = l.spells;
-      front = [];
-      rest = history_of l.new;
-      splits = refl;
-      good = has-good (limits_of limits l.new) None [] messages (refl, talks.has.1);
-    }
-opens-by limits x more messages r (Some t) i talks = opens-longer limits x more messages r i talks.headed (has-good (limits_of limits r) (Some t) (history_of r) messages talks.has)
-
--- and whatever follows
-pub opens-later : (limits : Limits) (x more : List ℕ) (messages : List Message) (p : Progress) → Follows limits x messages p → Opens limits (x ++ more) messages
-opens-later limits x more messages p i = opens-by limits x more messages i.recording p.talk i.at.spells i.talks

@@ -1,10 +1,12 @@
 -- A recording comes to one thing, with one list of messages.
 use Rattle.std.proofs.Common.{◌≡◌, ℕ, List, [], ◌++◌, Option, Some, refl, sym, ap, ◌∙◌, subst}
+use Rattle.std.proofs.lemmas.Option.{none-some}
 use Rattle.zk_talk.specs.declared.message.Side.{Side}
 use Rattle.zk_talk.specs.declared.message.Side.TheVariants.{Client, Server}
 use Rattle.zk_talk.specs.declared.limits.Limits.{Limits}
 use Rattle.zk_talk.specs.declared.message.Ending.{Ending}
 use Rattle.zk_talk.specs.declared.message.Ending.TheVariants.{Whole, Cut, Refused}
+use Rattle.zk_talk.specs.declared.message.Fault.{Fault}
 use Rattle.zk_talk.specs.History.{History}
 use Rattle.zk_talk.specs.Conversation.{Conversation}
 use Rattle.zk_talk.specs.Held.{Message}
@@ -21,7 +23,6 @@ use Rattle.zk_listings.specs.declared.summary.Summary.{Summary}
 use Rattle.zk_listings.specs.declared.summary.Summary.TheVariants.{Ended, Broken}
 use Rattle.zk_listings.specs.Outcome.{ComesTo, HasMessages, IsGoodWith, IsOutcome}
 use Rattle.zk_recordings.specs.Recording.{Recording, history_of, limits_of, damage_of}
-use Rattle.zk_listings.proofs.Decided.{none_some}
 
 -- one conversation ends in one place
 cut-once : (v : Conversation) (cr sr : List ℕ) (s t : Side) (n m k l : ℕ) → IsCutAt v cr sr s n k → IsCutAt v cr sr t m l → Cut s n k ≡ Cut t m l
@@ -60,7 +61,7 @@ module _ (limits : Limits) (h : History) where
 
   not-both : (damage : Option DamageAt) (e : Ending) (d : DamageAt) → ComesTo limits h damage (Ended e) → ComesTo limits h damage (Broken d) → ⊥
   not-both damage (Refused f) d p q = q.0 f p
-  not-both damage _ d p q = none_some damage d p.0 q.1
+  not-both damage _ d p q = none-some d (sym p.0 ∙ q.1)
 
   pub comes_to-once : (damage : Option DamageAt) (s t : Summary) → ComesTo limits h damage s → ComesTo limits h damage t → s ≡ t
   comes_to-once damage (Ended e) (Ended f) p q = ap (λ z. Ended z) (ending-once e f (ended damage e p) (ended damage f q))
@@ -68,21 +69,24 @@ module _ (limits : Limits) (h : History) where
   comes_to-once damage (Broken d) (Ended e) p q = absurd (not-both damage e d q p)
   comes_to-once damage (Broken d) (Broken e) p q = let b : Some d ≡ Some e = sym p.1 ∙ q.1 in ap Broken (cc)
 
-order-once : (limits : Limits) (h : History) (v w : Conversation) (cb sb db tb : List ℕ) (M N : List Message) → Good limits h v cb sb → IsOrder limits h v M → Good limits h w db tb → IsOrder limits h w N → M ≡ N
-order-once limits h v w cb sb db tb M N p a q b =
-    let s = same limits h v w cb sb db tb p q in
-    order_once limits (small_limits limits) h v M N a (subst (λ z. IsOrder limits h z N) (sym s.0) b) cb sb p.whole
+-- the messages before a fault
+pub good-before : (limits : Limits) (h : History) (M : List Message) (f : Fault) (m : AreMessages limits h M (Refused f)) → IsGoodWith limits m.0.before M
+good-before limits h M f m = record { conversation = m.0.conversation; client_rest = m.0.client_rest; server_rest = m.0.server_rest; good = m.0.good; order = m.1 }
 
-ended-once : (limits : Limits) (h : History) (M N : List Message) (e : Ending) → AreMessages limits h M e → AreMessages limits h N e → M ≡ N
-ended-once limits h M N (Refused f) p q =
-    let e = (same_before limits h f f p.0 q.0).0 in
-    order-once limits p.0.before p.0.conversation q.0.conversation p.0.client_rest p.0.server_rest q.0.client_rest q.0.server_rest M N p.0.good p.1
-    (subst (λ k. Good limits k q.0.conversation q.0.client_rest q.0.server_rest) (sym e) q.0.good) (subst (λ k. IsOrder limits k q.0.conversation N) (sym e) q.1)
-ended-once limits h M N _ p q = order-once limits h p.0 q.0 p.1 p.2 q.1 q.2 M N p.3 p.4 q.3 q.4
+-- those of an ending that is no fault
+pub good-all : (limits : Limits) (h : History) (M : List Message) → AreMessages limits h M (Whole 0) → IsGoodWith limits h M
+good-all limits h M m = record { conversation = m.0; client_rest = m.1; server_rest = m.2; good = m.3; order = m.4 }
+
+order-once : (limits : Limits) (h : History) (M N : List Message) → IsGoodWith limits h M → IsGoodWith limits h N → M ≡ N
+order-once limits h M N p q =
+    let s = same limits h p.conversation q.conversation p.client_rest p.server_rest q.client_rest q.server_rest p.good q.good in
+    order_once limits (small_limits limits) h p.conversation M N p.order (subst (λ z. IsOrder limits h z N) (sym s.0) q.order) p.client_rest p.server_rest p.good.whole
 
 messages-once : (limits : Limits) (h : History) (M N : List Message) (s : Summary) → HasMessages limits h M s → HasMessages limits h N s → M ≡ N
-messages-once limits h M N (Ended e) p q = ended-once limits h M N e p q
-messages-once limits h M N (Broken d) p q = order-once limits h p.conversation q.conversation p.client_rest p.server_rest q.client_rest q.server_rest M N p.good p.order q.good q.order
+messages-once limits h M N (Ended (Refused f)) p q =
+    order-once limits p.0.before M N (good-before limits h M f p) (subst (λ k. IsGoodWith limits k N) (sym (same_before limits h f f p.0 q.0).0) (good-before limits h N f q))
+messages-once limits h M N (Ended _) p q = order-once limits h M N (good-all limits h M p) (good-all limits h N q)
+messages-once limits h M N (Broken d) p q = order-once limits h M N p q
 
 pub outcome-once : (limits : Limits) (r : Recording) (M N : List Message) (s t : Summary) → IsOutcome limits r M s → IsOutcome limits r N t → (N ≡ M) × (t ≡ s)
 outcome-once limits r M N s t p q =
@@ -92,8 +96,8 @@ outcome-once limits r M N s t p q =
 -- a recording whose history is good has no messages but those of the history
 good-once : (limits : Limits) (h : History) (M N : List Message) (s : Summary) → IsGoodWith limits h M → HasMessages limits h N s → N ≡ M
 good-once limits h M N (Ended (Refused f)) g m = absurd (fault_is_bad limits h f m.0 (g.conversation, g.client_rest, g.server_rest, g.good))
-good-once limits h M N (Ended _) g m = order-once limits h m.0 g.conversation m.1 m.2 g.client_rest g.server_rest N M m.3 m.4 g.good g.order
-good-once limits h M N (Broken d) g m = order-once limits h m.conversation g.conversation m.client_rest m.server_rest g.client_rest g.server_rest N M m.good m.order g.good g.order
+good-once limits h M N (Ended _) g m = order-once limits h N M (good-all limits h N m) g
+good-once limits h M N (Broken d) g m = order-once limits h N M m g
 
 pub outcome-good : (limits : Limits) (r : Recording) (M N : List Message) (s : Summary) → IsGoodWith (limits_of limits r) (history_of r) M → IsOutcome limits r N s → N ≡ M
 outcome-good limits r M N s g o = good-once (limits_of limits r) (history_of r) M N s g o.messages_are

@@ -1,6 +1,7 @@
 -- What a piece that is whole at the front of a block comes to, once a talk has begun.
 use Rattle.std.proofs.Common.{◌≡◌, ℕ, ◌+◌, ◌-◌, ◌≤◌, List, ◌++◌, take, drop, Option, Some, None, refl, sym, ap, ◌∙◌, subst, append_assoc, append-nil, arith}
 use Rattle.std.proofs.Math.Seq.{take-add}
+use Rattle.std.proofs.lemmas.Option.{none-some}
 use Rattle.zk_talk.specs.declared.limits.Limits.{Limits}
 use Rattle.zk_talk.specs.Held.{Message}
 use Rattle.zk_talk.specs.declared.message.Fault.{Fault}
@@ -18,8 +19,7 @@ use Rattle.zk_recordings.specs.Recording.{Spells, history_of, limits_of}
 use Rattle.zk_recordings.specs.Reading.{IsAt, ReadsOn}
 use Rattle.zk_listings.specs.Following.{Follows, Talks, Takes, Decides, Advances, Steps, ended_by}
 use Rattle.zk_listings.proofs.Stops.{decides-by_fault}
-use Rattle.zk_listings.proofs.Decided.{broken-by}
-use Rattle.zk_listings.proofs.Talking.{Given, given, gives-by, goes-headed, goes-history, none-some}
+use Rattle.zk_listings.proofs.Talking.{Given, given, gives-by, goes-headed, goes-history}
 
 module _ (listing : Listing) (p : Progress) (t u : TalkState) (lines lines_now block : List ℕ) (head used : ℕ) (side : Side) (state : ReaderState) (refused : Option Fault)
     (begun : p.talk ≡ Some t)
@@ -52,7 +52,7 @@ module _ (listing : Listing) (p : Progress) (t u : TalkState) (lines lines_now b
     comes other e =
         let now = limits_of limits second.new in
         given limits now first.new second.new content listing lines lines_now messages other (Some side) (Some t) (Some u) second.goes_on (λ _. refl) talks
-        (gives-by now listing (Some t) t u lines lines_now (on side content) other refl same (subst (λ z. Takes listing t lines (on side content) z u lines_now) e takes)) (λ none. none-some side _ none)
+        (gives-by now listing (Some t) t u lines lines_now (on side content) other refl same (subst (λ z. Takes listing t lines (on side content) z u lines_now) e takes)) (λ none. absurd (none-some side (sym none)))
 
     spells : Spells (x ++ take used block) second.new
     spells = subst (λ l. Spells l second.new) (joined x) second.is.spells
@@ -76,7 +76,7 @@ module _ (listing : Listing) (p : Progress) (t u : TalkState) (lines lines_now b
           options = options ∙ i.options;
           recording = r.new;
           at = subst (λ s. IsAt s (x ++ take used block) r.new) (sym reader) at';
-          unbroken = λ b. reads.still _ r.new b.damage at' (broken-by r.new _ b (spells limits x messages i));
+          unbroken = λ b. reads.still _ r.new b.0 at' b.1;
           talks = subst (Talks limits r.new (messages ++ g.0)) (sym talk_is) g.1;
         },
         g.2,

@@ -1,25 +1,22 @@
 -- What a run of reads comes to, whose last bytes aren't given to the talk yet.
-use Rattle.std.proofs.Common.{◌≡◌, ℕ, ◌+◌, ◌<◌, ◌≤◌, ◌^◌, List, [], ◌++◌, length, Option, None, Some, refl, subst, arith, length-append}
+use Rattle.std.proofs.Common.{◌≡◌, ℕ, ◌+◌, ◌<◌, ◌≤◌, ◌^◌, List, [], ◌++◌, length, Option, None, Some, subst, arith, length-append}
 use Rattle.std.specs.Io.KnownBytes.{Appends, Consumes}
 use Rattle.zk_talk.specs.declared.limits.Limits.{Limits}
 use Rattle.zk_talk.specs.Held.{Message}
-use Rattle.zk_talk.specs.Stands.{TalkState}
-use Rattle.zk_recordings.specs.Recording.{place_of}
 use Rattle.zk_listings.specs.declared.listing.Listing.{Listing}
 use Rattle.zk_listings.specs.declared.progress.Progress.{Progress}
 use Rattle.zk_listings.specs.declared.summary.Summary.{Summary}
 use Rattle.zk_listings.specs.Lines.{text_of}
-use Rattle.zk_listings.specs.Following.{IsHeadedBy, Opens}
+use Rattle.zk_listings.specs.Following.{Opens}
 use Rattle.zk_listings.specs.Gathered.{SideBytes}
 use Rattle.zk_listings.specs.Gathering.{AdvancesBut, ReachesBut}
 use Rattle.zk_listings.specs.Outcome.{HasGrownIn}
 use Rattle.zk_listings.specs.Running.{HasBegunLines, HasFoundBy, HasReached}
 use Rattle.zk_listings.proofs.Bytes.{Consumes-none, Consumes-then}
 use Rattle.zk_listings.proofs.Feeding.{grown-more, grown-whole, told-more}
-use Rattle.zk_listings.proofs.Found.{begun-by, found-decided, running}
-use Rattle.zk_listings.proofs.Gathering.{but-follows, good-here-but}
-use Rattle.zk_listings.proofs.Runs.{none-begun}
-use Rattle.zk_listings.proofs.Opened.{opens-decided, opens-later, opens-longer, opens-whole}
+use Rattle.zk_listings.proofs.Found.{found-decided, running}
+use Rattle.zk_listings.proofs.Gathering.{good-here-but}
+use Rattle.zk_listings.proofs.Opened.{opens-finished, opens-later, opens-whole}
 
 -- some bytes were read, at most so many, which come to this, and the lines of their messages were written
 pub record HasRead (g : SideBytes) (limits : Limits) (listing : Listing) (p : Progress) (found : Option Summary) (unread unread_now contents contents_now : Option (List ℕ)) (most : ℕ) : Type 0 where
@@ -38,7 +35,7 @@ found-read g limits listing p found unread unread_now contents contents_now most
 
 opens-reached : (g : SideBytes) (limits : Limits) (x : List ℕ) (messages : List Message) (p : Progress) (found : Option Summary) → length x < 2 ^ 62 → ReachesBut g limits x messages p found → Opens limits x messages
 opens-reached g limits x messages p None size i = opens-whole limits x messages i.recording i.at.spells (good-here-but g limits x messages p i size)
-opens-reached g limits x messages p (Some summary) size i = opens-decided limits x messages p.talk summary i
+opens-reached g limits x messages p (Some summary) size i = opens-finished limits x messages p.talk summary i.finishes
 
 -- it isn't
 module _ (g : SideBytes) (limits : Limits) (listing : Listing) (p : Progress) (unread unread_now contents contents_now : Option (List ℕ)) (most : ℕ)
@@ -55,18 +52,17 @@ module _ (g : SideBytes) (limits : Limits) (listing : Listing) (p : Progress) (u
   }
 
   opens-but : (more : List ℕ) → Opens limits (r.bytes ++ more) r.messages
-  opens-but more = go p.talk refl where
-    go : (talk : Option TalkState) → p.talk ≡ talk → Opens limits (r.bytes ++ more) r.messages
-    go None e = opens-later limits r.bytes more r.messages p (but-follows g limits r.bytes r.messages p (none-begun g p e limits r.bytes r.messages r.reaches) r.reaches)
-    go (Some t) e =
-        opens-longer limits r.bytes more r.messages r.reaches.recording r.reaches.at.spells (subst (λ z. IsHeadedBy z (place_of r.reaches.recording)) e r.reaches.headed)
-        (good-here-but g limits r.bytes r.messages p r.reaches size)
+  opens-but more =
+      let f = r.reaches in
+      opens-later limits r.bytes more r.messages f.recording p.talk f.has.0 f.at.spells f.headed f.has.2 (good-here-but g limits r.bytes r.messages p f size)
 
   -- more bytes were read, and none of them counts
   pub begun-more : (after : Option (List ℕ)) (more : List ℕ) → Consumes unread_now after more → HasBegunLines limits listing unread after contents contents_now
   begun-more after more consumed = record {
     messages = r.messages;
-    begun = begun-by limits unread after (r.bytes ++ more) r.messages (Consumes-then unread unread_now after r.bytes more r.consumed consumed) (opens-but more);
+    bytes = r.bytes ++ more;
+    consumed = Consumes-then unread unread_now after r.bytes more r.consumed consumed;
+    opens = opens-but more;
     written = grown-whole contents contents_now _ r.written;
   }
 
@@ -86,8 +82,9 @@ module _ (g : SideBytes) (limits : Limits) (listing : Listing) (p : Progress) (u
     pub begun-further : HasGrownIn contents_now later slice → HasBegunLines limits listing unread after contents later
     begun-further grown = record {
       messages = r.messages ++ come.0;
-      begun = begun-by limits unread after (r.bytes ++ bytes) (r.messages ++ come.0) all-consumed
-          (opens-reached now limits (r.bytes ++ bytes) (r.messages ++ come.0) new found (omega (arith, small, r.size, short, length-append r.bytes bytes)) come.1);
+      bytes = r.bytes ++ bytes;
+      consumed = all-consumed;
+      opens = opens-reached now limits (r.bytes ++ bytes) (r.messages ++ come.0) new found (omega (arith, small, r.size, short, length-append r.bytes bytes)) come.1;
       written = grown-more listing contents contents_now later r.messages come.0 slice lines_now lines is come.2 empty r.written grown;
     }
 

@@ -1,7 +1,8 @@
 -- What a block does to a recording whose last bytes may be gathered.
-use Rattle.std.proofs.Common.{◌≡◌, ℕ, ◌≤◌, ◌<◌, ◌^◌, List, [], ◌++◌, length, take, Option, None, Some, Result, Ok, Err, IfOk, refl, sym, ap, ◌∙◌, subst, append_assoc, append-nil, arith, length-append}
+use Rattle.std.proofs.Common.{◌≡◌, ℕ, ◌≤◌, ◌<◌, ◌^◌, List, [], ◌++◌, length, take, Option, None, Some, refl, sym, ap, ◌∙◌, subst, append_assoc, append-nil, arith, length-append}
 use Rattle.std.proofs.Math.Seq.{take-length}
 use Rattle.std.proofs.lemmas.List.{length-take-le}
+use Rattle.std.proofs.lemmas.Option.{none-some}
 use Rattle.zk_talk.specs.declared.limits.Limits.{Limits}
 use Rattle.zk_talk.specs.declared.message.Fault.{Fault}
 use Rattle.zk_talk.specs.declared.message.Side.{Side}
@@ -20,11 +21,10 @@ use Rattle.zk_listings.specs.Following.{IsHeadedBy, IsLastingSummary, Steps, Tak
 use Rattle.zk_listings.specs.Gathered.{SideBytes}
 use Rattle.zk_listings.specs.Gathering.{AdvancesBut, FollowsBut, Gathers, GathersIn, HasAllBut, HasAllButOr, IsGathered, ReachesBut, StepsBut}
 use Rattle.zk_listings.specs.Outcome.{IsBroken}
-use Rattle.zk_listings.proofs.Decided.{broken-by}
 use Rattle.zk_listings.proofs.Feeding.{listed-none, listed-then}
 use Rattle.zk_listings.proofs.Stops.{decides-by_damage, decides-by_fault}
-use Rattle.zk_listings.proofs.Talking.{goes-headed, goes-history, headed-by, none-some}
-use Rattle.zk_listings.proofs.Gathering.{append-gathers, but-follows, follows-but, gathers-in, given-all, good-but, history-within}
+use Rattle.zk_listings.proofs.Talking.{goes-headed, goes-history, headed-by}
+use Rattle.zk_listings.proofs.Gathering.{append-gathers, but-follows, follows-but, given-all, good-but, history-within}
 
 -- ---- one block after another
 
@@ -43,17 +43,6 @@ steps-but g listing p now lines lines_now block used None none steps = λ limits
     (r.0, follows-but g limits (x ++ take used block) (messages ++ r.0) now e r.1, r.2)
 steps-but g listing p now lines lines_now block used (Some summary) none steps = λ limits x messages i size.
     steps limits x messages (but-follows g limits x messages p (none limits x messages i) i)
-
-pub steps-but-ok : {E : Type 0} (g : SideBytes) (listing : Listing) (p now : Progress) (lines lines_now block : List ℕ) (found : Option Summary) (result : Result ℕ E) → IsNoneBut g p →
-    IfOk result (λ used. Steps listing p lines block used found now lines_now) → IfOk result (λ used. StepsBut g listing p lines block used found g now lines_now)
-steps-but-ok g listing p now lines lines_now block found (Ok used) none steps = steps-but g listing p now lines lines_now block used found none steps
-steps-but-ok g listing p now lines lines_now block found (Err e) none steps = tt
-
--- whatever lines came before
-pub lines-ok : {E : Type 0} (g now : SideBytes) (listing : Listing) (p new : Progress) (lines block : List ℕ) (found : Option Summary) (result : Result ℕ E) → listing ≡ Last →
-    IfOk result (λ used. (lines : List ℕ) → StepsBut g Last p lines block used found now new lines) → IfOk result (λ used. StepsBut g listing p lines block used found now new lines)
-lines-ok g now listing p new lines block found (Ok used) e steps = subst (λ l. StepsBut g l p lines block used found now new lines) (sym e) (steps lines)
-lines-ok g now listing p new lines block found (Err e) is steps = tt
 
 pub advances-but-none : (g : SideBytes) (listing : Listing) (p : Progress) (lines : List ℕ) → AdvancesBut g listing p lines [] None g p lines
 advances-but-none g listing p lines limits x messages i size =
@@ -120,7 +109,7 @@ module _ (g now : SideBytes) (p p' : Progress) (lines block : List ℕ) (used : 
           options = options ∙ i.options;
           recording = r.new;
           at = r.is;
-          unbroken = λ b. undamaged _ r.new b.damage r.is (broken-by r.new _ b r.is.spells);
+          unbroken = λ b. undamaged _ r.new b.0 r.is b.1;
           headed = headed-by p'.talk (place_of r.new) c.1;
           has = c.2.0;
           gathered = c.2.1;
@@ -147,13 +136,13 @@ module _ (before now : SideBytes) (p : Progress) (state : ReaderState) (t u : Ta
   within =
       let all = append-gathers now_limits t u before now bytes refused gathers in
       subst (λ b. GathersIn now_limits p.talk before (on before.side b) refused (Some u) now) (sym (take-length bytes))
-      (subst (λ z. GathersIn now_limits z before (on before.side bytes) refused (Some u) now) (sym talk) (gathers-in now_limits t u before now (on before.side bytes) refused all))
+      (subst (λ z. GathersIn now_limits z before (on before.side bytes) refused (Some u) now) (sym talk) (λ h messages i _. all h messages i))
 
   reads-all : (x : List ℕ) (r : Recording) → IsAt p.reader x r → ReadsOn state x r (take (length bytes) bytes) (Some before.side)
   reads-all x r i = subst (λ b. ReadsOn state x r b (Some before.side)) (sym (take-length bytes)) (reads x r i)
 
   pub read-advances : (lines : List ℕ) → AdvancesBut before Last p lines bytes (ended_by refused) now after-read lines
-  read-advances lines = advances (ended_by refused) (run-lasting before now p after-read lines bytes (length bytes) (Some before.side) now_limits refused (λ e. none-some t _ (sym talk ∙ e)) (omega arith) refl reads-all limits_are within refused
+  read-advances lines = advances (ended_by refused) (run-lasting before now p after-read lines bytes (length bytes) (Some before.side) now_limits refused (λ e. none-some t (sym e ∙ talk)) (omega arith) refl reads-all limits_are within refused
       (ended_by refused) refl (lasting-by state refused still)) where
         advances : (found : Option Summary) → StepsBut before Last p lines bytes (length bytes) found now after-read lines → AdvancesBut before Last p lines bytes found now after-read lines
         advances None steps = subst (λ b. AdvancesBut before Last p lines b None now after-read lines) (take-length bytes) steps
@@ -189,9 +178,8 @@ module _ (g now : SideBytes) (p : Progress) (t u : TalkState) (refused : Option 
 
 -- where nothing is gathered
 pub none-on : (g now : SideBytes) (listing : Listing) (p : Progress) (lines : List ℕ) → IsNoneBut g p → now.bytes ≡ [] → AdvancesBut g listing p lines [] None now p lines
-none-on g now listing p lines none empty limits x messages i size =
-    let all = follows-but now limits x messages p empty (but-follows g limits x messages p (none limits x messages i) i) in
-    ([], subst (λ m. FollowsBut now limits (x ++ []) m p) (sym (append-nil messages)) (subst (λ y. FollowsBut now limits y messages p) (sym (append-nil x)) all), listed-none listing lines)
+none-on g now listing p lines none empty limits x messages i =
+    advances-but-none now listing p lines limits x messages (follows-but now limits x messages p empty (but-follows g limits x messages p (none limits x messages i) i))
 
 -- where lines are listed nothing is gathered
 pub last-only : (listing : Listing) → (listing ≡ All → ⊥) → Last ≡ listing

@@ -12,7 +12,6 @@ use Rattle.zk_recordings.specs.Recording.{Recording, place_of, history_of, limit
 use Rattle.zk_recordings.specs.Reading.{IsAt, IsHeaded, ReadsOn, content_of}
 use Rattle.zk_listings.specs.Following.{Follows, IsLastingSummary, Steps, TakesContent}
 use Rattle.zk_listings.proofs.Stops.{decides-by_fault, decides-by_damage}
-use Rattle.zk_listings.proofs.Decided.{broken-by}
 use Rattle.zk_listings.proofs.Talking.{Given, given, has-good}
 
 module _ (listing : Listing) (p now : Progress) (lines lines_now block : List ℕ) (used : ℕ) (side : Option Side) (now_limits : Limits) (refused : Option Fault)
@@ -44,6 +43,6 @@ module _ (listing : Listing) (p now : Progress) (lines lines_now block : List �
       let r = reads x i.recording i.at in
       let g = comes limits x messages i None e in (
         g.0,
-        record { options = options ∙ i.options; recording = r.new; at = r.is; unbroken = λ b. undamaged _ r.new b.damage r.is (broken-by r.new _ b r.is.spells); talks = g.1 },
+        record { options = options ∙ i.options; recording = r.new; at = r.is; unbroken = λ b. undamaged _ r.new b.0 r.is b.1; talks = g.1 },
         g.2,
       )

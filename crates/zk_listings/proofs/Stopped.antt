@@ -6,13 +6,14 @@ use Rattle.std.proofs.lemmas.List.{take_all, take-append-le}
 use Rattle.std.proofs.Math.Seq.{take-append_seam}
 use Rattle.zk_talk.specs.declared.limits.Limits.{Limits}
 use Rattle.zk_talk.specs.Held.{Message}
+use Rattle.zk_talk.specs.Stands.{TalkState}
 use Rattle.zk_listings.specs.declared.listing.Listing.{Listing}
 use Rattle.zk_listings.specs.declared.summary.Summary.{Summary}
 use Rattle.zk_listings.specs.Lines.{text_of, last_line}
-use Rattle.zk_listings.specs.Outcome.{IsOutcome, IsFound, HasBegun, HasGrownIn}
-use Rattle.zk_listings.specs.Running.{HasFound, HasStopped, in_messages, in_last_line}
+use Rattle.zk_listings.specs.Outcome.{IsOutcome, IsFound, HasGrownIn}
+use Rattle.zk_listings.specs.Running.{HasBegunLines, HasFoundBy, HasStopped, in_messages, in_last_line}
 use Rattle.zk_listings.proofs.Feeding.{text_of-append}
-use Rattle.zk_listings.proofs.Found.{grown-front}
+use Rattle.zk_listings.proofs.Found.{grown-front, reads}
 use Rattle.zk_listings.proofs.Outcomes.{outcome-first}
 
 -- a front of a text is a front of whatever begins with it
@@ -23,26 +24,26 @@ grown-in old new text more p = go (cases_lt p.0 (length text))
     go (inl less) = (p.0, subst (Appends old new) (sym (take-append-le p.0 text more (omega (arith, less)))) p.1)
     go (inr all) = (length text, subst (Appends old new) (take_all p.0 text all ∙ sym (take-append_seam text more)) p.1)
 
-module _ (limits : Limits) (listing : Listing) (unread unread_now contents contents_now : Option (List ℕ)) (messages : List Message) where
-  pub stopped-in_messages : HasBegun limits unread unread_now messages → HasGrownIn contents contents_now (text_of listing messages) → HasStopped limits listing unread unread_now contents contents_now
-  stopped-in_messages b p = record {
+module _ (limits : Limits) (listing : Listing) (unread unread_now contents contents_now : Option (List ℕ)) where
+  pub stopped-in_messages : HasBegunLines limits listing unread unread_now contents contents_now → HasStopped limits listing unread unread_now contents contents_now
+  stopped-in_messages b = record {
     bytes = b.bytes;
-    recording = b.recording;
-    reads = b.reads;
+    recording = b.opens.recording;
+    reads = reads unread unread_now b.bytes b.opens.recording b.consumed b.opens.spells;
     fronts = fronts;
-    written = in_messages messages b.front b.rest b.splits b.good p;
+    written = in_messages b.messages b.opens.front b.opens.rest b.opens.splits b.opens.good b.written;
   }
     where
-      fronts : (all : List Message) (summary : Summary) → IsOutcome limits b.recording all summary → HasGrownIn contents contents_now (text_of listing all ++ last_line summary)
+      fronts : (all : List Message) (summary : Summary) → IsOutcome limits b.opens.recording all summary → HasGrownIn contents contents_now (text_of listing all ++ last_line summary)
       fronts all summary o =
-          let f = outcome-first limits b.recording b.front b.rest messages all summary b.splits b.good o in
-          let text : text_of listing messages ++ (text_of listing f.0 ++ last_line summary) ≡ text_of listing all ++ last_line summary =
-          sym (append_assoc (text_of listing messages) (text_of listing f.0) (last_line summary)) ∙ ap (λ l. l ++ last_line summary) (sym (text_of-append listing messages f.0) ∙ ap (text_of listing) (sym f.1)) in
-          subst (HasGrownIn contents contents_now) text (grown-in contents contents_now (text_of listing messages) (text_of listing f.0 ++ last_line summary) p)
+          let f = outcome-first limits b.opens.recording b.opens.front b.opens.rest b.messages all summary b.opens.splits b.opens.good o in
+          let text : text_of listing b.messages ++ (text_of listing f.0 ++ last_line summary) ≡ text_of listing all ++ last_line summary =
+          sym (append_assoc (text_of listing b.messages) (text_of listing f.0) (last_line summary)) ∙ ap (λ l. l ++ last_line summary) (sym (text_of-append listing b.messages f.0) ∙ ap (text_of listing) (sym f.1)) in
+          subst (HasGrownIn contents contents_now) text (grown-in contents contents_now (text_of listing b.messages) (text_of listing f.0 ++ last_line summary) b.written)
 
-  pub stopped-in_last_line : (summary : Summary) → IsFound limits unread unread_now messages summary → HasGrownIn contents contents_now (text_of listing messages ++ last_line summary) →
+  pub stopped-in_last_line : (messages : List Message) (summary : Summary) → IsFound limits unread unread_now messages summary → HasGrownIn contents contents_now (text_of listing messages ++ last_line summary) →
       HasStopped limits listing unread unread_now contents contents_now
-  stopped-in_last_line summary f p = record {
+  stopped-in_last_line messages summary f p = record {
     bytes = f.bytes;
     recording = f.recording;
     reads = f.reads;
@@ -52,8 +53,7 @@ module _ (limits : Limits) (listing : Listing) (unread unread_now contents conte
     written = in_last_line messages summary f.is f.enough p;
   }
 
--- nothing of the last line was written
-pub stopped-before_last_line : (limits : Limits) (listing : Listing) (unread unread_now contents contents_now : Option (List ℕ)) (summary : Summary) → HasFound limits listing unread unread_now contents contents_now summary →
-    HasStopped limits listing unread unread_now contents contents_now
-stopped-before_last_line limits listing unread unread_now contents contents_now summary f =
-    stopped-in_last_line limits listing unread unread_now contents contents_now f.messages summary f.found (grown-front contents contents_now _ _ f.written)
+  -- nothing of the last line was written
+  pub stopped-before_last_line : (talk : Option TalkState) (summary : Summary) → HasFoundBy limits listing unread unread_now contents contents_now talk summary →
+      HasStopped limits listing unread unread_now contents contents_now
+  stopped-before_last_line talk summary f = stopped-in_last_line f.messages summary f.found (grown-front contents contents_now _ _ f.written)

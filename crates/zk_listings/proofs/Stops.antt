@@ -40,11 +40,13 @@ decides-by_fault limits x block n r messages (Some t) f i is has =
     let here = subst (λ k. IsFaultOf (limits_of limits l.new) k f × AreMessages (limits_of limits l.new) k messages (Refused f)) (sym l.history)
     (subst (λ z. IsFaultOf z (history_of r ++ l.after) f × AreMessages z (history_of r ++ l.after) messages (Refused f)) e both) in
     record {
-      recording = l.new;
-      spells = subst (λ y. Spells y l.new) (rejoined x block n) l.spells;
-      is = record { comes_to = here.0; messages_are = here.1 };
+      finishes = record {
+        recording = l.new;
+        spells = subst (λ y. Spells y l.new) (rejoined x block n) l.spells;
+        is = record { comes_to = here.0; messages_are = here.1 };
+        kept = (subst (λ k. Refuses t k messages f) (sym l.history) (refuses_more t (history_of r) l.after messages f has.0), e);
+      };
       decided = inl (f, here.0);
-      kept = (subst (λ k. Refuses t k messages f) (sym l.history) (refuses_more t (history_of r) l.after messages f has.0), e);
     }
 
 -- a damage other than the end stands whatever follows it
@@ -56,11 +58,13 @@ decides-by_damage limits x block n r messages talk d s i good =
     let here = subst (λ z. IsGoodWith z (history_of m.0) messages) (ap (limits_at limits) (sym m.3)) (subst (λ h. IsGoodWith (limits_of limits r) h messages) history good) in
     let j = subst (λ y. IsDecidedBy d y m.0) (rejoined x block n) m.2 in
     record {
-      recording = m.0;
-      spells = subst (λ y. Spells y m.0) (rejoined x block n) m.1;
-      is = record { comes_to = (no-fault (limits_of limits m.0) (history_of m.0) messages here, j.damage); messages_are = here };
-      decided = inr (record { damage = d; is = j.damage; decided = j.decided; head_read = j.head_read });
-      kept = tt;
+      finishes = record {
+        recording = m.0;
+        spells = subst (λ y. Spells y m.0) (rejoined x block n) m.1;
+        is = record { comes_to = (no-fault (limits_of limits m.0) (history_of m.0) messages here, j.damage); messages_are = here };
+        kept = tt;
+      };
+      decided = inr (d, j);
     }
 
 comes-to_end : (limits : Limits) (h : History) (ending : Ending) → IsEnding limits h ending → ComesTo limits h None (Ended ending)

@@ -31,8 +31,8 @@ pub found-with : (talk : Option TalkState) (body : Option (Layout × Bor (List �
     (limits : Limits) (listing : Listing) (unread unread_now contents contents_now : Option (List ℕ)) (summary : Summary) (tail : List ℕ) →
     HasFoundBy limits listing unread unread_now contents contents_now talk summary → IsToldOf summary body tail → IsFoundWith limits unread unread_now summary tail
 found-with talk body told limits listing unread unread_now contents contents_now summary tail f is =
-    let r = f.all.found.recording in
+    let r = f.found.recording in
     let l = limits_of limits r in
     let h = history_of r in
-    let messages = f.all.messages in
-    record { messages = messages; found = f.all.found; is = told-tail l h summary body tail (λ fault e. told l h messages fault (subst (IsKept l talk h messages) e f.kept)) is }
+    let messages = f.messages in
+    record { messages = messages; found = f.found; is = told-tail l h summary body tail (λ fault e. told l h messages fault (subst (IsKept l talk h messages) e f.kept)) is }

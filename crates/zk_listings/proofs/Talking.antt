@@ -1,6 +1,7 @@
 -- A recording that grows, and the talk that its content is given to.
 use Rattle.std.proofs.Common.{◌≡◌, ℕ, List, [], ◌∷◌, ◌++◌, Option, None, Some, MatchOption, refl, sym, ap, ◌∙◌, subst, append_assoc, append-nil}
 use Rattle.std.specs.List.{flat_map}
+use Rattle.std.proofs.lemmas.Option.{none-some}
 use Rattle.zk_talk.specs.declared.limits.Limits.{Limits}
 use Rattle.zk_talk.specs.Held.{Message}
 use Rattle.zk_talk.specs.declared.message.Fault.{Fault}
@@ -52,11 +53,8 @@ goes-headed r new used side (ends head pieces piece p n b h) is = record {
   limits_are = λ options. ap (limits_of options) n ∙ ap (limits_at options) (sym p);
 }
 
-pub none-some : {A : Type 0} (x : A) (B : Type 0) → Some x ≡ None → B
-none-some x B e = cc
-
 pub goes-content : (r new : Recording) (used : List ℕ) (side : Side) → GoesOn r used (Some side) new → IsHeaded (place_of new)
-goes-content r new used side (in_head none bare b h s) = none-some side _ s
+goes-content r new used side (in_head none bare b h s) = absurd (none-some side (sym s))
 goes-content r new used side (within p b h m) = subst IsHeaded (sym p) m
 goes-content r new used side (ends head pieces piece p n b h) = subst (λ z. IsHeaded (place_of z)) (sym n) tt
 
@@ -112,7 +110,7 @@ talks-none : (options now : Limits) (r new : Recording) (used : List ℕ) (messa
     HasOr now talk refused (history_of r ++ []) messages → TalksOr options new messages talk refused
 talks-none options now r new used messages None None e goes has = record { headed = tt; has = (goes-history r new used None goes ∙ has.0, has.1) }
 talks-none options now r new used messages None (Some fault) e goes has = absurd has
-talks-none options now r new used messages (Some talk) _ e goes has = none-some talk _ e
+talks-none options now r new used messages (Some talk) _ e goes has = absurd (none-some talk (sym e))
 
 module _ (options now : Limits) (r new : Recording) (used : List ℕ) (listing : Listing) (lines lines_now : List ℕ) (messages : List Message) (refused : Option Fault) where
   -- the lines of more messages, and what stands then

@@ -57,11 +57,8 @@ pub record Finishes (limits : Limits) (x : List ℕ) (messages : List Message) (
 
 -- these bytes are a recording with this summary, which stays whatever follows
 pub record Decides (limits : Limits) (x : List ℕ) (messages : List Message) (talk : Option TalkState) (summary : Summary) : Type 0 where
-  pub recording : Recording
-  pub spells : Spells x recording
-  pub is : IsOutcome limits recording messages summary
-  pub decided : IsDecided limits x recording
-  pub kept : IsKept (limits_of limits recording) talk (history_of recording) messages summary
+  pub finishes : Finishes limits x messages talk summary
+  pub decided : IsDecided limits x finishes.recording
 
 -- these bytes are a recording that begins with these messages
 pub record Opens (limits : Limits) (x : List ℕ) (messages : List Message) : Type 0 where

@@ -1,5 +1,5 @@
 -- The summary of a recording: the fault of its history if there is one, else its damage, else its history's ending.
-use Rattle.std.specs.Prelude.{◌≡◌, ◌≢◌, ℕ, ◌≤◌, ◌⊎◌, List, ◌++◌, length, take, Option, None, Some}
+use Rattle.std.specs.Prelude.{◌≡◌, ℕ, ◌⊎◌, List, take, Option, None, Some}
 use Rattle.std.specs.Io.KnownBytes.{Consumes, IsAtEnd, Appends}
 use Rattle.zk_talk.specs.declared.limits.Limits.{Limits}
 use Rattle.zk_talk.specs.Held.{Message}
@@ -12,10 +12,10 @@ use Rattle.zk_talk.specs.Fault.{IsFaultOf}
 use Rattle.zk_talk.specs.Ending.{IsEnding}
 use Rattle.zk_talk.specs.Answer.{AreMessages}
 use Rattle.zk_recordings.specs.declared.parts.DamageAt.{DamageAt}
-use Rattle.zk_recordings.specs.declared.parts.Damage.TheVariants.{Short}
 use Rattle.zk_listings.specs.declared.summary.Summary.{Summary}
 use Rattle.zk_listings.specs.declared.summary.Summary.TheVariants.{Ended, Broken}
 use Rattle.zk_recordings.specs.Recording.{Recording, Spells, history_of, limits_of, damage_of}
+use Rattle.zk_recordings.specs.Reading.{IsDecidedBy}
 
 abbrev pub HasNoFault : Limits → History → Type 0
 HasNoFault limits h = (fault : Fault) → IsFaultOf limits h fault → ⊥
@@ -45,11 +45,8 @@ pub record IsOutcome (limits : Limits) (r : Recording) (messages : List Message)
   pub messages_are : HasMessages (limits_of limits r) (history_of r) messages summary
 
 -- a damage that stays, whatever follows
-pub record IsBroken (x : List ℕ) (r : Recording) : Type 0 where
-  pub damage : DamageAt
-  pub is : damage_of r ≡ Some damage
-  pub decided : damage.reason ≢ Short
-  pub head_read : 4 ≤ length x
+abbrev pub IsBroken : List ℕ → Recording → Type 0
+IsBroken x r = (damage : DamageAt) × IsDecidedBy damage x r
 
 -- whatever follows, the recording keeps its fault or its damage
 abbrev pub IsDecided : Limits → List ℕ → Recording → Type 0
@@ -82,16 +79,6 @@ pub record IsRunning (limits : Limits) (before after : Option (List ℕ)) (messa
   pub unbroken : IsBroken bytes recording → ⊥
   pub good : IsGoodWith (limits_of limits recording) (history_of recording) messages
   pub only : (others : List Message) (summary : Summary) → IsOutcome limits recording others summary → others ≡ messages
-
--- what was read begins with these messages
-pub record HasBegun (limits : Limits) (before after : Option (List ℕ)) (messages : List Message) : Type 0 where
-  pub bytes : List ℕ
-  pub recording : Recording
-  pub reads : Reads before after bytes recording
-  pub front : History
-  pub rest : History
-  pub splits : history_of recording ≡ front ++ rest
-  pub good : IsGoodWith (limits_of limits recording) front messages
 
 -- a writer's contents have grown by a front of the text
 abbrev pub HasGrownIn : Option (List ℕ) → Option (List ℕ) → List ℕ → Type 0

@@ -1,6 +1,6 @@
 -- What a run has read and written when it returns.
 use Rattle.std.specs.Prelude.{◌≡◌, ℕ, ◌+◌, ◌^◌, ◌<◌, ◌≤◌, ◌⊎◌, List, ◌++◌, Bool, true, false, Option, Result, IfOk, IsErrOf}
-use Rattle.std.specs.Io.KnownBytes.{IsAtEnd, Appends}
+use Rattle.std.specs.Io.KnownBytes.{IsAtEnd, Appends, Consumes}
 use Rattle.zk_talk.specs.declared.limits.Limits.{Limits}
 use Rattle.zk_talk.specs.Held.{Message}
 use Rattle.zk_talk.specs.History.{History}
@@ -13,8 +13,8 @@ use Rattle.zk_listings.specs.declared.summary.Summary.{Summary}
 use Rattle.zk_listings.specs.declared.summary.Status.{Status}
 use Rattle.zk_listings.specs.Lines.{text_of, last_line, status_of}
 use Rattle.zk_recordings.specs.Recording.{Recording, history_of, limits_of}
-use Rattle.zk_listings.specs.Following.{IsKept}
-use Rattle.zk_listings.specs.Outcome.{Reads, IsGoodWith, IsOutcome, IsDecided, IsFound, IsRunning, HasBegun, HasGrownIn}
+use Rattle.zk_listings.specs.Following.{IsKept, Opens}
+use Rattle.zk_listings.specs.Outcome.{Reads, IsGoodWith, IsOutcome, IsDecided, IsFound, IsRunning, HasGrownIn}
 
 -- the reader failed, or was read as often as a run may
 abbrev pub IsSpent : Bool → ℕ → ℕ → Type 0
@@ -42,17 +42,13 @@ pub record LeavesDevices {X : Type 0} (result : Result X RunFault) (reads reads_
 abbrev pub OnRead : {X : Type 0} → Result X RunFault → Type 0 → Type 0
 OnRead result P = IsErrOf result Read → P
 
--- the lines of all messages in what was read were written, and it has this summary
-pub record HasFound (limits : Limits) (listing : Listing) (unread unread_now contents contents_now : Option (List ℕ)) (summary : Summary) : Type 0 where
-  pub messages : List Message
-  pub found : IsFound limits unread unread_now messages summary
-  pub written : Appends contents contents_now (text_of listing messages)
-
 -- the lines of all messages in what was read were written, it has this summary, and if it is refused, the talk has refused it
 pub record HasFoundBy (limits : Limits) (listing : Listing) (unread unread_now contents contents_now : Option (List ℕ))
     (talk : Option TalkState) (summary : Summary) : Type 0 where
-  pub all : HasFound limits listing unread unread_now contents contents_now summary
-  pub kept : IsKept (limits_of limits all.found.recording) talk (history_of all.found.recording) all.messages summary
+  pub messages : List Message
+  pub found : IsFound limits unread unread_now messages summary
+  pub written : Appends contents contents_now (text_of listing messages)
+  pub kept : IsKept (limits_of limits found.recording) talk (history_of found.recording) messages summary
 
 -- the same, of the summary and the progress that a run returns
 abbrev pub HasFoundWith : Limits → Listing → Option (List ℕ) → Option (List ℕ) → Option (List ℕ) → Option (List ℕ) → Summary × Progress → Type 0
@@ -76,7 +72,9 @@ pub record HasReached (limits : Limits) (listing : Listing) (unread unread_now c
 -- what was read begins with some messages, and a front of their lines was written
 pub record HasBegunLines (limits : Limits) (listing : Listing) (unread unread_now contents contents_now : Option (List ℕ)) : Type 0 where
   pub messages : List Message
-  pub begun : HasBegun limits unread unread_now messages
+  pub bytes : List ℕ
+  pub consumed : Consumes unread unread_now bytes
+  pub opens : Opens limits bytes messages
   pub written : HasGrownIn contents contents_now (text_of listing messages)
 
 -- a front was written of the lines of the first messages of a recording, or of its whole listing

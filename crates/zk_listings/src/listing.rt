@@ -1,7 +1,7 @@
 //! `RunFault`, `Listing`: what a run writes, and why it fails.
 ghost use Rattle.std.specs.Prelude.{◌≡◌, ◌++◌, OnOk};
 ghost use Rattle.std.specs.Option.{option_to_list};
-ghost use Rattle.zk_listings.specs.Lines.{text_of, message_line};
+ghost use Rattle.zk_listings.specs.Lines.{text_of};
 ghost use Rattle.zk_listings.specs.declared.listing.Listing.TheVariants.{All};
 
 use crate::streams::Failed;
@@ -53,20 +53,15 @@ pub enum Listing {
     Last,
 }
 
-/// Appends the line of a message, with its line feed.
-fn put_message(message: &MessageRef<'_>, lines: &mut Vec<u8>) -> Result<(), AllocError>
-    ensures { OnOk result (lines.new.items ≡ lines.old.items ++ message_line message.now) }
-{
-    put_line_ref(lines, message)?;
-    lines.extend_from_slice(b"\n")
-}
-
 /// Appends the line of `message`, with its line feed, if there is one.
 pub fn tell(message: Option<MessageRef<'_>>, lines: &mut Vec<u8>) -> Result<(), AllocError>
     ensures { OnOk result (lines.new.items ≡ lines.old.items ++ text_of All (option_to_list message.entry)) }
 {
     match message {
-        Some(message) => put_message(&message, lines),
+        Some(message) => {
+            put_line_ref(lines, &message)?;
+            lines.extend_from_slice(b"\n")
+        }
         None => Ok(()),
     }
 }

@@ -1,5 +1,5 @@
 //! `Progress`: a recording that is read block by block, and the conversation in it.
-ghost use Rattle.std.specs.Prelude.{◌≡◌, ◌≢◌, ◌+◌, ◌^◌, ◌<◌, ◌≤◌, ◌++◌, ℕ, List, [], Some, None, IfOk, IfSome, length, take, drop};
+ghost use Rattle.std.specs.Prelude.{◌≡◌, ◌≢◌, ◌+◌, ◌^◌, ◌<◌, ◌≤◌, ℕ, List, [], Some, None, IfOk, IfSome, length, take, drop};
 ghost use Rattle.zk_talk.specs.Held.{Message};
 ghost use Rattle.zk_talk.specs.Ending.{IsEnding};
 ghost use Rattle.zk_talk.specs.History.{History, on};
@@ -99,31 +99,7 @@ fn take(
 }
 
 /// `take`; `found` becomes the summary of a fault.
-// A call of its own, so that what `take` returns is made only there.
-#[inline(never)]
-fn take_to(
-    talk: &mut Talk,
-    side: Side,
-    bytes: &[u8],
-    listing: Listing,
-    lines: &mut Vec<u8>,
-    found: &mut Option<Summary>,
-) -> Result<(), AllocError>
-    requires { found.old ≡ None }
-    ensures limits { talk.new.limits ≡ talk.old.limits }
-    ensures taken { IfOk result (λ _. TakesTo listing talk.old lines.old.items (on side bytes.now) found.new talk.new lines.new.items) }
-{
-    match take(talk, side, bytes, listing, lines)? {
-        Some(refused) => {
-            *found = Some(Summary::Ended(Ending::Refused(refused)));
-            Ok(())
-        }
-        None => Ok(()),
-    }
-}
-
-/// `take_to`, whose first frame, where no lines are listed, is passed here.
-// Most pieces are one frame, of which no result in memory is made.
+// Where no lines are listed the first frame is passed here: most pieces are one frame, of which no result in memory is made.
 #[inline(always)]
 fn take_piece(
     talk: &mut Talk,
@@ -138,14 +114,19 @@ fn take_piece(
     ensures taken { IfOk result (λ _. TakesTo listing talk.old lines.old.items (on side bytes.now) found.new talk.new lines.new.items) }
 {
     match listing {
-        Listing::All => take_to(talk, side, bytes, listing, lines, found),
+        Listing::All => {
+            let refused = list(talk, side, bytes, lines)?;
+            *found = ended_by(refused);
+            Ok(())
+        }
         Listing::Last => match talk.pass(side, bytes) {
             Ok(stepped) => {
                 if stepped.used == bytes.len() {
                     return Ok(());
                 }
                 let behind = rest(bytes, stepped.used);
-                take_to(talk, side, behind, listing, lines, found)
+                *found = ended_by(judge(talk, side, behind));
+                Ok(())
             }
             Err(fault) => {
                 *found = Some(Summary::Ended(Ending::Refused(fault)));

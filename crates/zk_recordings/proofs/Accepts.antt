@@ -20,11 +20,8 @@ use Rattle.zk_recordings.specs.HeadLimits.{limits_or, limits_by, profile_by, are
 use Rattle.zk_recordings.specs.Recording.{IsValue, AreValues, spelled, End, Cut, IsBreakIn, IsBreak, Head, First, Second, format_of, IsHead, head_bytes, head_limits, Piece, piece_values, IsTimed, piece_bytes, side_byte, no_time, Place, AtLetters, InHead, InPieces, parts_at, IsPlace, front, Recording, Breaks, Ends, Spells, place_of, behind, nothing}
 use Rattle.zk_recordings.specs.Reading.{chosen, HasHead, HasHeadAt, HasTime, before_size, AtPart, then_at, in_head, within, ReadsOn}
 use Rattle.zk_recordings.proofs.Any.{other-letters}
-use Rattle.zk_recordings.proofs.Stages.{at-side, has-same, to-next, next-bytes, spelled-snoc}
+use Rattle.zk_recordings.proofs.Stages.{cut_in, at-side, has-same, to-next, next-bytes, spelled-snoc}
 use Rattle.zk_recordings.proofs.Walks.{length-spelled}
-
-abbrev cut_in : Place → List (List ℕ) → Part → List ℕ → Recording
-cut_in place before part begun = Breaks place (record { before = before; part = part; end = Cut begun })
 
 -- ---- letters
 
@@ -310,14 +307,9 @@ module _ (s : ReaderState) (place : Place) (head : Head) (pieces : List Piece) (
 -- ---- the part that the reader is in
 
 pub width-most : (part : Part) → width part ≤ 8
-width-most Letters = omega arith
-width-most ClientLimit = omega arith
-width-most ServerLimit = omega arith
-width-most Waiting = omega arith
-width-most Profile = omega arith
 width-most SideByte = omega arith
 width-most Time = omega arith
-width-most Size = omega arith
+width-most _ = omega arith
 
 pub is-value : (part : Part) (bytes : List ℕ) → length bytes ≡ 8 → is_good part (take (width part) bytes) ≡ true → IsValue part (take (width part) bytes)
 is-value part bytes eight good = record { wide = omega (arith, length-take (width part) bytes, width-most part, eight); good = good }

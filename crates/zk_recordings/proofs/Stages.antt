@@ -1,19 +1,25 @@
 -- One step of the reader of recordings.
 use Rattle.std.proofs.Common.{◌≡◌, ◌≢◌, ℕ, ◌+◌, ◌<◌, ◌≤◌, List, [], ◌∷◌, ◌++◌, length, take, set, None, Some, false, refl, sym, ap, ◌∙◌, subst, append_assoc, append-nil, arith, length-append, length-take}
 use Rattle.std.proofs.lemmas.List.{take_more_set, map-append}
+use Rattle.std.proofs.lemmas.Option.{none-some}
 use Rattle.std.proofs.Math.ListN.{length-set}
 use Rattle.zk_talk.specs.History.{on}
 use Rattle.zk_recordings.specs.declared.parts.Damage.TheVariants.{Short}
 use Rattle.zk_recordings.specs.declared.parts.DamageAt.{DamageAt}
+use Rattle.zk_recordings.specs.declared.parts.Format.{Format}
 use Rattle.zk_recordings.specs.declared.parts.Format.TheVariants.{Zkr1, Zkr2}
 use Rattle.zk_recordings.specs.declared.parts.Part.{Part}
-use Rattle.zk_recordings.specs.declared.parts.Part.TheVariants.{Letters, ClientLimit, ServerLimit, Waiting, Profile, SideByte, Time, Size}
+use Rattle.zk_recordings.specs.declared.parts.Part.TheVariants.{Letters, SideByte, Time, Size}
 use Rattle.zk_recordings.specs.Reader.{Content, Damaged, Fixed, ReaderStage, ReaderState}
-use Rattle.zk_recordings.specs.Parts.{width, is_good, damage_bad, piece_parts}
-use Rattle.zk_recordings.specs.Recording.{spelled, End, Cut, Bad, IsEnd, end_bytes, Break, IsBreakIn, IsBreak, Head, First, Second, format_of, Piece, piece_values, IsPiece, piece_bytes, piece_history, Place, AtLetters, InHead, InPieces, parts_at, front, Recording, Breaks, Ends, Spells, place_of, begun_of, begun_history, damage_of, behind, nothing}
+use Rattle.zk_recordings.specs.Parts.{width, is_good, damage_bad, head_parts, piece_parts}
+use Rattle.zk_recordings.specs.Recording.{spelled, End, Cut, Bad, IsEnd, end_bytes, Break, IsBreakIn, IsBreak, Head, First, Second, format_of, Piece, piece_values, IsPiece, piece_bytes, piece_history, Place, AtLetters, InHead, InPieces, parts_at, front, Recording, Breaks, Ends, Spells, place_of, begun_of, begun_history, damage_at, behind, nothing}
 use Rattle.zk_recordings.specs.Reading.{chosen, HasHead, HasHeadAt, Knows, AtPart, AtFixed, AtContent, IsDecidedBy, AtStage, IsAt, then_at, MayHold, within, ends, ReadsOn}
 use Rattle.zk_recordings.proofs.Any.{same-values, begun-with, bytes-with, front-snoc, are-snoc}
 use Rattle.zk_recordings.proofs.Walks.{spelled-append, length-spelled}
+
+-- cut within a part
+abbrev pub cut_in : Place → List (List ℕ) → Part → List ℕ → Recording
+cut_in place before part begun = Breaks place (record { before = before; part = part; end = Cut begun })
 
 -- ---- what stays as the reader goes on
 
@@ -23,14 +29,9 @@ has-same s t (InHead format) f l has = f ∙ has
 has-same s t (InPieces head pieces) f l has = record { format_is = f ∙ has.format_is; limits_are = λ options. ap (λ o. chosen o options) l ∙ has.limits_are options }
 
 knows-same : (s : ReaderState) (stage : ReaderStage) (place : Place) (before : List (List ℕ)) (part : Part) → Knows s place before part → Knows (record s { stage = stage }) place before part
-knows-same s stage place before Letters k = k
-knows-same s stage place before ClientLimit k = k
-knows-same s stage place before ServerLimit k = k
-knows-same s stage place before Waiting k = k
-knows-same s stage place before Profile k = k
-knows-same s stage place before SideByte k = k
 knows-same s stage place before Time k = record { within = k.within; second = k.second; values = k.values }
 knows-same s stage place before Size k = record { within = k.within; time = k.time; timed = k.timed; values = k.values }
+knows-same s stage place before _ k = k
 
 end-swap : (ps : List Part) (before : List (List ℕ)) (part : Part) (e f : End) → IsBreakIn ps before part e → IsEnd part f → IsBreakIn ps before part f
 end-swap [] before part e f is new = absurd is
@@ -94,13 +95,7 @@ part-more s part bytes got b x r less most i has at' =
 
 bad-not_short : (part : Part) → damage_bad part ≢ Short
 bad-not_short Letters = λ e. cc
-bad-not_short ClientLimit = λ e. cc
-bad-not_short ServerLimit = λ e. cc
-bad-not_short Waiting = λ e. cc
-bad-not_short Profile = λ e. cc
-bad-not_short SideByte = λ e. cc
-bad-not_short Time = λ e. cc
-bad-not_short Size = λ e. cc
+bad-not_short _ = λ e. cc
 
 -- a value that is not good stands behind four bytes, or has them
 bad-read : (place : Place) (before : List (List ℕ)) (part : Part) (v : List ℕ) → IsBreak (parts_at place) (record { before = before; part = part; end = Bad v [] }) →
@@ -125,12 +120,6 @@ part-bad s part begun v b x r again wide bad i has p =
         spells = k;
         has = has-same s _ p.place refl refl (subst (λ q. HasHeadAt s (place_of q)) p.is has);
         stands = record {
-          place = p.place;
-          before = p.before;
-          part = part;
-          value = v;
-          more = [];
-          is = refl;
           damage = ap (λ n. Some (record { offset = n; reason = damage_bad part })) (sym p.at);
           decided = bad-not_short part;
           head_read = subst (λ l. 4 ≤ length l) (sym k.is) (bad-read p.place p.before part v k.sound.breaks);
@@ -284,31 +273,63 @@ module _ (s : ReaderState) (got : ℕ) (x part : List ℕ) (r : Recording) (i : 
 
 -- ---- behind a damage
 
-pub damaged-more : (d : DamageAt) (x more : List ℕ) (r : Recording) → Spells x r → (i : IsDecidedBy d x r) →
-    (new : Recording) × Spells (x ++ more) new × IsDecidedBy d (x ++ more) new × (place_of new ≡ place_of r) × (begun_of new ≡ begun_of r ++ more) × (begun_history new ≡ begun_history r ++ [])
-damaged-more d x more r s i =
-    let j = subst (Spells x) i.is s in
-    let e = Bad i.value i.more in
-    let f = Bad i.value (i.more ++ more) in
-    let is : IsEnd i.part f = end-of (parts_at i.place) i.before i.part i.value i.more (i.more ++ more) j.sound.breaks in
-    let bytes : end_bytes f ≡ end_bytes e ++ more = sym (append_assoc i.value i.more more) in (
-      Breaks i.place (record { before = i.before; part = i.part; end = f }),
-      spells-end x more i.place i.before i.part e f j is bytes,
-      record {
-        place = i.place;
-        before = i.before;
-        part = i.part;
-        value = i.value;
-        more = i.more ++ more;
-        is = refl;
-        damage = ap damage_of (sym i.is) ∙ i.damage;
-        decided = i.decided;
-        head_read = omega (arith, i.head_read, length-append x more);
-      },
-      sym (ap place_of i.is),
-      begun-end x more i.place i.before i.part e f j is bytes ∙ ap (λ q. begun_of q ++ more) (sym i.is),
-      no-content r i.place _ i.is,
-    )
+-- letters stand first alone
+abbrev Lacks : List Part → Type 0
+Lacks [] = Unit {0}
+Lacks (p ∷ ps) = (Letters ≡ p → ⊥) × Lacks ps
+
+no-letters : (ps : List Part) (before : List (List ℕ)) (end : End) → Lacks ps → IsBreakIn ps before Letters end → ⊥
+no-letters [] before end l is = is
+no-letters (p ∷ ps) [] end l is = l.0 is.0
+no-letters (p ∷ ps) (v ∷ vs) end l is = no-letters ps vs end l.1 is.1
+
+lacks-head : (f : Format) → Lacks (head_parts f)
+lacks-head Zkr1 = tt
+lacks-head Zkr2 = (λ e. cc, (λ e. cc, (λ e. cc, (λ e. cc, tt))))
+
+lacks-piece : (f : Format) → Lacks (piece_parts f)
+lacks-piece Zkr1 = (λ e. cc, (λ e. cc, tt))
+lacks-piece Zkr2 = (λ e. cc, (λ e. cc, (λ e. cc, tt)))
+
+-- four bytes are no beginning of letters
+letters-read : (x begun : List ℕ) (place : Place) (before : List (List ℕ)) → Spells x (cut_in place before Letters begun) → 4 ≤ length x → ⊥
+letters-read x begun AtLetters [] s long = absurd (omega (arith, long, ap length s.is, s.sound.breaks.1))
+letters-read x begun AtLetters (v ∷ vs) s long = s.sound.breaks.1
+letters-read x begun (InHead f) before s long = no-letters (head_parts f) before (Cut begun) (lacks-head f) s.sound.breaks
+letters-read x begun (InPieces head pieces) before s long = no-letters (piece_parts (format_of head)) before (Cut begun) (lacks-piece (format_of head)) s.sound.breaks
+
+pub short-only : (place : ℕ) (d : DamageAt) → Some (damage_at place Short) ≡ Some d → d.reason ≢ Short → ⊥
+short-only place d e n = let same : damage_at place Short ≡ d = cc in n (sym (ap (λ (v : DamageAt). v.reason) same))
+
+cut-only : (d : DamageAt) (x begun : List ℕ) (place : Place) (before : List (List ℕ)) (part : Part) → Spells x (cut_in place before part begun) → IsDecidedBy d x (cut_in place before part begun) → ⊥
+cut-only d x begun place before Letters s i = letters-read x begun place before s i.head_read
+cut-only d x begun place before SideByte s i = none-some d i.damage
+cut-only d x begun place before _ s i = short-only (behind place before) d i.damage i.decided
+
+module _ (d : DamageAt) (x more : List ℕ) where
+  -- a longer recording has the damage too
+  abbrev Stays : Recording → Type 0
+  Stays r = (new : Recording) × Spells (x ++ more) new × IsDecidedBy d (x ++ more) new × (place_of new ≡ place_of r) × (begun_of new ≡ begun_of r ++ more) × (begun_history new ≡ begun_history r ++ [])
+
+  stays : (place : Place) (before : List (List ℕ)) (part : Part) (end : End) → Spells x (Breaks place (record { before = before; part = part; end = end })) →
+      IsDecidedBy d x (Breaks place (record { before = before; part = part; end = end })) → Stays (Breaks place (record { before = before; part = part; end = end }))
+  stays place before part (Cut begun) s i = absurd (cut-only d x begun place before part s i)
+  stays place before part (Bad value after) s i =
+      let e = Bad value after in
+      let f = Bad value (after ++ more) in
+      let is : IsEnd part f = end-of (parts_at place) before part value after (after ++ more) s.sound.breaks in
+      let bytes : end_bytes f ≡ end_bytes e ++ more = sym (append_assoc value after more) in (
+        Breaks place (record { before = before; part = part; end = f }),
+        spells-end x more place before part e f s is bytes,
+        record { damage = i.damage; decided = i.decided; head_read = omega (arith, i.head_read, length-append x more) },
+        refl,
+        begun-end x more place before part e f s is bytes,
+        refl,
+      )
+
+  pub damaged-more : (r : Recording) → Spells x r → IsDecidedBy d x r → Stays r
+  damaged-more (Breaks place b) s i = stays place b.before b.part b.end s i
+  damaged-more (Ends head pieces last) s i = absurd (short-only _ d i.damage i.decided)
 
 pub damaged-on : (s : ReaderState) (d : DamageAt) (x more : List ℕ) (r : Recording) → s.stage ≡ Damaged d → IsAt s x r → ReadsOn s x r more None
 damaged-on s d x more r e i =

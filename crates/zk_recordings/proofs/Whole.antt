@@ -1,17 +1,17 @@
 -- A piece that is whole at the front of a block: two steps of the reader.
 use Rattle.std.proofs.Common.{◌≡◌, ℕ, ◌+◌, ◌-◌, List, [], ◌++◌, length, take, drop, None, Some, refl, sym, ap, ◌∙◌, subst, arith, length-take}
 use Rattle.std.proofs.lemmas.List.{length-drop}
+use Rattle.std.proofs.lemmas.Option.{none-some}
 use Rattle.zk_recordings.specs.declared.heads.PieceHead.{PieceHead}
 use Rattle.zk_recordings.specs.declared.heads.WholePiece.{WholePiece}
-use Rattle.zk_recordings.specs.declared.parts.DamageAt.{DamageAt}
 use Rattle.zk_recordings.specs.declared.parts.Part.TheVariants.{SideByte}
 use Rattle.zk_recordings.specs.Reader.{Content, Fixed, ReaderState}
-use Rattle.zk_recordings.specs.Recording.{End, Cut, Bad, InPieces, Recording, Breaks, Ends, place_of, no_time, nothing}
+use Rattle.zk_recordings.specs.Recording.{Cut, InPieces, Recording, Breaks, place_of, no_time, nothing}
 use Rattle.zk_recordings.specs.Heads.{PassesHead}
 use Rattle.zk_recordings.specs.Pieces.{IsHeadIn, IsPieceIn, ReadsPiece}
 use Rattle.zk_recordings.specs.Reading.{HasHead, HasHeadAt, AtFixed, AtStage, IsAt, IsDecidedBy, IsSound, IsSoundAt, IsBetweenOf, IsNeverBetween, IsUndamaged, ReadsOn, format_at, then_at}
 use Rattle.zk_recordings.proofs.Passing.{passes-head}
-use Rattle.zk_recordings.proofs.Stages.{content-whole, has-same}
+use Rattle.zk_recordings.proofs.Stages.{content-whole, has-same, short-only}
 
 -- ---- the head
 
@@ -32,18 +32,6 @@ head-passes s block head h = record {
 
 -- ---- what `between` and `damage` say
 
--- no value in it is bad
-abbrev HasGoodEnd : End → Type 0
-HasGoodEnd (Cut begun) = Unit {0}
-HasGoodEnd (Bad value more) = ⊥
-
-abbrev MayGoOn : Recording → Type 0
-MayGoOn (Breaks place b) = HasGoodEnd b.end
-MayGoOn (Ends head pieces last) = Unit {0}
-
-undamaged-by : (r : Recording) (x : List ℕ) (d : DamageAt) → MayGoOn r → IsDecidedBy d x r → ⊥
-undamaged-by r x d may i = subst MayGoOn i.is may
-
 -- a piece may begin
 module _ (s : ReaderState) (bytes : List ℕ) (stage : s.stage ≡ Fixed SideByte bytes 0) where
   fixed-here : (x : List ℕ) (r : Recording) → IsAt s x r → AtFixed s SideByte bytes 0 r
@@ -60,7 +48,7 @@ module _ (s : ReaderState) (bytes : List ℕ) (stage : s.stage ≡ Fixed SideByt
       ((w.head, w.pieces, same), ap (λ q. format_at (place_of q)) same ∙ ap Some (sym head.format_is))
 
   pub is-undamaged : IsUndamaged s
-  is-undamaged x r d i = undamaged-by r x d (subst MayGoOn (sym (fixed-here x r i).part_at.is) tt)
+  is-undamaged x r d i b = none-some d (subst (IsDecidedBy d x) (fixed-here x r i).part_at.is b).damage
 
 module _ (s : ReaderState) (got : ℕ) (stage : s.stage ≡ Content got) where
   never-between : IsNeverBetween s
@@ -70,7 +58,7 @@ module _ (s : ReaderState) (got : ℕ) (stage : s.stage ≡ Content got) where
       cc
 
   pub never-damaged : IsUndamaged s
-  never-damaged x r d i = undamaged-by r x d (subst MayGoOn (sym (subst (λ q. AtStage s q x r) stage i.stands).is) tt)
+  never-damaged x r d i b = let here = subst (IsDecidedBy d x) (subst (λ q. AtStage s q x r) stage i.stands).is b in short-only _ d here.damage here.decided
 
 -- ---- both steps
 

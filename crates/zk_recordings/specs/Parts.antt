@@ -26,14 +26,9 @@ long_number bytes = from_be_bytes w64 bytes
 
 -- the number of a part's bytes
 abbrev pub width : Part → ℕ
-width Letters = 4
-width ClientLimit = 4
-width ServerLimit = 4
-width Waiting = 4
-width Profile = 4
 width SideByte = 1
 width Time = 8
-width Size = 4
+width _ = 4
 
 abbrev pub is_within : ℕ → ℕ → ℕ → Bool
 is_within least most n = nat_le least n && nat_le n most
@@ -52,24 +47,16 @@ is_good Size value = is_within 1 16777220 (number value)
 -- the damage of a value that is not good
 abbrev pub damage_bad : Part → Damage
 damage_bad Letters = BadHead
-damage_bad ClientLimit = BadLimits
-damage_bad ServerLimit = BadLimits
-damage_bad Waiting = BadLimits
-damage_bad Profile = BadLimits
 damage_bad SideByte = BadSide
 damage_bad Time = BadTime
 damage_bad Size = BadSize
+damage_bad _ = BadLimits
 
 -- the damage of a recording that ends before the part does; before a side's byte it may end
 abbrev pub damage_cut : Part → Option Damage
 damage_cut Letters = Some BadHead
-damage_cut ClientLimit = Some Short
-damage_cut ServerLimit = Some Short
-damage_cut Waiting = Some Short
-damage_cut Profile = Some Short
 damage_cut SideByte = None
-damage_cut Time = Some Short
-damage_cut Size = Some Short
+damage_cut _ = Some Short
 
 -- the parts of a head after its letters
 abbrev pub head_parts : Format → List Part

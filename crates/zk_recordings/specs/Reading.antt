@@ -13,7 +13,7 @@ use Rattle.zk_recordings.specs.Reader.{Content, Damaged, Fixed, ReaderStage, Rea
 use Rattle.zk_recordings.specs.Parts.{number, width}
 use Rattle.zk_recordings.specs.Recording.{Head, format_of, head_limits, Piece, piece_values, piece_bytes}
 use Rattle.zk_recordings.specs.Recording.{piece_history, side_byte, no_time, Place, AtLetters, InHead, InPieces, Cut}
-use Rattle.zk_recordings.specs.Recording.{Bad, Recording, Breaks, Ends, Spells, place_of, begun_of, begun_history}
+use Rattle.zk_recordings.specs.Recording.{Recording, Breaks, Ends, Spells, place_of, begun_of, begun_history}
 use Rattle.zk_recordings.specs.Recording.{damage_of, behind, nothing}
 
 -- the limits that a head has, else the options
@@ -86,12 +86,6 @@ pub record AtContent (s : ReaderState) (got : ℕ) (r : Recording) : Type 0 wher
 
 -- whatever follows them, the bytes have this damage
 pub record IsDecidedBy (d : DamageAt) (x : List ℕ) (r : Recording) : Type 0 where
-  pub place : Place
-  pub before : List (List ℕ)
-  pub part : Part
-  pub value : List ℕ
-  pub more : List ℕ
-  pub is : r ≡ Breaks place (record { before = before; part = part; end = Bad value more })
   pub damage : damage_of r ≡ Some d
   pub decided : d.reason ≢ Short
   pub head_read : 4 ≤ length x

@@ -1,19 +1,19 @@
 -- One line more.
 use Rattle.std.proofs.Common.{◌≡◌, ◌≢◌, ℕ, ◌+◌, ◌<◌, List, [], ◌∷◌, ◌++◌, length, map, Option, ◌⊎◌, inl, inr, refl, sym, ap, ◌∙◌, subst, append_assoc, append-nil, arith, length-append, true, false, Bool}
 use Rattle.std.specs.Io.KnownBytes.{Appends, append_known}
-use Rattle.std.specs.List.{AllByRecursion, flat_map}
+use Rattle.std.specs.List.{flat_map}
 use Rattle.std.specs.Int.{w32, to_be_bytes}
 use Rattle.std.proofs.lemmas.List.{map-append, length-map}
 use Rattle.zk_talk.specs.declared.limits.Limits.{Limits}
 use Rattle.zk_talk.specs.Held.{Message}
 use Rattle.zk_talk.specs.declared.message.Ending.TheVariants.{Whole as whole}
 use Rattle.zk_talk.specs.declared.say.SayFault.{SayFault}
-use Rattle.zk_talk.specs.declared.say.SayFault.TheVariants.{NotFirst, Unasked, XidOrder, Misfit, TooLong, QueueFull, NoMemory as no_memory}
+use Rattle.zk_talk.specs.declared.say.SayFault.TheVariants.{NoMemory as no_memory}
 use Rattle.zk_talk.specs.Ending.{unanswered}
 use Rattle.zk_talk.specs.Said.{SpeakerState, Says, AreSaid, MaySay, IsSayFault, conversation_of}
 use Rattle.zk_items.specs.declared.fault.LineFault.{LineFault}
 use Rattle.zk_items.specs.declared.fault.LineReason.{LineReason}
-use Rattle.zk_items.specs.declared.fault.LineReason.TheVariants.{Word, Number, Text, Blob, Name, Rest, NoMemory, Ending}
+use Rattle.zk_items.specs.declared.fault.LineReason.TheVariants.{NoMemory}
 use Rattle.zk_lines.specs.Lines.{line, Fits}
 use Rattle.zk_lines.specs.Endings.{ending_text}
 use Rattle.zk_talk.specs.declared.message.Side.{Side}
@@ -21,7 +21,7 @@ use Rattle.zk_talk.specs.declared.message.MessageOf.TheVariants.{Client, Server}
 use Rattle.zk_talk.specs.Payloads.{client_payload, server_payload}
 use Rattle.zk_talk.specs.Said.{payload_of, side_of}
 use Rattle.zk_frames.specs.Framing.{frame}
-use Rattle.zk_frames.proofs.Cuts.{length-frame}
+use Rattle.zk_frames.proofs.Cuts.{AllByRecursion-push, length-frame}
 use Rattle.zk_runs.specs.declared.built.Built.TheVariants.{Whole, LineRefused, SayRefused}
 use Rattle.zk_runs.specs.Building.{head, built_bytes}
 use Rattle.zk_recordings.specs.Recording.{no_time}
@@ -30,10 +30,6 @@ use Rattle.zk_runs.specs.Accepting.{AreGood, Took, Refuses, StopsAfter, HaltsAt,
 use Rattle.zk_listings.proofs.Bytes.{Appends-then}
 use Rattle.zk_recordings.proofs.Lists.{flat_map-snoc}
 use Rattle.zk_runs.proofs.Known.{known-whole}
-
-pub all-snoc : {X : Type 0} (P : X → Type 0) (xs : List X) (x : X) → AllByRecursion P xs → P x → AllByRecursion P (xs ++ x ∷ [])
-all-snoc P [] x all p = (p, tt)
-all-snoc P (y ∷ ys) x all p = (all.0, all-snoc P ys x all.1 p)
 
 pub recording-more : (messages : List Message) (m : Message) → recording_of (messages ++ m ∷ []) ≡ recording_of messages ++ built_bytes (piece_of m)
 recording-more messages m =
@@ -45,7 +41,7 @@ accepted-more : (limits : Limits) (lines : List (List ℕ)) (messages : List Mes
     AreAccepted limits lines messages → Fits m → AreSaid limits (messages ++ m ∷ []) → AreAccepted limits (lines ++ line m ∷ []) (messages ++ m ∷ [])
 accepted-more limits lines messages m a fits are_said = record {
   are = ap (λ l. l ++ line m ∷ []) a.are ∙ sym (map-append line messages (m ∷ []));
-  fit = all-snoc Fits messages m a.fit fits;
+  fit = AllByRecursion-push Fits messages m a.fit fits;
   said = are_said;
 }
 
@@ -133,12 +129,7 @@ module _ (limits : Limits) (lines : List (List ℕ)) (before now : Option (List 
     pub halts-unsaid : (fault : SayFault) → (fault ≡ no_memory) ⊎ ((all : List Message) → Says speaker all → IsSayFault speaker.limits all m fault) →
         HaltsAt limits lines (line m) before (say_halt (count + 1) fault) now
     halts-unsaid no_memory w = stops-here
-    halts-unsaid NotFirst w = unsaid-by NotFirst (λ e. cc) w
-    halts-unsaid Unasked w = unsaid-by Unasked (λ e. cc) w
-    halts-unsaid (XidOrder expected got) w = unsaid-by (XidOrder expected got) (λ e. cc) w
-    halts-unsaid Misfit w = unsaid-by Misfit (λ e. cc) w
-    halts-unsaid TooLong w = unsaid-by TooLong (λ e. cc) w
-    halts-unsaid QueueFull w = unsaid-by QueueFull (λ e. cc) w
+    halts-unsaid fault w = unsaid-by fault (λ e. cc) w
 
   module _ (next : List ℕ) (n : ℕ) (left : (all : List Message) → Says speaker all → n ≡ unanswered (conversation_of all)) where
     due : ending_text (whole n) ≡ due_ending t.messages
@@ -180,13 +171,7 @@ module _ (limits : Limits) (lines : List (List ℕ)) (before now : Option (List 
 
     unread-by : (r : LineReason) → fault.reason ≡ r → HaltsAt limits lines next before (line_halt_by r (count + 1) fault) now
     unread-by NoMemory e = stops-here
-    unread-by Word e = unread (λ k. cc)
-    unread-by Number e = unread (λ k. cc)
-    unread-by Text e = unread (λ k. cc)
-    unread-by Blob e = unread (λ k. cc)
-    unread-by Name e = unread (λ k. cc)
-    unread-by Rest e = unread (λ k. cc)
-    unread-by Ending e = unread (λ k. cc)
+    unread-by _ e = unread (λ k. cc)
 
     pub halts-unread : HaltsAt limits lines next before (line_halt (count + 1) fault) now
     halts-unread = unread-by fault.reason refl

@@ -1,13 +1,13 @@
 -- What a run that builds has read and written when it answers.
-use Rattle.std.proofs.Common.{◌≡◌, ℕ, List, [], ◌++◌, Option, IfOk, OnErr, refl, ap, ◌∙◌, sym, subst, append-nil, Bool}
+use Rattle.std.proofs.Common.{ℕ, List, [], ◌++◌, Option, IfOk, OnErr, refl, sym, subst, append-nil, Bool}
 use Rattle.std.specs.Io.KnownBytes.{Consumes, IsAtEnd}
 use Rattle.zk_talk.specs.declared.limits.Limits.{Limits}
 use Rattle.zk_talk.specs.Said.{SpeakerState}
 use Rattle.zk_runs.specs.declared.built.Built.{Built}
-use Rattle.zk_runs.specs.declared.built.Built.TheVariants.{Whole, LineRefused, SayRefused}
+use Rattle.zk_runs.specs.declared.built.Built.TheVariants.{Whole}
 use Rattle.zk_runs.specs.declared.builder.Halt.{Halt}
 use Rattle.zk_runs.specs.declared.builder.Halt.TheVariants.{Refused, Fails}
-use Rattle.zk_listings.specs.declared.listing.RunFault.TheVariants.{Read, Write, Memory}
+use Rattle.zk_listings.specs.declared.listing.RunFault.TheVariants.{Memory}
 use Rattle.zk_runs.specs.Building.{head}
 use Rattle.zk_listings.specs.Outcome.{HasGrownIn}
 use Rattle.zk_runs.specs.Building.{AreLines, StandFirst, fed_in, all_of, Covers, HasBuilt, HasBuiltSoFar, HasBegunBuilding, recording_of}
@@ -19,13 +19,11 @@ use Rattle.zk_runs.proofs.Taken.{begins-here, begins-of}
 
 covers-first : (built : Built) (x : List ℕ) (unread : Option (List ℕ)) (lines : List (List ℕ)) → IsRefused built → StandFirst x unread lines → Covers built x unread lines
 covers-first Whole x unread lines is stand = absurd is
-covers-first (LineRefused at' fault) x unread lines is stand = stand
-covers-first (SayRefused at' fault) x unread lines is stand = stand
+covers-first _ x unread lines is stand = stand
 
 covers-all : (built : Built) (x : List ℕ) (unread : Option (List ℕ)) (lines : List (List ℕ)) → IsAtEnd unread → AreLines x lines → Covers built x unread lines
 covers-all Whole x unread lines end are = (end, are)
-covers-all (LineRefused at' fault) x unread lines end are = all_of end are
-covers-all (SayRefused at' fault) x unread lines end are = all_of end are
+covers-all _ x unread lines end are = all_of end are
 
 stand-first : (x : List ℕ) (unread : Option (List ℕ)) (lines : List (List ℕ)) → IsAtEnd unread → StandIn x lines → StandFirst x unread lines
 stand-first x unread lines end (some rest each read) = fed_in rest each read
@@ -37,13 +35,10 @@ module _ (limits : Limits) (unread mid : Option (List ℕ)) (x : List ℕ) (befo
   built-so_far begun count ended speaker t = record {
     bytes = x;
     lines = t.lines;
-    rest = begun;
     messages = t.took.messages;
     consumed = p;
-    splits = t.read;
-    each = t.each;
-    begun = t.begun_is;
-    is = built-good limits t.lines t.took.messages ended t.took.knows.good;
+    stand = record { rest = begun; splits = t.read; each = t.each; begun = t.begun_is };
+    are = built-good limits t.lines t.took.messages ended t.took.knows.good;
     written = t.took.written;
   }
 
@@ -54,37 +49,34 @@ module _ (limits : Limits) (unread mid : Option (List ℕ)) (x : List ℕ) (befo
     messages = b.begins.messages;
     consumed = q;
     stand = fed_in b.rest b.each b.read;
-    accepted = b.begins.accepted;
+    are = b.begins.accepted;
     written = b.begins.written;
   }
 
   pub begun-so_far : (begun : List ℕ) (count : ℕ) (ended : Bool) (speaker : SpeakerState) → HasTaken limits x before now begun count ended speaker → HasBegunBuilding limits unread mid before now
   begun-so_far begun count ended speaker t = from-begins mid x p (begins-here limits x before now begun count ended speaker t)
 
-  -- at the end
-  module _ (after : Option (List ℕ)) (none : List ℕ) (q : Consumes mid after none) (nothing : none ≡ []) (end : IsAtEnd after) where
-    read-all : Consumes unread after x
-    read-all = subst (Consumes unread after) (ap (λ b. x ++ b) nothing ∙ append-nil x) (Consumes-then unread mid after x none p q)
-
-    pub built-at_end : (built : Built) → BuildsAll limits x before now built → HasBuilt limits unread after before now built
+  -- all there is
+  module _ (end : IsAtEnd mid) where
+    pub built-at_end : (built : Built) → BuildsAll limits x before now built → HasBuilt limits unread mid before now built
     built-at_end built b = record {
       bytes = x;
       lines = b.lines;
       messages = b.messages;
-      consumed = read-all;
-      covers = covers-all built x after b.lines end b.all;
-      is = b.is;
+      consumed = p;
+      stand = covers-all built x mid b.lines end b.all;
+      are = b.is;
       written = b.written;
     }
 
-    pub begun-at_end : BeginsAll limits x before now → HasBegunBuilding limits unread after before now
+    pub begun-at_end : BeginsAll limits x before now → HasBegunBuilding limits unread mid before now
     begun-at_end b = record {
       bytes = x;
       lines = b.lines;
       messages = b.begins.messages;
-      consumed = read-all;
-      stand = stand-first x after b.lines end b.stand;
-      accepted = b.begins.accepted;
+      consumed = p;
+      stand = stand-first x mid b.lines end b.stand;
+      are = b.begins.accepted;
       written = b.begins.written;
     }
 
@@ -97,8 +89,8 @@ module _ (limits : Limits) (unread mid : Option (List ℕ)) (x : List ℕ) (befo
       lines = r.lines;
       messages = r.refuses.messages;
       consumed = Consumes-then unread mid after x block p q;
-      covers = covers-first built (x ++ block) after r.lines r.refuses.refused (fed_in r.rest r.each r.read);
-      is = r.refuses.is;
+      stand = covers-first built (x ++ block) after r.lines r.refuses.refused (fed_in r.rest r.each r.read);
+      are = r.refuses.is;
       written = r.refuses.written;
     }
 
@@ -108,8 +100,7 @@ module _ (limits : Limits) (unread mid : Option (List ℕ)) (x : List ℕ) (befo
         from-begins after (x ++ block) (Consumes-then unread mid after x block p q)
         (begins-of limits (x ++ block) before now s.lines s.rest s.messages Whole s.each s.read (built-good limits s.lines s.messages s.ended s.good)
         (grown-whole before now (recording_of s.messages) s.written))
-    begun-answer (Fails Read) count b = from-begins after (x ++ block) (Consumes-then unread mid after x block p q) b
-    begun-answer (Fails Write) count b = from-begins after (x ++ block) (Consumes-then unread mid after x block p q) b
+    begun-answer (Fails _) count b = from-begins after (x ++ block) (Consumes-then unread mid after x block p q) b
 
 -- the head was not written whole
 pub begun-head : (limits : Limits) (unread before now : Option (List ℕ)) → HasGrownIn before now head → HasBegunBuilding limits unread unread before now
@@ -119,6 +110,6 @@ begun-head limits unread before now grown = record {
   messages = [];
   consumed = Consumes-none unread;
   stand = fed_in [] tt refl;
-  accepted = nothing-accepted limits;
+  are = nothing-accepted limits;
   written = subst (HasGrownIn before now) (sym (append-nil head)) grown;
 }

@@ -8,7 +8,7 @@ use Rattle.zk_talk.specs.declared.limits.Limits.{Limits}
 use Rattle.zk_talk.specs.Held.{Message}
 use Rattle.zk_lines.specs.Lines.{line}
 use Rattle.zk_runs.specs.declared.built.Built.{Built}
-use Rattle.zk_runs.specs.declared.built.Built.TheVariants.{Whole, LineRefused, SayRefused}
+use Rattle.zk_runs.specs.declared.built.Built.TheVariants.{Whole}
 use Rattle.zk_runs.specs.Building.{head, built_bytes}
 use Rattle.zk_recordings.specs.Recording.{First, InPieces, front}
 use Rattle.zk_listings.specs.Outcome.{HasGrownIn}
@@ -54,8 +54,7 @@ module _ (limits : Limits) (bytes rest : List ℕ) (unread : Option (List ℕ)) 
   covered Whole c is =
       let same = lines_once bytes all lines (subst (λ z. AreLines z all) (ap (λ z. bytes ++ z) (ends c.0) ∙ append-nil bytes) are) c.1 in
       subst (λ z. IsBuilt limits z messages Whole) (sym same) is
-  covered (LineRefused at fault) c is = by_front (LineRefused at fault) (λ e. cc) c is
-  covered (SayRefused at fault) c is = by_front (SayRefused at fault) (λ e. cc) c is
+  covered built c is = by_front built (λ e. cc) c is
 
 -- ---- a source whose bytes are known
 
@@ -72,7 +71,7 @@ leaves x bytes (Some rest) c = record { rest = rest; is = c; ends = λ e. e }
 pub run_once : (limits : Limits) (x : List ℕ) (messages : List Message) (built : Built) → AreBuilt limits x messages built → BuildsAlike limits x messages built
 run_once limits x messages built b unread contents contents_now other h =
     let l = leaves x h.bytes unread h.consumed in
-    let known = covered limits h.bytes l.rest unread l.ends b.lines (subst (λ z. AreLines z b.lines) l.is b.are) h.lines h.messages other h.covers h.is in (
+    let known = covered limits h.bytes l.rest unread l.ends b.lines (subst (λ z. AreLines z b.lines) l.is b.are) h.lines h.messages other h.stand h.are in (
       alike_once limits b.lines messages h.messages built other b.is known,
       subst (λ z. Appends contents contents_now (recording_of z)) (sym (messages_once limits b.lines messages h.messages built other b.is known)) h.written,
     )
@@ -98,7 +97,7 @@ pub begun_of_known : (limits : Limits) (x : List ℕ) (messages : List Message) 
 begun_of_known limits x messages built all unread contents contents_now b =
     let l = leaves x b.bytes unread b.consumed in
     let f = first_lines b.bytes l.rest unread b.lines all.lines l.ends b.stand (subst (λ z. AreLines z all.lines) l.is all.are) in
-    grown_first limits all.lines messages built all.is contents contents_now b.lines f.0 b.messages b.accepted f.1 b.written
+    grown_first limits all.lines messages built all.is contents contents_now b.lines f.0 b.messages b.are f.1 b.written
 
 -- by the bytes that were read
 pub begun_of_read : (s : Stopped) → HasGrownIn s.contents s.contents_now (recording_of s.messages)
@@ -106,4 +105,4 @@ begun_of_read s =
     let b = s.begun in
     let all = s.are in
     let f = first_lines b.bytes [] s.unread_now b.lines all.lines (λ e. refl) b.stand (subst (λ z. AreLines z all.lines) (sym (append-nil b.bytes)) all.are) in
-    grown_first s.limits all.lines s.messages s.built all.is s.contents s.contents_now b.lines f.0 b.messages b.accepted f.1 b.written
+    grown_first s.limits all.lines s.messages s.built all.is s.contents s.contents_now b.lines f.0 b.messages b.are f.1 b.written

@@ -1,15 +1,17 @@
 -- What is written of a block whose pieces were gathered: all, or a front if the write fails.
-use Rattle.std.proofs.Common.{◌≡◌, ℕ, List, [], Option, subst, Result, Ok, Err, OnOk, IfErr, Bool}
+use Rattle.std.proofs.Common.{◌≡◌, ℕ, List, [], ◌++◌, Option, subst, Result, Ok, Err, OnOk, IfErr, Bool}
 use Rattle.std.specs.Io.KnownBytes.{Appends, append_known}
 use Rattle.zk_talk.specs.declared.limits.Limits.{Limits}
 use Rattle.zk_talk.specs.Said.{SpeakerState}
 use Rattle.zk_runs.specs.declared.built.Built.TheVariants.{Whole}
+use Rattle.zk_runs.specs.declared.builder.Builder.{Builder}
 use Rattle.zk_runs.specs.declared.builder.Halt.{Halt}
 use Rattle.zk_runs.specs.declared.builder.Halt.TheVariants.{Refused, Fails}
-use Rattle.zk_listings.specs.declared.listing.RunFault.TheVariants.{Read, Write, Memory}
+use Rattle.zk_listings.specs.declared.listing.RunFault.TheVariants.{Memory}
 use Rattle.zk_listings.specs.Outcome.{HasGrownIn}
 use Rattle.zk_runs.specs.Building.{recording_of}
 use Rattle.zk_runs.specs.Accepting.{Took, HasTaken, BeginsIn, HaltsIn}
+use Rattle.zk_runs.specs.Stepping.{GathersIn, StopsGathering, TakesIn, HaltsWithin}
 use Rattle.zk_runs.proofs.Known.{known-none, known-whole, known-part, known-front}
 use Rattle.zk_runs.proofs.Accepted.{built-good, took-written}
 use Rattle.zk_runs.proofs.Taken.{begins-of}
@@ -67,8 +69,7 @@ module _ (limits : Limits) (x : List ℕ) (before was now : Option (List ℕ)) (
       count_is = s.count_is;
       written = known-whole before was now due (recording_of s.messages) s.written w;
     }
-    halts-written (Fails Read) count b = begins-written b
-    halts-written (Fails Write) count b = begins-written b
+    halts-written (Fails _) count b = begins-written b
 
   -- a front of it
   module _ (sent : List ℕ) (s : Appends before was sent) (w : HasGrownIn was now due) where
@@ -89,10 +90,19 @@ module _ (limits : Limits) (x : List ℕ) (before was now : Option (List ℕ)) (
     halts-part (Fails Memory) count h =
         begins-of limits x before now h.lines h.rest h.messages Whole h.each h.read (built-good limits h.lines h.messages h.ended h.good)
         (known-part before was now due sent (recording_of h.messages) s h.written w)
-    halts-part (Fails Read) count b = begins-part b
-    halts-part (Fails Write) count b = begins-part b
+    halts-part (Fails _) count b = begins-part b
 
     pub gathered-part : {T : Type 0} (r : Result T Halt) (begun : List ℕ) (count : ℕ) (ended : Bool) (speaker : SpeakerState) →
         OnOk r (HasTaken limits x before (append_known was due) begun count ended speaker) → IfErr r (λ halt. HaltsIn limits x before halt count (append_known was due)) → BeginsIn limits x before now
     gathered-part (Ok u) begun count ended speaker ok err = taken-part begun count ended speaker ok
     gathered-part (Err halt) begun count ended speaker ok err = halts-part halt count err
+
+-- a block was gathered, before which nothing was due, and what is due then was written
+module _ (old new : Builder) (block : List ℕ) (was now : Option (List ℕ)) (due due_now text : List ℕ) (none : due ≡ []) (is : text ≡ due_now) (w : Appends was now text) where
+  pub takes-gathered : GathersIn old new block due due_now → TakesIn old new block was now
+  takes-gathered goes limits x before t =
+      taken-written limits (x ++ block) before was now due_now (subst (Appends was now) is w) _ _ _ _ (goes limits x before was (taken-unput limits x before was due none _ _ _ _ t))
+
+  pub halts-gathered : (halt : Halt) → StopsGathering old new block due due_now halt → HaltsWithin old new block was now halt
+  halts-gathered halt halts limits x before t =
+      halts-written limits (x ++ block) before was now due_now (subst (Appends was now) is w) halt _ (halts limits x before was (taken-unput limits x before was due none _ _ _ _ t))

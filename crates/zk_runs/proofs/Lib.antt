@@ -10,6 +10,7 @@ pub mod Taken
 pub mod Gathered
 pub mod Answered
 pub mod Spared
+pub mod Turns
 pub mod Moves
 pub mod Paid
 pub mod Migrates

@@ -15,7 +15,7 @@ use Rattle.zk_recordings.specs.declared.parts.Part.{Part}
 use Rattle.zk_recordings.specs.declared.parts.Part.TheVariants.{SideByte, Time, Size}
 use Rattle.zk_recordings.specs.Parts.{number, long_number, is_within, is_good, damage_cut, piece_parts}
 use Rattle.zk_recordings.specs.HeadLimits.{profile_by}
-use Rattle.zk_recordings.specs.Recording.{End, Cut, Bad, IsBreakIn, Head, First, Second, IsHead, Piece, IsPiece, no_time, AtLetters, InHead, InPieces, AreIn, Recording, Breaks, Ends, IsRecording, bytes_of, Spells, place_of, front, behind, damage_at, end_damage, history_of, limits_of, damage_of, nothing}
+use Rattle.zk_recordings.specs.Recording.{End, Cut, Bad, IsBreakIn, Head, First, Second, IsHead, Piece, IsPiece, no_time, InPieces, AreIn, Recording, Breaks, Ends, IsRecording, bytes_of, Spells, place_of, front, behind, damage_at, end_damage, history_of, limits_of, damage_of, nothing}
 use Rattle.zk_listings.specs.Outcome.{IsOutcome}
 use Rattle.zk_listings.proofs.Lasting.{same-outcome}
 use Rattle.zk_runs.specs.Migrating.{head_of, migrated, ListsAs, IsOf, IsWhole}
@@ -98,11 +98,10 @@ record EndsWhole (r : Recording) (head : Head) : Type 0 where
   is : r ≡ Breaks (InPieces head pieces) nothing
 
 whole-first : (r : Recording) → IsRecording r → damage_of r ≡ None → IsOf Zkr1 (place_of r) → EndsWhole r First
-whole-first (Breaks AtLetters b) is none first = absurd first
-whole-first (Breaks (InHead f) b) is none first = absurd first
 whole-first (Breaks (InPieces First ps) b) is none first =
     record { pieces = ps; are = is.stands; is = ap (λ q. Breaks (InPieces First ps) q) (whole-break Zkr1 (behind (InPieces First ps) b.before) b.before b.part b.end is.breaks none) }
 whole-first (Breaks (InPieces (Second c s w p) ps) b) is none first = absurd cc
+whole-first (Breaks _ b) is none first = absurd first
 whole-first (Ends head ps last) is none first = absurd cc
 
 -- ---- what it is migrated to
@@ -144,12 +143,11 @@ module _ (options other : Limits) (x : List ℕ) (r : Recording) (whole : IsWhol
 -- ---- a recording of the second format stays as it is
 
 same-in : (options : Limits) (r : Recording) → IsRecording r → damage_of r ≡ None → IsOf Zkr2 (place_of r) → migrated options r ≡ bytes_of r
-same-in options (Breaks AtLetters b) is none second = absurd second
-same-in options (Breaks (InHead f) b) is none second = absurd second
 same-in options (Breaks (InPieces First ps) b) is none second = absurd cc
 same-in options (Breaks (InPieces (Second c s w p) ps) b) is none second =
     let place = InPieces (Second c s w p) ps in
     sym (append-nil (front place)) ∙ ap (λ q. bytes_of (Breaks place q)) (sym (whole-break Zkr2 (behind place b.before) b.before b.part b.end is.breaks none))
+same-in options (Breaks _ b) is none second = absurd second
 same-in options (Ends head ps last) is none second = absurd cc
 
 pub same : (options : Limits) (x : List ℕ) (r : Recording) → IsWhole Zkr2 x r → migrated options r ≡ x

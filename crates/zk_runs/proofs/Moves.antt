@@ -8,7 +8,6 @@ use Rattle.std.proofs.lemmas.Grind.{flat_map-append}
 use Rattle.std.proofs.lemmas.List.Elements.{All-head, All-tail}
 use Rattle.zk_talk.specs.declared.limits.Limits.{Limits}
 use Rattle.zk_talk.specs.declared.message.Side.{Side}
-use Rattle.zk_recordings.specs.declared.parts.DamageAt.{DamageAt}
 use Rattle.zk_recordings.specs.declared.parts.Format.{Format}
 use Rattle.zk_recordings.specs.declared.parts.Format.TheVariants.{Zkr1, Zkr2}
 use Rattle.zk_recordings.specs.declared.parts.Part.{Part}
@@ -17,15 +16,13 @@ use Rattle.zk_recordings.specs.Reader.{ReaderState}
 use Rattle.zk_recordings.specs.Parts.{number, piece_parts}
 use Rattle.zk_recordings.specs.Pieces.{ReadsPiece}
 use Rattle.zk_recordings.specs.Recording.{no_time, spelled, End, Cut, Bad, end_bytes, Break, IsBreakIn, Head, First, Second, format_of, head_bytes, Piece, IsPiece, piece_bytes, Place, AtLetters, InHead, InPieces, IsPlace, front, Recording, Breaks, Ends, IsRecording, Spells, place_of, begun_of, nothing}
-use Rattle.zk_recordings.specs.Reading.{IsAt, IsDecidedBy, IsHeaded, IsBetween, IsBetweenOf, IsNeverBetween, GoesOn, in_head, within, ends, ReadsOn, format_at}
+use Rattle.zk_recordings.specs.Reading.{IsAt, IsHeaded, IsBetween, IsBetweenOf, IsNeverBetween, GoesOn, in_head, within, ends, ReadsOn, format_at}
 use Rattle.zk_listings.specs.Outcome.{HasGrownIn}
-use Rattle.zk_runs.specs.Migrating.{head_of, second, migrated_at, migrated, timed, taken, sent, kept_at, kept, IsHeadedIf, HasMoved, HasMovedTo}
+use Rattle.zk_runs.specs.Migrating.{head_of, second, migrated_at, migrated, timed, taken, sent, kept_at, kept, IsHeadedIf, HasMoved}
 use Rattle.zk_recordings.proofs.Walks.{Walk, Walked, Broke, walk}
 use Rattle.zk_recordings.proofs.Once.{with_content, piece_with, choose, parse, piece-some, spells-once, recorded}
 use Rattle.zk_recordings.proofs.Any.{any, goes}
 use Rattle.zk_listings.proofs.Feeding.{grown-whole}
-use Rattle.zk_recordings.proofs.Stages.{damaged-more}
-use Rattle.zk_listings.proofs.Stops.{rejoined}
 use Rattle.zk_listings.proofs.Stopped.{grown-in}
 
 -- ---- where nothing is begun
@@ -43,17 +40,15 @@ bare-break Zkr2 [] part (Bad value more) is none = absurd (omega (arith, ap leng
 bare-break Zkr2 (v ∷ vs) part end is none = absurd (omega (arith, ap length none, length-append v (spelled vs (end_bytes end)), is.0.wide))
 
 between : (r : Recording) → IsRecording r → IsHeaded (place_of r) → begun_of r ≡ [] → IsBetween r
-between (Breaks AtLetters b) is headed none = absurd headed
-between (Breaks (InHead f) b) is headed none = absurd headed
 between (Breaks (InPieces head ps) b) is headed none = (head, ps, ap (λ q. Breaks (InPieces head ps) q) (bare-break (format_of head) b.before b.part b.end is.breaks none))
+between (Breaks _ b) is headed none = absurd headed
 between (Ends head ps last) is headed none = absurd (omega (arith, ap length none, piece-some (format_of head) last))
 
 -- ---- what is kept and what is written, by the place
 
 kept-bare : (place : Place) (begun : List ℕ) → (IsHeaded place → ⊥) → kept_at place begun ≡ front place ++ begun
-kept-bare AtLetters begun none = refl
-kept-bare (InHead f) begun none = refl
 kept-bare (InPieces head ps) begun none = absurd (none tt)
+kept-bare _ begun none = refl
 
 timed-none : (f : Format) → timed f [] ≡ []
 timed-none Zkr1 = refl
@@ -97,9 +92,8 @@ plain-taken None old used none starts = refl
 plain-taken (Some f) old used none starts = absurd (none (subst (λ r. IsHeaded (place_of r)) (sym starts.0.2) tt))
 
 none-written : (options : Limits) (place : Place) → (IsHeaded place → ⊥) → migrated_at options place ≡ []
-none-written options AtLetters none = refl
-none-written options (InHead f) none = refl
 none-written options (InPieces head ps) none = absurd (none tt)
+none-written options _ none = refl
 
 unwritten : (head_written : Bool) (place : Place) → (IsHeaded place → ⊥) → IsHeadedIf head_written place → head_written ≡ false
 unwritten true place none is = absurd (none is)
@@ -164,9 +158,10 @@ headed-whole : (options : Limits) (head : Head) (bytes : List ℕ) → bytes ≡
 headed-whole options First bytes e = append-nil (head_bytes (head_of options))
 headed-whole options (Second c s w p) bytes e = sym e
 
-sent-piece : (options : Limits) (f : Format) (held : List ℕ) → sent options f true held ≡ held
-sent-piece options Zkr1 held = refl
-sent-piece options Zkr2 held = refl
+sent-headed : (options : Limits) (format : Format) (head_whole : Bool) (held : List ℕ) → head_whole ≡ true → sent options format head_whole held ≡ held
+sent-headed options Zkr1 true held whole = refl
+sent-headed options Zkr2 true held whole = refl
+sent-headed options format false held whole = cc
 
 module _ (options : Limits) (head_whole : Bool) (after : Option Format) (x used : List ℕ) (old : Recording) (side : Option Side) (head : Head) (ps : List Piece) where
   abbrev new : Recording
@@ -196,8 +191,7 @@ module _ (options : Limits) (head_whole : Bool) (after : Option Format) (x used 
       ap (λ l. front (InPieces (second options head) l)) last
       ∙ front-last (second options head) before piece
       ∙ ap (λ l. front (InPieces (second options head) before) ++ l) (sym (timed-piece options head piece sound))
-      ∙ ap (λ l. front (InPieces (second options head) before) ++ l) (sym mine ∙ sym (sent-piece options f held))
-      ∙ ap (λ w. front (InPieces (second options head) before) ++ sent options f w held) (sym is)
+      ∙ ap (λ l. front (InPieces (second options head) before) ++ l) (sym mine ∙ sym (sent-headed options f head_whole held is))
       ∙ ap (λ q. migrated_at options q ++ sent options f head_whole held) (sym e)
 
   sends-in : Spells x old → Spells (x ++ used) new → 0 < length used → IsHeadedIf head_whole (place_of old) → StartsAt after old → GoesOn old used side new →
@@ -252,8 +246,6 @@ place-is (Ends head ps last) is = is.stands
 
 further-in : (options : Limits) (x more : List ℕ) (r new : Recording) (place : Place) → place_of r ≡ place → Spells x r → Spells (x ++ more) new →
     (after : List ℕ) × (migrated options new ≡ migrated options r ++ after)
-further-in options x more r new AtLetters e i j = (migrated options new, ap (λ q. migrated_at options q ++ migrated options new) (sym e))
-further-in options x more r new (InHead f) e i j = (migrated options new, ap (λ q. migrated_at options q ++ migrated options new) (sym e))
 further-in options x more r new (InPieces head ps) e i j =
     let rest = begun_of r ++ more in
     let n = suc (length rest) in
@@ -266,6 +258,7 @@ further-in options x more r new (InPieces head ps) e i j =
       ap (migrated options) same ∙ ap (migrated_at options) m.1 ∙ front-more (second options head) ps m.0
           ∙ ap (λ q. migrated_at options q ++ flat_map (piece_bytes (format_of (second options head))) m.0) (sym e),
     )
+further-in options x more r new _ e i j = (migrated options new, ap (λ q. migrated_at options q ++ migrated options new) (sym e))
 
 -- a front of what these bytes are migrated to was written
 pub record HasMovedIn (options : Limits) (x : List ℕ) (before now : Option (List ℕ)) : Type 0 where
@@ -357,11 +350,6 @@ taken-parts : (after : Option Format) (head content : List ℕ) → (head ≡ []
 taken-parts None head content some = refl
 taken-parts (Some f) head content some = timed-more f head content some
 
-sent-headed : (options : Limits) (format : Format) (head_whole : Bool) (held : List ℕ) → head_whole ≡ true → sent options format head_whole held ≡ held
-sent-headed options Zkr1 true held whole = refl
-sent-headed options Zkr2 true held whole = refl
-sent-headed options format false held whole = cc
-
 module _ (options : Limits) (x block : List ℕ) (head used : ℕ) (some : 0 < head) (order : head < used) (within_block : used ≤ length block)
     (head_whole : Bool) (mark : ℕ) (held : List ℕ) (within_held : mark ≤ length held) (s : ReaderState) (before now : Option (List ℕ))
     (t : HasMoved options x head_whole (take mark held) (drop mark held) s before now)
@@ -396,21 +384,3 @@ module _ (options : Limits) (x block : List ℕ) (head used : ℕ) (some : 0 < h
       more more_parts reads.format reads.after length_is more all end end_is in
       let whole = subst (λ b. HasMoved options ((x ++ take head block) ++ content) b (take end more) (drop end more) state before now) (sym headed) second in
       subst (λ y. HasMoved options y head_whole (take end more) (drop end more) state before now) (append_assoc x (take head block) content ∙ ap (λ l. x ++ l) (sym parts)) whole
-
--- ---- one step after another
-
-pub joined : (x block : List ℕ) (at' used : ℕ) → (x ++ take at' block) ++ take used (drop at' block) ≡ x ++ take (at' + used) block
-joined x block at' used = append_assoc x (take at' block) (take used (drop at' block)) ∙ ap (λ l. x ++ l) (sym (take-add at' used block))
-
-pub found-damage : (options : Limits) (x block : List ℕ) (n : ℕ) (d : DamageAt) (head_whole : Bool) (due begun : List ℕ) (s : ReaderState) (before now : Option (List ℕ)) →
-    HasMoved options (x ++ take n block) head_whole due begun s before now → ((y : List ℕ) (r : Recording) → IsAt s y r → IsDecidedBy d y r) → HasMovedTo options (x ++ block) d due before now
-found-damage options x block n d head_whole due begun s before now t decided =
-    let m = damaged-more d (x ++ take n block) (drop n block) t.recording t.at.spells (decided _ t.recording t.at) in
-    record {
-      recording = m.0;
-      spells = subst (λ y. Spells y m.0) (rejoined x block n) m.1;
-      decided = subst (λ y. IsDecidedBy d y m.0) (rejoined x block n) m.2;
-      written = t.written;
-      is = ap (migrated_at options) m.3 ∙ t.is;
-      appended = t.appended;
-    }

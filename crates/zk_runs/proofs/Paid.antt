@@ -9,7 +9,7 @@ use Rattle.zk_recordings.specs.Recording.{Recording, Spells, damage_of}
 use Rattle.zk_recordings.specs.Reading.{IsAt}
 use Rattle.zk_listings.specs.Outcome.{IsBroken, HasGrownIn}
 use Rattle.zk_runs.specs.Migrating.{migrated, HasMoved, HasMovedTo, HasMovedBy, HasMigrated, HasMigratedSoFar, HasBegunMigrating, answered}
-use Rattle.zk_listings.proofs.Bytes.{Appends-then, Consumes-then}
+use Rattle.zk_listings.proofs.Bytes.{Appends-then}
 use Rattle.zk_listings.proofs.Found.{reads as reads-by, grown-further}
 use Rattle.zk_listings.proofs.Feeding.{grown-whole}
 use Rattle.zk_runs.proofs.Moves.{HasMovedIn, moved-further, moved-before}
@@ -59,9 +59,6 @@ let-go options x before now head_whole whole_now s state begun held mark w r m h
 
 -- ---- what a run has read and written
 
-pub read-none : (unread mid unread_now : Option (List ℕ)) (x none : List ℕ) → Consumes unread mid x → Consumes mid unread_now none → none ≡ [] → Consumes unread unread_now x
-read-none unread mid unread_now x none p q nothing = subst (Consumes unread unread_now) (ap (λ b. x ++ b) nothing ∙ append-nil x) (Consumes-then unread mid unread_now x none p q)
-
 module _ (options : Limits) (unread unread_now : Option (List ℕ)) (x : List ℕ) (before now : Option (List ℕ)) (p : Consumes unread unread_now x) where
   pub begun-in : HasMovedIn options x before now → HasBegunMigrating options unread unread_now before now
   begun-in t = record { bytes = x; recording = t.recording; reads = reads-by unread unread_now x t.recording p t.spells; written = t.written }
@@ -106,5 +103,5 @@ migrated-damaged options unread unread_now x d due before mid now p t q answer e
   reads = reads-by unread unread_now x t.recording p t.spells;
   answer_is = e ∙ ap answered (sym t.decided.damage);
   written = subst (Appends before now) (sym t.is) (Appends-then before mid now t.written due t.appended q);
-  enough = inr (record { damage = d; is = t.decided.damage; decided = t.decided.decided; head_read = t.decided.head_read });
+  enough = inr (d, t.decided);
 }

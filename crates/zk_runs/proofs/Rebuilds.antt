@@ -9,7 +9,7 @@ use Rattle.std.proofs.lemmas.List.Elements.{All-map, All-from_recursion}
 use Rattle.std.specs.Int.{to_be_bytes}
 use Rattle.std.specs.List.{All, AllByRecursion, flat_map}
 use Rattle.zk_frames.specs.Framing.{frame}
-use Rattle.zk_frames.proofs.Cuts.{length-frame}
+use Rattle.zk_frames.proofs.Cuts.{AllByRecursion-push, length-frame}
 use Rattle.zk_talk.specs.declared.limits.Limits.{Limits}
 use Rattle.zk_talk.specs.declared.message.Side.TheVariants.{Client, Server}
 use Rattle.zk_talk.specs.Held.{Message}
@@ -29,7 +29,7 @@ use Rattle.zk_lines.proofs.LawsShown.{line_printed}
 use Rattle.zk_lines.proofs.LawsEndings.{ending_printed}
 use Rattle.zk_lines.proofs.LawsPrinted.{unbroken}
 use Rattle.zk_runs.specs.declared.built.Built.{Built}
-use Rattle.zk_runs.specs.declared.built.Built.TheVariants.{Whole, LineRefused, SayRefused}
+use Rattle.zk_runs.specs.declared.built.Built.TheVariants.{Whole}
 use Rattle.zk_listings.specs.declared.summary.Summary.TheVariants.{Ended}
 use Rattle.zk_recordings.specs.declared.parts.Format.TheVariants.{Zkr1}
 use Rattle.zk_recordings.specs.declared.parts.Part.TheVariants.{SideByte}
@@ -55,10 +55,6 @@ each_line : (messages : List Message) → AllByRecursion Fits messages → AllBy
 each_line [] h = tt
 each_line (m ∷ messages) h = (unbroken (line m) (line_printed m h.0), each_line messages h.1)
 
-each_push : {X : Type 0} (P : X → Type 0) (xs : List X) (x : X) → AllByRecursion P xs → P x → AllByRecursion P (xs ++ x ∷ [])
-each_push P [] x h p = (p, tt)
-each_push P (y ∷ xs) x h p = (h.0, each_push P xs x h.1 p)
-
 module _ (limits : Limits) (messages : List Message) (are : AreSaid limits messages) where
   lines : List (List ℕ)
   lines = map line messages ++ due_ending messages ∷ []
@@ -74,7 +70,7 @@ module _ (limits : Limits) (messages : List Message) (are : AreSaid limits messa
   are_lines : (n : ℕ) → n ≡ unanswered (conversation_of messages) → AreLines (whole_listing messages n) lines
   unfolding lines
   are_lines n e = all_fed
-      (each_push IsLine (map line messages) (due_ending messages) (each_line messages (said_fit limits messages are))
+      (AllByRecursion-push IsLine (map line messages) (due_ending messages) (each_line messages (said_fit limits messages are))
       (unbroken (due_ending messages) (ending_printed (whole (unanswered (conversation_of messages))))))
       (listed n e)
 
@@ -175,8 +171,7 @@ module _ (w : WholeConversation) where
 
   whole_alike : (built : Built) → AreAlike Whole built → built ≡ Whole
   whole_alike Whole a = refl
-  whole_alike (LineRefused at fault) a = absurd a
-  whole_alike (SayRefused at fault) a = absurd a
+  whole_alike _ a = absurd a
 
   pub listing_run : BuildsJust w.limits (listing_of w) w.messages Whole
   listing_run unread contents contents_now built has =

@@ -2,14 +2,13 @@
 use Rattle.std.proofs.Common.{Result, Ok, Err, IfOk, IfErr}
 use Rattle.zk_runs.specs.declared.builder.Halt.{Halt}
 use Rattle.zk_runs.specs.declared.builder.Halt.TheVariants.{Refused, Fails}
-use Rattle.zk_listings.specs.declared.listing.RunFault.TheVariants.{Read, Write, Memory}
+use Rattle.zk_listings.specs.declared.listing.RunFault.TheVariants.{Read, Write}
 use Rattle.zk_runs.specs.Accepting.{answer_of, IfSpared}
 
 pub spared-halt : (halt : Halt) (P : Type 0) → P → IfSpared halt P
-spared-halt (Refused built) P p = p
-spared-halt (Fails Memory) P p = p
 spared-halt (Fails Read) P p = tt
 spared-halt (Fails Write) P p = tt
+spared-halt _ P p = p
 
 pub spared-result : {T : Type 0} (r : Result T Halt) (P : Type 0) → P → IfErr r (λ halt. IfSpared halt P)
 spared-result (Ok x) P p = tt

@@ -14,32 +14,20 @@ use Rattle.zk_runs.specs.declared.built.Built.{Built}
 use Rattle.zk_runs.specs.declared.built.Built.TheVariants.{Whole}
 use Rattle.zk_runs.specs.declared.builder.Halt.{Halt}
 use Rattle.zk_runs.specs.declared.builder.Halt.TheVariants.{Refused, Fails}
-use Rattle.zk_listings.specs.declared.listing.RunFault.TheVariants.{Read, Write, Memory}
+use Rattle.zk_listings.specs.declared.listing.RunFault.TheVariants.{Memory}
 use Rattle.zk_listings.specs.Outcome.{HasGrownIn}
-use Rattle.zk_runs.specs.Building.{IsLine, with_feed, fed, AreLines, all_fed, last_unfed, AreAccepted, AreEnded, due_ending, recording_of}
+use Rattle.zk_runs.specs.Building.{IsLine, with_feed, fed, AreLines, last_unfed, AreAccepted, AreEnded, due_ending, recording_of}
 use Rattle.zk_runs.specs.Building.{IsBuilt, without_ending, with_ending, behind_ending, other_ending, no_message, not_said}
 use Rattle.zk_runs.specs.Accepting.{Took, HasTaken, StopsAfter, HaltsAt, BeginsIn, StopsIn, HaltsIn, BuildsAll, BeginsAll, some, all, answer_of}
 use Rattle.zk_listings.proofs.Feeding.{grown-whole}
 use Rattle.zk_runs.proofs.Known.{known-part}
-use Rattle.zk_runs.proofs.Accepted.{all-snoc, built-good}
+use Rattle.zk_frames.proofs.Cuts.{AllByRecursion-left, AllByRecursion-push}
+use Rattle.zk_listings.proofs.Comings.{all-append}
+use Rattle.zk_runs.proofs.Accepted.{built-good}
 use Rattle.zk_recordings.proofs.Lists.{flat_map-snoc}
-
-all-append : {X : Type 0} (P : X → Type 0) (xs ys : List X) → AllByRecursion P xs → AllByRecursion P ys → AllByRecursion P (xs ++ ys)
-all-append P [] ys a b = b
-all-append P (x ∷ xs) ys a b = (a.0, all-append P xs ys a.1 b)
-
-all-front : {X : Type 0} (P : X → Type 0) (xs ys : List X) → AllByRecursion P (xs ++ ys) → AllByRecursion P xs
-all-front P [] ys a = tt
-all-front P (x ∷ xs) ys a = (a.0, all-front P xs ys a.1)
-
-pub line-of : (bytes : List ℕ) → All (λ b. b ≢ 10) bytes → IsLine bytes
-line-of bytes a = recursion_from_All (λ b. b ≢ 10) bytes a
 
 fed-more : (lines : List (List ℕ)) (next : List ℕ) → fed (lines ++ next ∷ []) ≡ fed lines ++ with_feed next
 fed-more lines next = flat_map-snoc with_feed lines next
-
-fed-append : (front rest : List (List ℕ)) → fed (front ++ rest) ≡ fed front ++ fed rest
-fed-append front rest = flat_map-append with_feed front rest
 
 -- some of the first lines, which are accepted
 record Accepts (limits : Limits) (lines : List (List ℕ)) (messages : List Message) : Type 0 where
@@ -69,8 +57,8 @@ begins-of limits x before now lines rest messages built each read is written =
     record {
       lines = a.front;
       rest = fed a.rest ++ rest;
-      each = all-front IsLine a.front a.rest (subst (AllByRecursion IsLine) a.splits each);
-      read = read ∙ ap (λ l. fed l ++ rest) a.splits ∙ ap (λ l. l ++ rest) (fed-append a.front a.rest) ∙ append_assoc (fed a.front) (fed a.rest) rest;
+      each = AllByRecursion-left IsLine a.front a.rest (subst (AllByRecursion IsLine) a.splits each);
+      read = read ∙ ap (λ l. fed l ++ rest) a.splits ∙ ap (λ l. l ++ rest) (flat_map-append with_feed a.front a.rest) ∙ append_assoc (fed a.front) (fed a.rest) rest;
       begins = record { messages = messages; accepted = a.accepted; written = written };
     }
 
@@ -112,7 +100,7 @@ module _ (limits : Limits) (x : List ℕ) (before now : Option (List ℕ)) (begu
       HasTaken limits (x ++ 10 ∷ []) before after [] more closed new
   taken-line after more closed new took = record {
     lines = t.lines ++ begun ∷ [];
-    each = all-snoc IsLine t.lines begun t.each t.begun_is;
+    each = AllByRecursion-push IsLine t.lines begun t.each t.begun_is;
     begun_is = tt;
     read = read-line ∙ sym (append-nil (fed (t.lines ++ begun ∷ [])));
     took = took;
@@ -121,7 +109,7 @@ module _ (limits : Limits) (x : List ℕ) (before now : Option (List ℕ)) (begu
   -- the line feed came, and the line was refused
   pub halts-line : (rest : List ℕ) (halt : Halt) → HaltsAt limits t.lines begun before halt now → HaltsIn limits (x ++ 10 ∷ rest) before halt count now
   halts-line rest halt halts =
-      let each = all-snoc IsLine t.lines begun t.each t.begun_is in
+      let each = AllByRecursion-push IsLine t.lines begun t.each t.begun_is in
       let read : x ++ 10 ∷ rest ≡ fed (t.lines ++ begun ∷ []) ++ rest = sym (append_assoc x (10 ∷ []) rest) ∙ ap (λ l. l ++ rest) read-line in
       by halt halts each read where
         stop : StopsAfter limits t.lines before now → StopsIn limits (x ++ 10 ∷ rest) before now count
@@ -150,18 +138,7 @@ module _ (limits : Limits) (x : List ℕ) (before now : Option (List ℕ)) (begu
             HaltsIn limits (x ++ 10 ∷ rest) before halt count now
         by (Refused built) refuses each read = record { lines = t.lines ++ begun ∷ []; rest = rest; each = each; read = read; refuses = refuses }
         by (Fails Memory) s each read = stop s
-        by (Fails Read) s each read = begin s
-        by (Fails Write) s each read = begin s
-
-  -- at the end of the bytes with no line begun
-  pub builds-here : begun ≡ [] → BuildsAll limits x before now Whole
-  builds-here none = record {
-    lines = t.lines;
-    messages = t.took.messages;
-    all = all_fed t.each (t.read ∙ ap (λ l. fed t.lines ++ l) none ∙ append-nil (fed t.lines));
-    is = built-good limits t.lines t.took.messages ended t.took.knows.good;
-    written = t.took.written;
-  }
+        by (Fails _) s each read = begin s
 
   module _ (begun_some : begun ≢ []) (after : Option (List ℕ)) where
     all-lines : AreLines x (t.lines ++ begun ∷ [])
@@ -247,7 +224,7 @@ module _ (limits : Limits) (x : List ℕ) (before now : Option (List ℕ)) (begu
     (t : HasTaken limits x before now begun count ended speaker) (block : List ℕ) (used : ℕ) (grown : List ℕ) (is : grown ≡ begun ++ take used block) (plain : All (λ b. b ≢ 10) (take used block)) where
   pub taken-front : HasTaken limits (x ++ take used block) before now grown count ended speaker
   taken-front = subst (λ b. HasTaken limits (x ++ take used block) before now b count ended speaker) (sym is)
-      (taken-more limits x before now begun count ended speaker t (take used block) (line-of (take used block) plain))
+      (taken-more limits x before now begun count ended speaker t (take used block) (recursion_from_All (λ b. b ≢ 10) (take used block) plain))
 
   module _ (within : used < length block) (found : get_or block used 0 ≡ 10) where
     pub halts-block : (halt : Halt) → HaltsAt limits taken-front.lines grown before halt now → HaltsIn limits (x ++ block) before halt count now

@@ -50,8 +50,7 @@ pub record HasTaken (limits : Limits) (x : List ℕ) (before now : Option (List 
 
 abbrev pub IsRefused : Built → Type 0
 IsRefused Whole = ⊥
-IsRefused (LineRefused at fault) = Unit {0}
-IsRefused (SayRefused at fault) = Unit {0}
+IsRefused _ = Unit {0}
 
 -- a line is refused
 pub record Refuses (limits : Limits) (lines : List (List ℕ)) (before now : Option (List ℕ)) (built : Built) : Type 0 where
@@ -108,8 +107,7 @@ pub record StopsIn (limits : Limits) (x : List ℕ) (before now : Option (List �
 abbrev pub HaltsIn : Limits → List ℕ → Option (List ℕ) → Halt → ℕ → Option (List ℕ) → Type 0
 HaltsIn limits x before (Refused built) count now = RefusesIn limits x before now built
 HaltsIn limits x before (Fails Memory) count now = StopsIn limits x before now count
-HaltsIn limits x before (Fails Read) count now = BeginsIn limits x before now
-HaltsIn limits x before (Fails Write) count now = BeginsIn limits x before now
+HaltsIn limits x before (Fails _) count now = BeginsIn limits x before now
 
 -- ---- at the end of the bytes
 
@@ -151,7 +149,6 @@ answer_of (Fails fault) = Err fault
 
 -- if the run halts by no failed read or write
 abbrev pub IfSpared : Halt → Type 0 → Type 0
-IfSpared (Refused built) P = P
-IfSpared (Fails Memory) P = P
 IfSpared (Fails Read) P = Unit {0}
 IfSpared (Fails Write) P = Unit {0}
+IfSpared _ P = P

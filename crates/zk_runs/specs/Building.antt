@@ -46,6 +46,13 @@ pub data StandFirst (x : List ℕ) (unread : Option (List ℕ)) (lines : List (L
   fed_in : (rest : List ℕ) → AllByRecursion IsLine lines → x ≡ fed lines ++ rest → StandFirst x unread lines
   all_of : IsAtEnd unread → AreLines x lines → StandFirst x unread lines
 
+-- the bytes are these lines, with a line feed after each, and the one that is begun
+pub record AreBegun (x : List ℕ) (lines : List (List ℕ)) : Type 0 where
+  pub rest : List ℕ
+  pub splits : x ≡ fed lines ++ rest
+  pub each : AllByRecursion IsLine lines
+  pub begun : IsLine rest
+
 -- ---- recordings
 
 -- a piece of these bytes that came at no time
@@ -127,40 +134,32 @@ pub data IsBuilt (limits : Limits) (lines : List (List ℕ)) (messages : List Me
 -- which lines were judged: all there are if none is refused, else some of the first
 abbrev pub Covers : Built → List ℕ → Option (List ℕ) → List (List ℕ) → Type 0
 Covers Whole x unread lines = IsAtEnd unread × AreLines x lines
-Covers (LineRefused at fault) x unread lines = StandFirst x unread lines
-Covers (SayRefused at fault) x unread lines = StandFirst x unread lines
+Covers _ x unread lines = StandFirst x unread lines
 
 -- ---- what a run has read and written when it returns
 
--- the recording of the messages of the lines before the one that is refused, or of all lines
-pub record HasBuilt (limits : Limits) (unread unread_now contents contents_now : Option (List ℕ)) (built : Built) : Type 0 where
+-- how the bytes that were read are lines, what the lines are with their messages, and what was written of the recording of these
+pub record HasRecorded (unread unread_now contents contents_now : Option (List ℕ)) (Stand : List ℕ → List (List ℕ) → Type 0)
+    (Are : List (List ℕ) → List Message → Type 0) (Written : Option (List ℕ) → Option (List ℕ) → List ℕ → Type 0) : Type 0 where
   pub bytes : List ℕ
   pub lines : List (List ℕ)
   pub messages : List Message
   pub consumed : Consumes unread unread_now bytes
-  pub covers : Covers built bytes unread_now lines
-  pub is : IsBuilt limits lines messages built
-  pub written : Appends contents contents_now (recording_of messages)
+  pub stand : Stand bytes lines
+  pub are : Are lines messages
+  pub written : Written contents contents_now (recording_of messages)
+
+-- the recording of the messages of the lines before the one that is refused, or of all lines
+abbrev pub HasBuilt : Limits → Option (List ℕ) → Option (List ℕ) → Option (List ℕ) → Option (List ℕ) → Built → Type 0
+HasBuilt limits unread unread_now contents contents_now built = HasRecorded unread unread_now contents contents_now
+    (λ bytes lines. Covers built bytes unread_now lines) (λ lines messages. IsBuilt limits lines messages built) Appends
 
 -- none of the whole lines that were read is refused, and the recording of their messages was written
-pub record HasBuiltSoFar (limits : Limits) (unread unread_now contents contents_now : Option (List ℕ)) : Type 0 where
-  pub bytes : List ℕ
-  pub lines : List (List ℕ)
-  pub rest : List ℕ
-  pub messages : List Message
-  pub consumed : Consumes unread unread_now bytes
-  pub splits : bytes ≡ fed lines ++ rest
-  pub each : AllByRecursion IsLine lines
-  pub begun : IsLine rest
-  pub is : IsBuilt limits lines messages Whole
-  pub written : Appends contents contents_now (recording_of messages)
+abbrev pub HasBuiltSoFar : Limits → Option (List ℕ) → Option (List ℕ) → Option (List ℕ) → Option (List ℕ) → Type 0
+HasBuiltSoFar limits unread unread_now contents contents_now = HasRecorded unread unread_now contents contents_now
+    AreBegun (λ lines messages. IsBuilt limits lines messages Whole) Appends
 
 -- a front was written of the recording of the messages of some of the first lines
-pub record HasBegunBuilding (limits : Limits) (unread unread_now contents contents_now : Option (List ℕ)) : Type 0 where
-  pub bytes : List ℕ
-  pub lines : List (List ℕ)
-  pub messages : List Message
-  pub consumed : Consumes unread unread_now bytes
-  pub stand : StandFirst bytes unread_now lines
-  pub accepted : AreAccepted limits lines messages
-  pub written : HasGrownIn contents contents_now (recording_of messages)
+abbrev pub HasBegunBuilding : Limits → Option (List ℕ) → Option (List ℕ) → Option (List ℕ) → Option (List ℕ) → Type 0
+HasBegunBuilding limits unread unread_now contents contents_now = HasRecorded unread unread_now contents contents_now
+    (λ bytes lines. StandFirst bytes unread_now lines) (AreAccepted limits) HasGrownIn

@@ -1,9 +1,9 @@
 -- The statuses of the program, and why the words of a command line are refused.
-use Rattle.std.specs.Prelude.{ℕ}
+use Rattle.std.specs.Prelude.{◌≡◌, ℕ, ◌+◌, ◌<◌, ◌≤◌, Bool, false}
 use Rattle.clap.specs.declared.error.kind.ErrorKind.{ErrorKind}
 use Rattle.clap.specs.declared.error.kind.ErrorKind.TheVariants.{OutOfMemory}
 use Rattle.zk_runs.specs.declared.built.Built.{Built}
-use Rattle.zk_runs.specs.declared.built.Built.TheVariants.{Whole, LineRefused, SayRefused}
+use Rattle.zk_runs.specs.declared.built.Built.TheVariants.{Whole}
 use Rattle.zk_runs.specs.declared.migrate.Migrated.{Migrated}
 use Rattle.zk_runs.specs.declared.migrate.Migrated.TheVariants.{Whole as migrated_whole, Damaged}
 use Rattle.zk_runs.specs.declared.options.UsageFault.{UsageFault}
@@ -22,8 +22,7 @@ refusal_of Memory = 3
 -- a line that is refused is a bad end
 abbrev pub exit_of_built : Built → ℕ
 exit_of_built Whole = 0
-exit_of_built (LineRefused line fault) = 1
-exit_of_built (SayRefused line fault) = 1
+exit_of_built _ = 1
 
 -- a damaged recording is a bad end
 abbrev pub exit_of_migrated : Migrated → ℕ
@@ -34,3 +33,11 @@ exit_of_migrated (Damaged offset reason) = 1
 abbrev pub usage_fault : ErrorKind → UsageFault
 usage_fault OutOfMemory = Memory
 usage_fault _ = Words
+
+-- the status that a run ends with, whose reader was read this often before and after
+pub record IsStatus (exit reads reads_now : ℕ) (reader_failed writer_failed : Bool) : Type 0 where
+  pub known : exit ≤ 3
+  -- a failed read or write is never passed over, and no run reads more often than that
+  pub alive : exit < 2 → reader_failed ≡ false
+  pub intact : exit < 2 → writer_failed ≡ false
+  pub bound : reads_now ≤ reads + 4294967296

@@ -14,8 +14,8 @@ use Rattle.zk_recordings.specs.declared.parts.Format.{Format}
 use Rattle.zk_recordings.specs.declared.parts.Format.TheVariants.{Zkr1, Zkr2}
 use Rattle.zk_recordings.specs.Reader.{ReaderState}
 use Rattle.zk_listings.specs.declared.summary.Summary.{Summary}
-use Rattle.zk_recordings.specs.Recording.{Head, First, Second, format_of, head_bytes, no_time, Place, AtLetters}
-use Rattle.zk_recordings.specs.Recording.{InHead, InPieces, front, Recording, Spells, place_of, begun_of, damage_of}
+use Rattle.zk_recordings.specs.Recording.{Head, First, Second, format_of, head_bytes, no_time, Place}
+use Rattle.zk_recordings.specs.Recording.{InPieces, front, Recording, Spells, place_of, begun_of, damage_of}
 use Rattle.zk_recordings.specs.Reading.{IsAt, IsDecidedBy, IsHeaded}
 use Rattle.zk_listings.specs.Lines.{text_of, last_line}
 use Rattle.zk_listings.specs.Outcome.{Reads, IsOutcome, IsBroken, HasGrownIn}
@@ -31,9 +31,8 @@ second options First = head_of options
 second options (Second client server waiting profile) = Second client server waiting profile
 
 abbrev pub migrated_at : Limits → Place → List ℕ
-migrated_at options AtLetters = []
-migrated_at options (InHead format) = []
 migrated_at options (InPieces head pieces) = front (InPieces (second options head) pieces)
+migrated_at options _ = []
 
 -- nothing if the head is damaged, else the head and the whole pieces, each with its time
 abbrev pub migrated : Limits → Recording → List ℕ
@@ -142,9 +141,8 @@ ListsAs limits x others y = (listing : Listing) (text : List ℕ) → IsListing 
 
 -- a head of this format comes before the place
 abbrev pub IsOf : Format → Place → Type 0
-IsOf format AtLetters = ⊥
-IsOf format (InHead other) = ⊥
 IsOf format (InPieces head pieces) = format_of head ≡ format
+IsOf format _ = ⊥
 
 -- an undamaged recording of this format
 pub record IsWhole (format : Format) (x : List ℕ) (r : Recording) : Type 0 where

@@ -33,14 +33,9 @@ one_a_piece messages = Breaks (InPieces First (map piece_of messages)) nothing
 -- both refuse no line, or both refuse one line: for what it holds, or for one reason to say
 abbrev pub AreAlike : Built → Built → Type 0
 AreAlike Whole Whole = Unit {0}
-AreAlike Whole (LineRefused other cause) = ⊥
-AreAlike Whole (SayRefused other cause) = ⊥
-AreAlike (LineRefused at fault) Whole = ⊥
 AreAlike (LineRefused at fault) (LineRefused other cause) = at ≡ other
-AreAlike (LineRefused at fault) (SayRefused other cause) = ⊥
-AreAlike (SayRefused at fault) Whole = ⊥
-AreAlike (SayRefused at fault) (LineRefused other cause) = ⊥
 AreAlike (SayRefused at fault) (SayRefused other cause) = (at ≡ other) × (fault ≡ cause)
+AreAlike _ _ = ⊥
 
 -- the line after those that are accepted begins with no dot, and is that of no message
 abbrev pub IsForeign : Limits → List (List ℕ) → List Message → Type 0

@@ -17,7 +17,7 @@ use crate::piece::{put_head, put_piece};
 use memchr::memchr;
 use std::alloc::{AllocError, Global};
 use zk_lines::{LineFault, LineReason, copy_line, ending_line, read_line};
-use zk_listings::{BLOCK, Failed, RunFault, Sink, rest, write_whole};
+use zk_listings::{BLOCK, RunFault, Sink, rest, write_whole};
 use zk_talk::{Ending, Limits, Message, SayFault, Side, Speaker};
 
 /// The fault of a line that begins with a dot and isn't the ending line that is due, or of a line after that one.
@@ -66,24 +66,10 @@ impl Halt {
 }
 
 impl From<AllocError> for Halt {
-    ghost use Rattle.zk_runs.specs.declared.builder.Halt.TheVariants.{Fails};
-    ghost use Rattle.zk_listings.specs.declared.listing.RunFault.TheVariants.{Memory};
-
     ghost from_gives = { λ _ halt. halt ≡ Fails Memory };
 
     fn from(_error: AllocError) -> Halt {
         Halt::Fails(RunFault::Memory)
-    }
-}
-
-impl From<Failed> for Halt {
-    ghost use Rattle.zk_runs.specs.declared.builder.Halt.TheVariants.{Fails};
-    ghost use Rattle.zk_listings.specs.declared.listing.RunFault.TheVariants.{Write};
-
-    ghost from_gives = { λ _ halt. halt ≡ Fails Write };
-
-    fn from(_failed: Failed) -> Halt {
-        Halt::Fails(RunFault::Write)
     }
 }
 
@@ -336,8 +322,10 @@ impl Builder {
     {
         let mut due = Vec::new(alloc);
         let gathered = self.gather(alloc, block, &mut due);
-        write_whole(writer, &due)?;
-        gathered
+        match write_whole(writer, &due) {
+            Ok(()) => gathered,
+            Err(_failed) => Err(Halt::Fails(RunFault::Write)),
+        }
     }
 
     /// Takes the end of the input: a line that is begun there has no line feed.

@@ -2,7 +2,7 @@
 ghost use Rattle.std.specs.Prelude.{◌≡◌, ◌+◌, ◌^◌, ◌<◌, ◌≤◌, false, IfOk, IfErr, OnErr};
 ghost use Rattle.zk_listings.specs.Running.{AreReady};
 ghost use Rattle.zk_runs.specs.Commands.{IsDone, IsFailed, Answers, Stops, IsDoneBySome, HasStoppedBySome};
-ghost use Rattle.zk_runs.specs.Exits.{exit_of, exit_of_built, exit_of_migrated, refusal_of};
+ghost use Rattle.zk_runs.specs.Exits.{exit_of, exit_of_built, exit_of_migrated, refusal_of, IsStatus};
 
 use crate::build::build_run;
 use crate::built::Built;
@@ -129,7 +129,6 @@ pub fn run_settings<R: Source, W: Sink, F: Sink>(
     faults: &mut F,
 ) -> u8
     requires { AreReady (R.read_count reader.old) (R.has_failed reader.old) (W.has_failed writer.old) }
-    ensures known { result ≤ 3 }
 
     // The command that was chosen is done, under its limits: what was read is listed, or made a recording.
     ensures done { IfOk chosen (λ s. Answers s (R.remaining reader.old) (R.remaining reader.new) (W.contents writer.old) (W.contents writer.new) result) }
@@ -140,10 +139,7 @@ pub fn run_settings<R: Source, W: Sink, F: Sink>(
     // A failure comes after a front of what the command writes.
     ensures stopped { IfOk chosen (λ s. Stops s (R.remaining reader.old) (R.remaining reader.new) (W.contents writer.old) (W.contents writer.new) result) }
 
-    // A failed read or write is never passed over, and no run reads more often than that.
-    ensures alive { result < 2 → R.has_failed reader.new ≡ false }
-    ensures open { result < 2 → W.has_failed writer.new ≡ false }
-    ensures bound { R.read_count reader.new ≤ R.read_count reader.old + 4294967296 }
+    ensures status { IsStatus result (R.read_count reader.old) (R.read_count reader.new) (R.has_failed reader.new) (W.has_failed writer.new) }
 {
     let chosen = match chosen {
         Ok(chosen) => chosen,
@@ -168,7 +164,6 @@ pub fn run_words<R: Source, W: Sink, F: Sink>(
     faults: &mut F,
 ) -> u8
     requires { AreReady (R.read_count reader.old) (R.has_failed reader.old) (W.has_failed writer.old) }
-    ensures known { result ≤ 3 }
 
     // Below 2, the words are a command line, and its command is done: what was read is listed, or made a recording.
     ensures done { result < 2 → IsDoneBySome (R.remaining reader.old) (R.remaining reader.new) (W.contents writer.old) (W.contents writer.new) result }
@@ -179,10 +174,7 @@ pub fn run_words<R: Source, W: Sink, F: Sink>(
     // Nor if memory for the words is refused; every other failure comes after a front of what the command writes.
     ensures stopped { result ≡ 3 → HasStoppedBySome R.remaining reader.old reader.new W.contents writer.old writer.new }
 
-    // A failed read or write is never passed over, and no run reads more often than that.
-    ensures alive { result < 2 → R.has_failed reader.new ≡ false }
-    ensures open { result < 2 → W.has_failed writer.new ≡ false }
-    ensures bound { R.read_count reader.new ≤ R.read_count reader.old + 4294967296 }
+    ensures status { IsStatus result (R.read_count reader.old) (R.read_count reader.new) (R.has_failed reader.new) (W.has_failed writer.new) }
 {
     run_settings(alloc, settings(alloc, words), reader, writer, faults)
 }

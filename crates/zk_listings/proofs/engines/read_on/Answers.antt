@@ -1,4 +1,4 @@
-use Rattle.std.proofs.Common.{arith, ◌+◌, ◌*◌, ◌^◌, Result, Ok, Err, IsErrOf, Option, ap, subst}
+use Rattle.std.proofs.Common.{arith, ◌+◌, ◌*◌, ◌^◌, Err, IsErrOf, Option, ap, subst}
 use Rattle.std.proofs.lemmas.Result.{err_from_is_err_and}
 use Rattle.zk_listings.specs.declared.summary.Summary.{Summary}
 use Rattle.zk_listings.specs.Gathering.{ReachesBut}
@@ -10,14 +10,9 @@ use Rattle.zk_listings.proofs.Runs.{given-last}
 use Rattle.zk_listings.proofs.Reached.{HasRead, begun-but, begun-further, begun-more, found-read, reached-but, read-more}
 use Rattle.zk_listings.proofs.engines.read_on.Goals as goal
 
-fault-in : {X E : Type 0} → E → Result X E → E
-fault-in e (Ok x) = e
-fault-in e (Err f) = f
-
 -- the same fault of another result
 same-fault : {X Y E : Type 0} (e f : E) → IsErrOf {T = X} {E = E} (Err e) f → IsErrOf {T = Y} {E = E} (Err e) f
-unfolding fault-in
-same-fault e f is = ap Err (ap (fault-in f) is)
+same-fault e f is = ap Err (cc)
 
 pub returns-in_err-count-clause-read : goal.returns-in_err-count-clause-read
 returns-in_err-count-clause-read g c =

@@ -10,23 +10,22 @@ use Rattle.zk_listings.proofs.engines.run.Goals as goal
 
 pub returns-in_err-summary-clause-begun : goal.returns-in_err-summary-clause-begun
 returns-in_err-summary-clause-begun g c =
-    let b = c.in_err-summary.ensures.begun in
-    on-err c.from_residual.result (stopped-in_messages c.args.limits c.args.listing _ _ _ _ b.messages b.begun b.written)
+    on-err c.from_residual.result (stopped-in_messages c.args.limits c.args.listing _ _ _ _ c.in_err-summary.ensures.begun)
 
 pub returns-in_err-line-clause-begun : goal.returns-in_err-line-clause-begun
 returns-in_err-line-clause-begun g c =
-    on-err c.from_residual-in_err-line.result (stopped-before_last_line c.args.limits c.args.listing _ _ _ _ _ c.in_ok-summary.ensures.ok.all)
+    on-err c.from_residual-in_err-line.result (stopped-before_last_line c.args.limits c.args.listing _ _ _ _ _ _ c.in_ok-summary.ensures.ok)
 
 pub returns-in_err-write_whole-clause-begun : goal.returns-in_err-write_whole-clause-begun
 returns-in_err-write_whole-clause-begun g c =
-    let f = c.in_ok-summary.ensures.ok.all in
+    let f = c.in_ok-summary.ensures.ok in
     let line : c.deref.result.now ≡ last_line c.in_ok-summary.summary = c.deref.ensures.value ∙ c.in_ok-line.ensures in
     on-err c.from_residual-in_err-write_whole.result (stopped-in_last_line c.args.limits c.args.listing _ _ _ _ f.messages _ f.found (grown-further _ _ _ _ _ f.written
     (subst (HasGrownIn (g.W.Sink.contents c.read_on.new.writer) (g.W.Sink.contents c.write_whole.new.writer)) line c.in_err-write_whole.ensures.err)))
 
 pub returns-clause-ok : goal.returns-clause-ok
 returns-clause-ok g c =
-    let f = c.in_ok-summary.ensures.ok.all in
+    let f = c.in_ok-summary.ensures.ok in
     let line : c.deref.result.now ≡ last_line c.in_ok-summary.summary = c.deref.ensures.value ∙ c.in_ok-line.ensures in
     record {
       messages = f.messages;

@@ -1,10 +1,10 @@
-use Rattle.std.proofs.Common.{None, Some, refl, subst, sym, arith, take}
-use Rattle.std.proofs.lemmas.Result.{IfOk-weaker}
-use Rattle.zk_talk.specs.History.{on}
+use Rattle.std.proofs.Common.{None, Some, refl, arith, take}
 use Rattle.zk_listings.specs.declared.listing.Listing.TheVariants.{Last}
-use Rattle.zk_listings.specs.Following.{Takes}
 use Rattle.zk_listings.proofs.Feeding.{takes-all, takes-rest, rejected, passed}
 use Rattle.zk_listings.proofs.progress.take_piece.Goals as goal
+
+pub returns-in_ok-refused-in-All-clause-taken : goal.returns-in_ok-refused-in-All-clause-taken
+returns-in_ok-refused-in-All-clause-taken c = rw c.in-All.is (c.in_ok-refused-in-All.refused, c.ended_by.ensures, c.in_ok-refused-in-All.ensures.taken)
 
 pub returns-then-stepped-bytes-clause-taken : goal.returns-then-stepped-bytes-clause-taken
 returns-then-stepped-bytes-clause-taken c =
@@ -17,12 +17,11 @@ pub returns-else-stepped-bytes-clause-taken : goal.returns-else-stepped-bytes-cl
 returns-else-stepped-bytes-clause-taken c =
     let lines = c.args.lines.now.items in
     let s = c.in-Ok.stepped in
-    let front = take s.used c.args.bytes.now in
     let mid = c.pass.new.self in
-    let f = c.take_to-in-Ok in
-    let first = subst (λ l. Takes l c.args.talk.now lines (on c.args.side front) None mid lines) (sym c.in-Last.is) (passed c.args.talk.now mid lines c.args.side front s.whole c.in-Ok.ensures.ok.2) in
-    IfOk-weaker f.result _ _ (λ _ x.
-    (x.0, x.1, takes-rest c.args.listing c.args.talk.now mid f.new.talk lines lines f.new.lines.items c.args.side c.args.bytes.now c.rest-behind.result.now s.used c.rest-behind.ensures first x.0 x.2)) f.ensures.taken
+    let refused = c.judge.result in
+    let first = passed c.args.talk.now mid lines c.args.side (take s.used c.args.bytes.now) s.whole c.in-Ok.ensures.ok.2 in
+    let all = takes-rest Last c.args.talk.now mid c.judge.new.talk lines lines lines c.args.side c.args.bytes.now c.rest-behind.result.now s.used c.rest-behind.ensures first refused (c.judge.ensures.taken lines) in
+    rw c.in-Last.is (refused, c.ended_by-in-Ok.ensures, all)
 
 pub returns-in-Err-clause-taken : goal.returns-in-Err-clause-taken
 returns-in-Err-clause-taken c =

@@ -1,8 +1,9 @@
-use Rattle.std.proofs.Common.{arith, ◌∙◌, [], false, true, refl, length-take, ap, ◌||◌, inl, inr}
+use Rattle.std.proofs.Common.{arith, [], false, true, refl, length-take}
 use Rattle.std.proofs.lemmas.Result.{IfOk-weaker, on_err_weaker}
-use Rattle.zk_listings.proofs.Exits.{on-err, left-by-read}
+use Rattle.zk_listings.proofs.Exits.{on-err}
 use Rattle.zk_listings.proofs.Bytes.{Appends-none, Consumes-none, Consumes-then, Consumes-kept}
 use Rattle.zk_runs.proofs.Answered.{begun-head, built-so_far, begun-so_far, built-at_end, begun-at_end, built-answer, begun-answer}
+use Rattle.zk_runs.proofs.Turns.{left-in-turn, left-after-turns, next-turn, read-none}
 use Rattle.zk_runs.proofs.build.build_run.Goals as goal
 
 pub returns-in_err-builder-clause-begun : goal.returns-in_err-builder-clause-begun
@@ -15,41 +16,34 @@ returns-in_err-write_whole-clause-begun g c =
 
 pub loop-turn-init : goal.loop-turn-init
 loop-turn-init g c = record {
-  block = refl;
-  live = c.requires.reader;
-  writer_live = c.in_ok-write_whole.ensures.failed;
-  count = omega arith;
+  turn = record { block = refl; live = c.requires.reader; writer_live = c.in_ok-write_whole.ensures.failed; count = omega arith };
   lines = omega (arith, c.in_ok-builder.ensures.count);
   taken = ([], Consumes-none _, λ before written. c.in_ok-builder.ensures.start before _ written);
 }
 
-pub returns-in_default-clause-read : goal.returns-in_default-clause-read
-returns-in_default-clause-read g c = λ _.
+pub returns-in_default : goal.returns-in_default
+returns-in_default g c =
     let i = c.loop-turn.invariant.taken in
-    built-so_far c.args.limits _ _ i.0 _ _ (Consumes-kept _ _ _ i.0 i.1 c.in_default.ensures.bytes) _ _ _ _ (i.2 _ c.in_ok-write_whole.ensures.ok)
-
-pub returns-in_default-clause-devices : goal.returns-in_default-clause-devices
-returns-in_default-clause-devices g c =
-    left-by-read _ _ _ _ (inl (c.in_default.ensures.failed ∙ ap (λ b. b || true) c.loop-turn.invariant.live)) (omega (arith, c.in_default.ensures.counted, c.loop-turn.invariant.count, c.loop-turn-test.true))
-
-pub returns-in_default-clause-begun : goal.returns-in_default-clause-begun
-returns-in_default-clause-begun g c =
-    let i = c.loop-turn.invariant.taken in
-    begun-so_far c.args.limits _ _ i.0 _ _ (Consumes-kept _ _ _ i.0 i.1 c.in_default.ensures.bytes) _ _ _ _ (i.2 _ c.in_ok-write_whole.ensures.ok)
+    record {
+      ok = tt;
+      read = λ _. built-so_far c.args.limits _ _ i.0 _ _ (Consumes-kept _ _ _ i.0 i.1 c.in_default.ensures.bytes) _ _ _ _ (i.2 _ c.in_ok-write_whole.ensures.ok);
+      begun = begun-so_far c.args.limits _ _ i.0 _ _ (Consumes-kept _ _ _ i.0 i.1 c.in_default.ensures.bytes) _ _ _ _ (i.2 _ c.in_ok-write_whole.ensures.ok);
+      devices = left-in-turn _ _ _ _ _ _ c.loop-turn.invariant.turn _ _ (omega (arith, c.loop-turn-test.true)) c.in_default.ensures.failed c.in_default.ensures.counted;
+    }
 
 pub returns-then-count-eq0-clause-ok : goal.returns-then-count-eq0-clause-ok
 returns-then-count-eq0-clause-ok g c =
     let i = c.loop-turn.invariant.taken in
     let r = c.in-Ok.ensures.bytes in
-    IfOk-weaker c.finish.result _ _ (λ built all. built-at_end c.args.limits _ _ i.0 _ _ i.1 _ _ r.0 (rw c.if-count-eq0.true refl)
-    (r.1 c.if-count-eq0.true (omega (arith, c.read.auto.buf, c.loop-turn.invariant.block))) built (all c.args.limits i.0 _ (i.2 _ c.in_ok-write_whole.ensures.ok))) c.finish.ensures.built
+    IfOk-weaker c.finish.result _ _ (λ built all. built-at_end c.args.limits _ _ i.0 _ _ (read-none _ _ _ i.0 _ i.1 r.0 (rw c.if-count-eq0.true refl))
+    (r.1 c.if-count-eq0.true (omega (arith, c.read.auto.buf, c.loop-turn.invariant.turn.block))) built (all c.args.limits i.0 _ (i.2 _ c.in_ok-write_whole.ensures.ok))) c.finish.ensures.built
 
 pub returns-then-count-eq0-clause-begun : goal.returns-then-count-eq0-clause-begun
 returns-then-count-eq0-clause-begun g c =
     let i = c.loop-turn.invariant.taken in
     let r = c.in-Ok.ensures.bytes in
-    on_err_weaker c.finish.result (λ all. begun-at_end c.args.limits _ _ i.0 _ _ i.1 _ _ r.0 (rw c.if-count-eq0.true refl)
-    (r.1 c.if-count-eq0.true (omega (arith, c.read.auto.buf, c.loop-turn.invariant.block))) (all c.args.limits i.0 _ (i.2 _ c.in_ok-write_whole.ensures.ok))) c.finish.ensures.begun
+    on_err_weaker c.finish.result (λ all. begun-at_end c.args.limits _ _ i.0 _ _ (read-none _ _ _ i.0 _ i.1 r.0 (rw c.if-count-eq0.true refl))
+    (r.1 c.if-count-eq0.true (omega (arith, c.read.auto.buf, c.loop-turn.invariant.turn.block))) (all c.args.limits i.0 _ (i.2 _ c.in_ok-write_whole.ensures.ok))) c.finish.ensures.begun
 
 pub returns-in-Err-clause-ok : goal.returns-in-Err-clause-ok
 returns-in-Err-clause-ok g c =
@@ -65,23 +59,17 @@ pub loop-turn-preserved : goal.loop-turn-preserved
 loop-turn-preserved g c =
     let i = c.loop-turn.invariant.taken in
     record {
-      block = c.read.auto.buf ∙ c.loop-turn.invariant.block;
-      live = c.in-Ok.ensures.failed ∙ ap (λ b. b || false) c.loop-turn.invariant.live;
-      writer_live = c.in_default-feed.ensures.live;
-      count = omega (arith, c.in-Ok.ensures.counted, c.loop-turn.invariant.count, c.requires.few, c.loop-turn-test.true);
-      lines = omega (arith, c.in_default-feed.ensures.count, c.loop-turn.invariant.lines, c.read.auto.buf, c.loop-turn.invariant.block, length-take c.in-Ok.count c.read.new.buf);
+      turn = next-turn _ _ _ _ _ _ c.loop-turn.invariant.turn _ _ _ _ (omega (arith, c.loop-turn-test.true)) c.requires.few c.in-Ok.ensures.failed c.in-Ok.ensures.counted c.read.auto.buf c.in_default-feed.ensures.live;
+      lines = omega (arith, c.in_default-feed.ensures.count, c.loop-turn.invariant.lines, c.read.auto.buf, c.loop-turn.invariant.turn.block, length-take c.in-Ok.count c.read.new.buf);
       taken = (_, Consumes-then _ _ _ i.0 _ i.1 c.in-Ok.ensures.bytes.0, λ before written. c.in_default-feed.ensures.goes_on c.args.limits i.0 before (i.2 before written));
     }
 
-pub returns-clause-read : goal.returns-clause-read
-returns-clause-read g c = λ _.
+pub returns : goal.returns
+returns g c =
     let i = c.loop-turn.invariant.taken in
-    built-so_far c.args.limits _ _ i.0 _ _ i.1 _ _ _ _ (i.2 _ c.in_ok-write_whole.ensures.ok)
-
-pub returns-clause-devices : goal.returns-clause-devices
-returns-clause-devices g c = left-by-read _ _ _ _ (inr (omega (arith, c.loop-turn.invariant.count, c.loop-turn-test.false))) (omega (arith, c.loop-turn.invariant.count, c.loop-turn.auto._turn-end))
-
-pub returns-clause-begun : goal.returns-clause-begun
-returns-clause-begun g c =
-    let i = c.loop-turn.invariant.taken in
-    begun-so_far c.args.limits _ _ i.0 _ _ i.1 _ _ _ _ (i.2 _ c.in_ok-write_whole.ensures.ok)
+    record {
+      ok = tt;
+      read = λ _. built-so_far c.args.limits _ _ i.0 _ _ i.1 _ _ _ _ (i.2 _ c.in_ok-write_whole.ensures.ok);
+      begun = begun-so_far c.args.limits _ _ i.0 _ _ i.1 _ _ _ _ (i.2 _ c.in_ok-write_whole.ensures.ok);
+      devices = left-after-turns _ _ _ _ _ _ c.loop-turn.invariant.turn (omega (arith, c.loop-turn-test.false)) (omega (arith, c.loop-turn.auto._turn-end));
+    }

@@ -1,40 +1,33 @@
-use Rattle.std.proofs.Common.{arith, ◌∙◌, [], false, true, refl, sym, length-take, ap, ◌||◌, inl, inr, subst, take}
+use Rattle.std.proofs.Common.{◌≡◌, arith, [], false, true, refl, sym, length-take, ap, subst, take}
 use Rattle.std.specs.Io.KnownBytes.{Appends}
 use Rattle.zk_recordings.specs.Reading.{IsUndamaged, place_in}
 use Rattle.zk_listings.specs.Outcome.{HasGrownIn}
 use Rattle.zk_runs.specs.Migrating.{HasMovedBy, due_of, begun_in}
-use Rattle.zk_listings.proofs.Exits.{on-err, left-by-read}
+use Rattle.zk_listings.proofs.Exits.{on-err}
 use Rattle.zk_listings.proofs.Bytes.{Consumes-none, Consumes-then, Consumes-kept}
-use Rattle.zk_listings.proofs.Decided.{broken-by}
-use Rattle.zk_runs.proofs.Paid.{migrated-so_far, migrated-at_end, migrated-damaged, begun-in, begun-so_far, begun-before, paid, paid-part, let-go, read-none}
+use Rattle.zk_runs.proofs.Paid.{migrated-so_far, migrated-at_end, migrated-damaged, begun-in, begun-so_far, begun-before, paid, paid-part, let-go}
+use Rattle.zk_runs.proofs.Turns.{left-in-turn, left-after-turns, next-turn, read-none}
 use Rattle.zk_runs.proofs.migrate.migrate_run.Goals as goal
 
 pub loop-turn-init : goal.loop-turn-init
 loop-turn-init g c = record {
-  block = refl;
-  live = c.requires.reader;
-  writer_live = c.requires.writer;
-  count = omega arith;
+  turn = record { block = refl; live = c.requires.reader; writer_live = c.requires.writer; count = omega arith };
   place = omega (arith, c.new-migrator.ensures.place);
   due = c.new-migrator.ensures.due;
-  moved = ([], Consumes-none _, c.new-migrator.ensures.start c.args.limits _, λ b. absurd (omega (arith, b.head_read)));
+  moved = ([], Consumes-none _, c.new-migrator.ensures.start c.args.limits _, λ b. absurd (omega (arith, b.1.head_read)));
 }
 
-pub returns-in_default-clause-read : goal.returns-in_default-clause-read
-returns-in_default-clause-read g c = λ _.
+pub returns-in_default : goal.returns-in_default
+returns-in_default g c =
     let i = c.loop-turn.invariant.moved in
     let m = c.loop-turn.migrator in
-    migrated-so_far c.args.limits _ _ i.0 _ _ (Consumes-kept _ _ _ i.0 i.1 c.in_default.ensures.bytes) m.headed (due_of m) (begun_in m) (ap (λ n. take n m.held.items) c.loop-turn.invariant.due) m.reader i.2 i.3
-
-pub returns-in_default-clause-devices : goal.returns-in_default-clause-devices
-returns-in_default-clause-devices g c =
-    left-by-read _ _ _ _ (inl (c.in_default.ensures.failed ∙ ap (λ b. b || true) c.loop-turn.invariant.live)) (omega (arith, c.in_default.ensures.counted, c.loop-turn.invariant.count, c.loop-turn-test.true))
-
-pub returns-in_default-clause-begun : goal.returns-in_default-clause-begun
-returns-in_default-clause-begun g c =
-    let i = c.loop-turn.invariant.moved in
-    let m = c.loop-turn.migrator in
-    begun-so_far c.args.limits _ _ i.0 _ _ (Consumes-kept _ _ _ i.0 i.1 c.in_default.ensures.bytes) m.headed (due_of m) (begun_in m) (ap (λ n. take n m.held.items) c.loop-turn.invariant.due) m.reader i.2
+    let none : due_of m ≡ [] = ap (λ n. take n m.held.items) c.loop-turn.invariant.due in
+    record {
+      ok = tt;
+      read = λ _. migrated-so_far c.args.limits _ _ i.0 _ _ (Consumes-kept _ _ _ i.0 i.1 c.in_default.ensures.bytes) m.headed (due_of m) (begun_in m) none m.reader i.2 i.3;
+      begun = begun-so_far c.args.limits _ _ i.0 _ _ (Consumes-kept _ _ _ i.0 i.1 c.in_default.ensures.bytes) m.headed (due_of m) (begun_in m) none m.reader i.2;
+      devices = left-in-turn _ _ _ _ _ _ c.loop-turn.invariant.turn _ _ (omega (arith, c.loop-turn-test.true)) c.in_default.ensures.failed c.in_default.ensures.counted;
+    }
 
 pub returns-then-count-eq0-clause-ok : goal.returns-then-count-eq0-clause-ok
 returns-then-count-eq0-clause-ok g c =
@@ -42,7 +35,7 @@ returns-then-count-eq0-clause-ok g c =
     let m = c.loop-turn.migrator in
     let r = c.in-Ok.ensures.bytes in
     migrated-at_end c.args.limits _ _ i.0 _ _ (read-none _ _ _ i.0 _ i.1 r.0 (rw c.if-count-eq0.true refl)) m.headed (due_of m) (begun_in m) (ap (λ n. take n m.held.items) c.loop-turn.invariant.due) m.reader i.2
-    c.finish.result (r.1 c.if-count-eq0.true (omega (arith, c.read.auto.buf, c.loop-turn.invariant.block))) c.finish.ensures c.answered.result c.answered.ensures
+    c.finish.result (r.1 c.if-count-eq0.true (omega (arith, c.read.auto.buf, c.loop-turn.invariant.turn.block))) c.finish.ensures c.answered.result c.answered.ensures
 
 pub returns-in_err-found-clause-begun : goal.returns-in_err-found-clause-begun
 returns-in_err-found-clause-begun g c =
@@ -87,31 +80,25 @@ loop-turn-preserved g c =
     (paid c.args.limits _ _ _ _ (due_of m) m.headed (begun_in m) m.reader t w) in
     let undamaged = subst IsUndamaged (sym gone.reader) (c.in_ok-found.ensures.undamaged c.in_default-found.is) in
     record {
-      block = c.read.auto.buf ∙ c.loop-turn.invariant.block;
-      live = c.in-Ok.ensures.failed ∙ ap (λ b. b || false) c.loop-turn.invariant.live;
-      writer_live = c.in_ok-write_whole.ensures.failed;
-      count = omega (arith, c.in-Ok.ensures.counted, c.loop-turn.invariant.count, c.requires.few, c.loop-turn-test.true);
-      place = omega (arith, ap place_in gone.reader, c.in_ok-found.ensures.place c.in_default-found.is, c.loop-turn.invariant.place, c.read.auto.buf, c.loop-turn.invariant.block, length-take c.in-Ok.count c.read.new.buf);
+      turn = next-turn _ _ _ _ _ _ c.loop-turn.invariant.turn _ _ _ _ (omega (arith, c.loop-turn-test.true)) c.requires.few c.in-Ok.ensures.failed c.in-Ok.ensures.counted c.read.auto.buf c.in_ok-write_whole.ensures.failed;
+      place = omega (arith, ap place_in gone.reader, c.in_ok-found.ensures.place c.in_default-found.is, c.loop-turn.invariant.place, c.read.auto.buf, c.loop-turn.invariant.turn.block, length-take c.in-Ok.count c.read.new.buf);
       due = gone.due;
       moved = (
         _,
         Consumes-then _ _ _ i.0 _ i.1 c.in-Ok.ensures.bytes.0,
         now,
-        λ b. undamaged _ now.recording b.damage now.at (broken-by now.recording _ b now.at.spells),
+        λ b. undamaged _ now.recording b.0 now.at b.1,
       );
     }
 
-pub returns-clause-read : goal.returns-clause-read
-returns-clause-read g c = λ _.
+pub returns : goal.returns
+returns g c =
     let i = c.loop-turn.invariant.moved in
     let m = c.loop-turn.migrator in
-    migrated-so_far c.args.limits _ _ i.0 _ _ i.1 m.headed (due_of m) (begun_in m) (ap (λ n. take n m.held.items) c.loop-turn.invariant.due) m.reader i.2 i.3
-
-pub returns-clause-devices : goal.returns-clause-devices
-returns-clause-devices g c = left-by-read _ _ _ _ (inr (omega (arith, c.loop-turn.invariant.count, c.loop-turn-test.false))) (omega (arith, c.loop-turn.invariant.count, c.loop-turn.auto._turn-end))
-
-pub returns-clause-begun : goal.returns-clause-begun
-returns-clause-begun g c =
-    let i = c.loop-turn.invariant.moved in
-    let m = c.loop-turn.migrator in
-    begun-so_far c.args.limits _ _ i.0 _ _ i.1 m.headed (due_of m) (begun_in m) (ap (λ n. take n m.held.items) c.loop-turn.invariant.due) m.reader i.2
+    let none : due_of m ≡ [] = ap (λ n. take n m.held.items) c.loop-turn.invariant.due in
+    record {
+      ok = tt;
+      read = λ _. migrated-so_far c.args.limits _ _ i.0 _ _ i.1 m.headed (due_of m) (begun_in m) none m.reader i.2 i.3;
+      begun = begun-so_far c.args.limits _ _ i.0 _ _ i.1 m.headed (due_of m) (begun_in m) none m.reader i.2;
+      devices = left-after-turns _ _ _ _ _ _ c.loop-turn.invariant.turn (omega (arith, c.loop-turn-test.false)) (omega (arith, c.loop-turn.auto._turn-end));
+    }

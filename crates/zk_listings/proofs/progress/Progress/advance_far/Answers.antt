@@ -1,11 +1,12 @@
 use Rattle.std.proofs.Common.{◌≡◌, ◌∙◌, ◌≤◌, Some, IfOk, refl, sym, subst, arith}
+use Rattle.std.proofs.lemmas.Result.{IfOk-weaker}
 use Rattle.zk_talk.specs.Stands.{TalkState}
 use Rattle.zk_recordings.specs.Reader.{ReaderState}
 use Rattle.zk_listings.specs.declared.progress.Progress.{Progress}
 use Rattle.zk_listings.specs.Following.{Steps}
 use Rattle.zk_listings.specs.Gathering.{StepsBut}
 use Rattle.zk_listings.proofs.Pieces.{piece-steps}
-use Rattle.zk_listings.proofs.Runs.{lines-ok, none-begun, steps-but, steps-but-ok}
+use Rattle.zk_listings.proofs.Runs.{none-begun, steps-but}
 use Rattle.zk_listings.proofs.progress.Progress.advance_far.Goals as goal
 use Rattle.zk_listings.proofs.progress.Progress.advance_far.Goals.{then-is_empty+in_default-next_piece, else-is_empty}
 
@@ -28,8 +29,8 @@ same-reader p now r t e q f = e ∙ (λ i. record p { reader = f i; talk = sym q
 
 pub returns-in_default-clause-steps : goal.returns-in_default-clause-steps
 returns-in_default-clause-steps c =
-    steps-but-ok c.args.gathered.now c.args.listing c.args.self.now c.advance.new.self c.args.lines.now.items c.advance.new.lines.items c.args.block.now c.advance.new.found c.advance.result
-    (none-begun c.args.gathered.now c.args.self.now c.in_default.is) c.advance.ensures.steps
+    IfOk-weaker c.advance.result _ _ (λ used. steps-but c.args.gathered.now c.args.listing c.args.self.now c.advance.new.self c.args.lines.now.items c.advance.new.lines.items c.args.block.now used c.advance.new.found
+    (none-begun c.args.gathered.now c.args.self.now c.in_default.is)) c.advance.ensures.steps
 
 pub returns-in-All-clause-steps : goal.returns-in-All-clause-steps
 returns-in-All-clause-steps c =
@@ -39,8 +40,8 @@ returns-in-All-clause-steps c =
       | else-is_empty w ↦ same-reader c.args.self.now c.if-is_empty.self c.args.self.now.reader c.in-Some.talk w.self-is c.in-Some.is refl
     ] in
     let steps = subst (λ p. IfOk c.advance-in-All.result (λ used. Steps c.args.listing p c.args.lines.now.items c.args.block.now used now.found now.self now.lines.items)) same c.advance-in-All.ensures.steps in
-    steps-but-ok c.args.gathered.now c.args.listing c.args.self.now now.self c.args.lines.now.items now.lines.items c.args.block.now now.found c.advance-in-All.result
-    (λ limits x messages i. c.requires.listed c.in-All.is) steps
+    IfOk-weaker c.advance-in-All.result _ _ (λ used. steps-but c.args.gathered.now c.args.listing c.args.self.now now.self c.args.lines.now.items now.lines.items c.args.block.now used now.found
+    (λ limits x messages i. c.requires.listed c.in-All.is)) steps
 
 pub returns-in-Last-clause-steps : goal.returns-in-Last-clause-steps
 returns-in-Last-clause-steps c =
@@ -50,4 +51,6 @@ returns-in-Last-clause-steps c =
       | else-is_empty w ↦ same-reader c.args.self.now c.if-is_empty.self c.args.self.now.reader c.in-Some.talk w.self-is c.in-Some.is refl
     ] in
     subst (λ p. IfOk c.advance_gathering.result (λ used. StepsBut c.args.gathered.now c.args.listing p c.args.lines.now.items c.args.block.now used now.found now.gathered now.self c.args.lines.now.items)) same
-    (lines-ok c.args.gathered.now now.gathered c.args.listing c.if-is_empty.self now.self c.args.lines.now.items c.args.block.now now.found c.advance_gathering.result c.in-Last.is c.advance_gathering.ensures.steps)
+    (IfOk-weaker c.advance_gathering.result _ _ (λ used steps.
+    subst (λ l. StepsBut c.args.gathered.now l c.if-is_empty.self c.args.lines.now.items c.args.block.now used now.found now.gathered now.self c.args.lines.now.items) (sym c.in-Last.is) (steps c.args.lines.now.items))
+    c.advance_gathering.ensures.steps)

@@ -6,6 +6,6 @@ returns-clause-start c = record {
   options = refl;
   recording = _;
   at = c.new.ensures.start;
-  unbroken = λ b. absurd (omega (arith, b.head_read));
+  unbroken = λ b. absurd (omega (arith, b.1.head_read));
   talks = record { headed = tt; has = (refl, refl) };
 }

@@ -1,14 +1,13 @@
 use Rattle.std.proofs.Common.{◌≡◌, ◌++◌, take, drop, length, length-drop, arith, ap, subst}
 use Rattle.std.specs.Io.KnownBytes.{append_known}
-use Rattle.std.proofs.lemmas.Result.{err_from_is_err_and}
+use Rattle.zk_listings.proofs.Exits.{if-err}
 use Rattle.zk_runs.specs.Accepting.{HasTaken, HaltsIn}
 use Rattle.zk_runs.proofs.Taken.{taken-further, halts-further}
 use Rattle.zk_runs.proofs.builder.Builder.gather.Goals as goal
 
 pub returns-in_err-at-clause-halts : goal.returns-in_err-at-clause-halts
 returns-in_err-at-clause-halts c =
-    let p = err_from_is_err_and c.from_residual.result c.from_residual.ensures.1 in
-    rw (p.1, p.2) (λ limits x before written t.
+    if-err _ c.in_err-at.field-0.0 _ c.from_residual.ensures.1 (λ limits x before written t.
     let block = c.args.block.now in
     let after = append_known written c.advance.new.due.items in
     let count = c.advance.new.self.scribe.lines in

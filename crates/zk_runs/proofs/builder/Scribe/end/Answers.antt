@@ -1,15 +1,16 @@
 use Rattle.std.proofs.Common.{◌∙◌, sym}
 use Rattle.std.proofs.lemmas.Bool.{false≢true}
-use Rattle.std.proofs.lemmas.Result.{err_from_is_err_and}
 use Rattle.std.proofs.lemmas.Slice.Eq.{bytes_eq-Decides}
 use Rattle.std.specs.Io.KnownBytes.{append_known}
+use Rattle.zk_listings.specs.declared.listing.RunFault.TheVariants.{Memory}
+use Rattle.zk_listings.proofs.Exits.{if-err}
+use Rattle.zk_runs.specs.declared.builder.Halt.TheVariants.{Fails}
 use Rattle.zk_runs.proofs.Accepted.{stops-here, took-ending, halts-not_due}
 use Rattle.zk_runs.proofs.builder.Scribe.end.Goals as goal
 
 pub returns-in_err-due-clause-halts : goal.returns-in_err-due-clause-halts
 returns-in_err-due-clause-halts c =
-    let p = err_from_is_err_and c.from_residual.result c.from_residual.ensures.1 in
-    rw (p.1, p.2) (λ limits lines before now t. stops-here limits lines before now _ _ (rw c.requires.going at t))
+    if-err _ (Fails Memory) _ c.from_residual.ensures.1 (λ limits lines before now t. stops-here limits lines before now _ _ (rw c.requires.going at t))
 
 pub returns-clause-halts : goal.returns-clause-halts
 returns-clause-halts c = λ limits lines before now t.

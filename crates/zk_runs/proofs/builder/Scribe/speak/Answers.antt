@@ -1,6 +1,8 @@
 use Rattle.std.proofs.Common.{◌≡◌, ◌++◌, ◌∷◌, [], ◌+◌, sym, subst}
 use Rattle.std.specs.Io.KnownBytes.{append_known}
-use Rattle.std.proofs.lemmas.Result.{err_from_is_err_and}
+use Rattle.zk_listings.specs.declared.listing.RunFault.TheVariants.{Memory}
+use Rattle.zk_listings.proofs.Exits.{if-err}
+use Rattle.zk_runs.specs.declared.builder.Halt.TheVariants.{Fails}
 use Rattle.zk_lines.specs.Lines.{line}
 use Rattle.zk_runs.specs.Building.{built_bytes, piece_of}
 use Rattle.zk_runs.specs.Accepting.{Took}
@@ -14,8 +16,7 @@ returns-in-Err-clause-halts c = λ limits lines before now t.
 
 pub returns-in_err-put_piece-clause-halts : goal.returns-in_err-put_piece-clause-halts
 returns-in_err-put_piece-clause-halts c =
-    let p = err_from_is_err_and c.from_residual.result c.from_residual.ensures.1 in
-    rw (p.1, p.2) (λ limits lines before now t. stops-here limits lines before now _ _ (rw c.requires.going at t))
+    if-err _ (Fails Memory) _ c.from_residual.ensures.1 (λ limits lines before now t. stops-here limits lines before now _ _ (rw c.requires.going at t))
 
 pub returns-clause-goes_on : goal.returns-clause-goes_on
 returns-clause-goes_on c = λ limits lines before written t.
