@@ -19,8 +19,8 @@ use Rattle.zk_c.specs.declared.answer.EndingAnswer.{EndingAnswer}
 use Rattle.zk_c.specs.declared.answer.MessageAnswer.{MessageAnswer}
 use Rattle.zk_c.specs.declared.head.Head.{Head}
 use Rattle.zk_c.specs.declared.answer.LineAnswer.{LineAnswer}
-use Rattle.zk_c.specs.declared.counts.WaitingAnswer.{WaitingAnswer}
-use Rattle.zk_c.specs.declared.counts.HeldAnswer.{HeldAnswer}
+use Rattle.zk_c.specs.declared.answer.WaitingAnswer.{WaitingAnswer}
+use Rattle.zk_c.specs.declared.answer.HeldAnswer.{HeldAnswer}
 use Rattle.zk_c.specs.Numbers.{side_number, reason_number, expected_of, got_of}
 
 abbrev pub no_fault : FaultNumbers
@@ -93,11 +93,5 @@ no_line status = record { status = status; length = 0 }
 abbrev pub no_waiting : ℕ → WaitingAnswer
 no_waiting status = record { status = status; requests = 0; weight = 0 }
 
-abbrev pub waiting_answer : ℕ → ℕ → WaitingAnswer
-waiting_answer requests weight = record { status = 0; requests = requests; weight = weight }
-
 abbrev pub no_held : ℕ → HeldAnswer
 no_held status = record { status = status; bytes = 0 }
-
-abbrev pub held_answer : ℕ → HeldAnswer
-held_answer bytes = record { status = 0; bytes = bytes }

@@ -19,15 +19,14 @@ use Rattle.zk_talk.specs.Stands.{TalkState, Stands, Refuses, WhereItStands, Wher
 use Rattle.zk_talk.specs.Taking.{StepsOn, PassesOn, IsRefused, given_up}
 use Rattle.zk_talk.specs.Viewed.{Shows, Leaves, other_side}
 use Rattle.zk_c.specs.declared.answer.StepAnswer.{StepAnswer}
-use Rattle.zk_c.specs.declared.answer.EndingAnswer.{EndingAnswer}
 use Rattle.zk_records.specs.declared.profile.Profile.{Profile}
 use Rattle.zk_records.specs.Codes.{profile_number}
 use Rattle.zk_talk.specs.Ranges.{AreLimits}
-use Rattle.zk_c.specs.Answer.{step_answer, ending_answer, no_message, message_answer, no_line}
+use Rattle.zk_c.specs.Answer.{step_answer, no_message, message_answer, no_line}
 use Rattle.zk_c.specs.declared.answer.MessageAnswer.{MessageAnswer}
 use Rattle.zk_c.specs.declared.answer.LineAnswer.{LineAnswer}
-use Rattle.zk_c.specs.declared.counts.WaitingAnswer.{WaitingAnswer}
-use Rattle.zk_c.specs.declared.counts.HeldAnswer.{HeldAnswer}
+use Rattle.zk_c.specs.declared.answer.WaitingAnswer.{WaitingAnswer}
+use Rattle.zk_c.specs.declared.answer.HeldAnswer.{HeldAnswer}
 use Rattle.zk_fields.specs.declared.field.Field.{Field}
 use Rattle.zk_c.specs.declared.read_answer.ReadAnswer.{ReadAnswer}
 use Rattle.zk_c.specs.Read.{no_read, TellsMessage}
@@ -58,19 +57,15 @@ pub record IsPass (old : TalkState) (side : Side) (piece : List ℕ) (outcome : 
 abbrev pub Call : Type 1
 Call = TalkState → Side → List ℕ → Result Stepped Fault → TalkState → Type 0
 
--- the answer is that of an outcome, of which this holds with the new value
+-- the answer is that of an outcome, of which this holds with the value that is left
 pub record IsAnswerOf {A R X : Type 0} (answer_of : R → X) (Is : R → A → Type 0) (answer : X) (new : A) : Type 0 where
   pub outcome : R
   pub told : answer ≡ answer_of outcome
   pub is : Is outcome new
 
--- a value of which this holds is behind the handle
-unfoldable pub IsHeldAnd : {A : Type 0} → (A → Type 0) → Option A → Type 0
-IsHeldAnd Is after = IsSomeAnd after Is
-
 -- the answer is that of such a call of the talk, which goes on behind the handle
 abbrev pub Tells : Call → TalkState → Side → List ℕ → StepAnswer → Option TalkState → Type 0
-Tells Is old side piece answer = IsHeldAnd (IsAnswerOf step_answer (Is old side piece) answer)
+Tells Is old side piece answer after = IsSomeAnd after (IsAnswerOf step_answer (Is old side piece) answer)
 
 -- the limits are these numbers
 pub record AreNumbers (c s w p : ℕ) (limits : Limits) : Type 0 where
@@ -85,8 +80,8 @@ AreNoLimits client server waiting profile = (p : Profile) → profile ≡ profil
 
 -- a value whose limits are these numbers is behind the handle, and has begun
 abbrev pub IsMadeOf : {A : Type 0} → (A → Limits) → (A → Type 0) → ℕ → ℕ → ℕ → ℕ → Option A → Type 0
-IsMadeOf limits_of Begun client server waiting profile =
-    IsHeldAnd (λ value. AreNumbers client server waiting profile (limits_of value) × Begun value)
+IsMadeOf limits_of Begun client server waiting profile after =
+    IsSomeAnd after (λ value. AreNumbers client server waiting profile (limits_of value) × Begun value)
 
 -- the new value has the limits of the old one, and has begun
 pub record BeginsAnew {A : Type 0} (limits_of : A → Limits) (Begun : A → Type 0) (old new : A) : Type 0 where
@@ -106,20 +101,10 @@ IsNew = IsMadeOf (λ (t : TalkState). t.limits) HasBegun
 abbrev pub IsRenewed : TalkState → TalkState → Type 0
 IsRenewed = BeginsAnew (λ (t : TalkState). t.limits) HasBegun
 
--- the talk has begun anew behind the handle
-abbrev pub Renews : TalkState → Option TalkState → Type 0
-Renews old = IsHeldAnd (IsRenewed old)
-
 -- what `Talk::finish` promises
 pub record IsFinish (talk : TalkState) (ending : Ending) : Type 0 where
   pub stands : (h : History) (M : List Message) → Stands talk h M → IsEnding talk.limits h ending
   pub refuses : (h : History) (M : List Message) (f : Fault) → Refuses talk h M f → ending ≡ Refused f
-
--- the answer is an ending of which this holds
-pub record TellsEnding (Is : Ending → Type 0) (answer : EndingAnswer) : Type 0 where
-  pub ending : Ending
-  pub told : answer ≡ ending_answer ending
-  pub is : Is ending
 
 -- the number of the side's bytes that are held
 abbrev pub size_held : Side → TalkState → ℕ

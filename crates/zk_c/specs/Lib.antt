@@ -2,6 +2,7 @@ pub mod Owned
 pub mod Numbers
 pub mod Answer
 pub mod Handle
+pub mod Calls
 pub mod Asked
 pub mod Judged
 pub mod Read

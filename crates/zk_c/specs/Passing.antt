@@ -1,5 +1,5 @@
 -- What the passage behind a handle does.
-use Rattle.std.specs.Prelude.{◌≡◌, ℕ, pos, Bool, true, false, List, [], Option, Some, Result, Ok, Err, IfOk, IfErr}
+use Rattle.std.specs.Prelude.{◌≡◌, ℕ, pos, Bool, true, false, List, [], Option, Some, Result, Ok, Err, IfOk, IfErr, IsSomeAnd}
 use Rattle.zk_frames.specs.Framing.{frame}
 use Rattle.zk_talk.specs.declared.message.Side.{Side}
 use Rattle.zk_talk.specs.declared.message.Fault.{Fault}
@@ -24,7 +24,7 @@ use Rattle.zk_c.specs.Numbers.{reason_number}
 use Rattle.zk_c.specs.Answer.{no_fault, fault_numbers, no_message, message_answer, no_line}
 use Rattle.zk_c.specs.Read.{no_read, TellsMessage}
 use Rattle.zk_lines.specs.Lines.{line}
-use Rattle.zk_c.specs.Handle.{TellsText, TellsShown, IsAnswerOf, IsHeldAnd, IsMadeOf, BeginsAnew, size_held}
+use Rattle.zk_c.specs.Handle.{TellsText, TellsShown, IsAnswerOf, IsMadeOf, BeginsAnew, size_held}
 use Rattle.zk_c.specs.Passage.{PassageState, newest_on, answered_on}
 
 -- a step that wasn't made, with this status
@@ -74,7 +74,7 @@ pub record IsPassing (old : PassageState) (side : Side) (piece : List ℕ) (outc
 
 -- the answer is that of such a step of the passage, which goes on behind the handle
 abbrev pub TellsStep : PassageState → Side → List ℕ → PassedAnswer → Option PassageState → Type 0
-TellsStep old side piece answer = IsHeldAnd (IsAnswerOf passed_answer (IsPassing old side piece) answer)
+TellsStep old side piece answer after = IsSomeAnd after (IsAnswerOf passed_answer (IsPassing old side piece) answer)
 
 -- nothing has come, and no side shows a message
 pub record HasBegun (p : PassageState) : Type 0 where
@@ -105,10 +105,6 @@ IsJoined = IsMade true
 -- the passage has begun anew, with the same limits
 abbrev pub IsRenewed : PassageState → PassageState → Type 0
 IsRenewed = BeginsAnew (λ (p : PassageState). p.through.talk.limits) HasBegun
-
--- the passage has begun anew behind the handle
-abbrev pub Renews : PassageState → Option PassageState → Type 0
-Renews old = IsHeldAnd (IsRenewed old)
 
 -- the side's newest whole frame is no message, or the message isn't kept any more
 abbrev pub ShowsNone : PassageState → Side → Type 0

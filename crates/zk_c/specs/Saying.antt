@@ -1,5 +1,5 @@
 -- What the speaker behind a handle does.
-use Rattle.std.specs.Prelude.{◌≡◌, ◌≢◌, ℕ, ◌⊎◌, List, [], ◌∷◌, ◌++◌, length, Option}
+use Rattle.std.specs.Prelude.{◌≡◌, ◌≢◌, ℕ, ◌⊎◌, List, [], ◌∷◌, ◌++◌, length, Option, IsSomeAnd}
 use Rattle.zk_frames.specs.Framing.{frame}
 use Rattle.zk_items.specs.declared.fault.LineFault.{LineFault}
 use Rattle.zk_items.specs.declared.fault.LineReason.{LineReason}
@@ -18,7 +18,7 @@ use Rattle.zk_c.specs.declared.payload.PayloadAnswer.{PayloadAnswer}
 use Rattle.zk_c.specs.Numbers.{reason_number}
 use Rattle.zk_c.specs.Judged.{payload_answer}
 use Rattle.zk_c.specs.Voice.{VoiceState}
-use Rattle.zk_c.specs.Handle.{IsHeldAnd, IsMadeOf, BeginsAnew}
+use Rattle.zk_c.specs.Handle.{IsMadeOf, BeginsAnew}
 
 abbrev pub say_number : SayFault → ℕ
 say_number NotFirst = 81
@@ -88,11 +88,11 @@ pub data TellsPayload (old : VoiceState) (side : Side) (p : List ℕ) (new : Voi
 
 -- the speaker behind the handle says the payload
 abbrev pub SaysBytes : VoiceState → Side → List ℕ → PayloadAnswer → Option VoiceState → Type 0
-SaysBytes old side p answer = IsHeldAnd (λ voice. TellsPayload old side p voice answer)
+SaysBytes old side p answer after = IsSomeAnd after (λ voice. TellsPayload old side p voice answer)
 
 -- the speaker behind the handle says the line
 abbrev pub SaysLine : VoiceState → List ℕ → SayAnswer → Option VoiceState → Type 0
-SaysLine old text answer = IsHeldAnd (λ voice. TellsSay old text voice answer)
+SaysLine old text answer after = IsSomeAnd after (λ voice. TellsSay old text voice answer)
 
 -- nothing was said, and there is no frame
 pub record HasBegun (v : VoiceState) : Type 0 where
@@ -102,10 +102,6 @@ pub record HasBegun (v : VoiceState) : Type 0 where
 -- the speaker has begun anew, with the same limits
 abbrev pub IsRenewed : VoiceState → VoiceState → Type 0
 IsRenewed = BeginsAnew (λ (v : VoiceState). v.speaker.limits) HasBegun
-
--- the speaker has begun anew behind the handle
-abbrev pub Renews : VoiceState → Option VoiceState → Type 0
-Renews old = IsHeldAnd (IsRenewed old)
 
 -- a speaker of these limits is behind the handle, and nothing was said
 abbrev pub IsSilent : ℕ → ℕ → ℕ → ℕ → Option VoiceState → Type 0

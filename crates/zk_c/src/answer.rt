@@ -3,7 +3,7 @@ ghost use Rattle.std.specs.Prelude.{◌≡◌, ◌≢◌, pos, Some, None, Match
 ghost use Rattle.zk_talk.specs.Held.{Message};
 ghost use Rattle.zk_c.specs.Handle.{TellsText};
 ghost use Rattle.zk_c.specs.Numbers.{expected_of, got_of};
-ghost use Rattle.zk_c.specs.Answer.{no_fault, fault_numbers, no_step, step_answer, no_ending, ending_answer, no_message, message_answer, no_line};
+ghost use Rattle.zk_c.specs.Answer.{no_fault, fault_numbers, no_step, step_answer, no_ending, ending_answer, no_message, message_answer, no_line, no_waiting, no_held};
 
 use crate::head::Head;
 use crate::number::{NO_MESSAGE, ROOM, WELL, reason_number, side_number};
@@ -86,6 +86,28 @@ pub struct MessageAnswer {
     pub frame: u64,
     /// The number of the client's frame that a reply answers; else 0.
     pub answers: u64,
+}
+
+/// How many requests of a talk wait for their replies.
+#[repr(C)]
+#[derive(Clone, Copy)]
+pub struct WaitingAnswer {
+    /// 0, or why there is no answer.
+    pub status: u32,
+    /// The number of the requests.
+    pub requests: u32,
+    /// Their weight: 1 each, and 1 more for each part of a multi.
+    pub weight: u32,
+}
+
+/// How many bytes of a side are held of a frame that isn't whole.
+#[repr(C)]
+#[derive(Clone, Copy)]
+pub struct HeldAnswer {
+    /// 0, or why there is no answer.
+    pub status: u32,
+    /// The number of the bytes, those of the frame's length included.
+    pub bytes: u32,
 }
 
 /// What a call returns that writes text.
@@ -278,6 +300,28 @@ impl MessageAnswer {
             frame: frames.saturating_sub(1),
             answers: answered.unwrap_or(0),
         }
+    }
+}
+
+impl WaitingAnswer {
+    /// There is no answer, for this reason.
+    pub fn none(status: u32) -> WaitingAnswer
+        ensures { result ≡ no_waiting status }
+    {
+        WaitingAnswer {
+            status,
+            requests: 0,
+            weight: 0,
+        }
+    }
+}
+
+impl HeldAnswer {
+    /// There is no answer, for this reason.
+    pub fn none(status: u32) -> HeldAnswer
+        ensures { result ≡ no_held status }
+    {
+        HeldAnswer { status, bytes: 0 }
     }
 }
 

@@ -6,9 +6,8 @@ ghost use Rattle.zk_lines.specs.Lines.{line};
 ghost use Rattle.zk_c.specs.Answer.{no_line};
 ghost use Rattle.zk_c.specs.Handle.{HasBegun, IsRenewed, IsStep, IsPass, IsFinish, AnswersOn, IsView, IsLine, IsEndingLine, IsFields, IsPayload, IsWaiting, IsHeld, TellsText};
 
-use crate::answer::{LineAnswer, MessageAnswer};
-use crate::counts::{HeldAnswer, WaitingAnswer};
-use crate::number::{NO_MEMORY, NO_MESSAGE};
+use crate::answer::{HeldAnswer, LineAnswer, MessageAnswer, WaitingAnswer};
+use crate::number::{NO_MEMORY, NO_MESSAGE, WELL};
 use crate::read_answer::{ReadAnswer, read_shown};
 use std::alloc::{AllocError, Global};
 use std::marker::Model;
@@ -107,14 +106,21 @@ impl Conversation {
     pub fn waiting(&self) -> WaitingAnswer
         ensures { IsWaiting self.now result }
     {
-        WaitingAnswer::of(self.talk.requests(), self.talk.waiting())
+        WaitingAnswer {
+            status: WELL,
+            requests: self.talk.requests(),
+            weight: self.talk.waiting(),
+        }
     }
 
     /// How many bytes of the side are held of a frame that isn't whole.
     pub fn held(&self, side: Side) -> HeldAnswer
         ensures { IsHeld self.now side result }
     {
-        HeldAnswer::of(self.talk.begun(side))
+        HeldAnswer {
+            status: WELL,
+            bytes: self.talk.begun(side),
+        }
     }
 
     /// How the history so far ends.

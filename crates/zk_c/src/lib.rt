@@ -44,7 +44,6 @@ mod answer;
 mod asked;
 mod boxes;
 mod conversation;
-mod counts;
 mod cut;
 mod handle;
 mod head;

@@ -1,15 +1,13 @@
 //! `zk_speaker_new` and its like: a speaker that a handle owns.
-#![tactic(auto, using(crate::proofs::Handles::is_held))]
 
-ghost use Rattle.std.specs.Prelude.{◌≡◌, ◌≢◌, ◌⊎◌, Some, None, IsSome, MatchOption};
+ghost use Rattle.std.specs.Prelude.{◌≡◌, ◌≢◌, Some, None, MatchOption};
 ghost use Rattle.std.specs.Option.{is_some};
-ghost use Rattle.zk_talk.specs.declared.message.Side.{Side};
 ghost use Rattle.zk_c.specs.Numbers.{side_of};
 ghost use Rattle.zk_c.specs.Answer.{no_line};
-ghost use Rattle.zk_c.specs.Handle.{TellsText, AreNoLimits};
-ghost use Rattle.zk_c.specs.Voice.{VoiceState};
+ghost use Rattle.zk_c.specs.Handle.{TellsText};
+ghost use Rattle.zk_c.specs.Calls.{Changes, IsMaking, OnHeld, Renews, TakesOn};
 ghost use Rattle.zk_c.specs.Judged.{payload_answer};
-ghost use Rattle.zk_c.specs.Saying.{say_answer, SaysLine, SaysBytes, IsSilent, Renews};
+ghost use Rattle.zk_c.specs.Saying.{say_answer, SaysLine, SaysBytes, IsSilent, IsRenewed};
 
 use crate::answer::LineAnswer;
 use crate::boxes::VoiceBox;
@@ -59,12 +57,7 @@ pub extern "C" fn zk_speaker_new(
     waiting: u32,
     profile: u32,
 ) -> u32
-    // A handle that holds a speaker keeps it.
-    ensures in_use { IsSome handle.old.held.value → result ≡ 66 }
-    // Limits out of their ranges are refused as that, and those in them only if memory is refused.
-    ensures limits { handle.old.held.value ≡ None → AreNoLimits client server waiting profile → result ≡ 67 }
-    ensures range { result ≡ 67 → AreNoLimits client server waiting profile }
-    ensures status { handle.old.held.value ≡ None → (result ≡ 0) ⊎ (result ≡ 5) ⊎ (result ≡ 67) }
+    ensures status { IsMaking client server waiting profile handle.old.held.value result }
     // What is made has said nothing.
     ensures new { result ≡ 0 → IsSilent client server waiting profile handle.new.held.value }
     // Nothing is changed if it is refused.
@@ -77,10 +70,8 @@ pub extern "C" fn zk_speaker_new(
 /// Begins the speaker anew with the same limits. Returns the status.
 #[unsafe(no_mangle)]
 pub extern "C" fn zk_speaker_renew(alloc: Global, handle: &mut SpeakerHandle) -> u32
-    // With no speaker nothing is done.
-    ensures empty { handle.old.held.value ≡ None → (result ≡ 65) × (handle.new.held.value ≡ None) }
     // The speaker has said nothing, and the handle keeps it.
-    ensures renew { (v : VoiceState) → handle.old.held.value ≡ Some v → (result ≡ 0) × Renews v handle.new.held.value }
+    ensures renew { Renews IsRenewed handle.old.held.value handle.new.held.value result }
 {
     with_value!(handle, alloc, EMPTY => |voice| {
         voice.renew();
@@ -95,10 +86,8 @@ pub extern "C" fn zk_speaker_say(
     handle: &mut SpeakerHandle,
     line: &[u8],
 ) -> SayAnswer
-    // With no speaker nothing is said.
-    ensures empty { handle.old.held.value ≡ None → (result ≡ say_answer 65 0 0) × (handle.new.held.value ≡ None) }
     // The speaker says the line, and the handle keeps it.
-    ensures say { (v : VoiceState) → handle.old.held.value ≡ Some v → SaysLine v line.now result handle.new.held.value }
+    ensures say { Changes (λ n. say_answer n 0 0) (λ v. SaysLine v line.now) handle.old.held.value handle.new.held.value result }
 {
     with_value!(handle, alloc, SayAnswer::none(EMPTY) => |voice| voice.say(alloc, line))
 }
@@ -111,12 +100,10 @@ pub extern "C" fn zk_speaker_say_payload(
     side: u32,
     payload: &[u8],
 ) -> PayloadAnswer
-    // A number that is no side's changes nothing.
-    ensures range { side_of side ≡ None → (result ≡ payload_answer 67 0) × (handle.new ≡ handle.old) }
-    // With no speaker nothing is said.
-    ensures empty { handle.old.held.value ≡ None → IsSome (side_of side) → (result ≡ payload_answer 65 0) × (handle.new.held.value ≡ None) }
     // The speaker says the payload, and the handle keeps it.
-    ensures say { (s : Side) (v : VoiceState) → side_of side ≡ Some s → handle.old.held.value ≡ Some v → SaysBytes v s payload.now result handle.new.held.value }
+    ensures say { TakesOn (λ n. payload_answer n 0) SaysBytes side payload.now handle.old.held.value handle.new.held.value result }
+    // A number that is no side's changes nothing.
+    ensures range { side_of side ≡ None → handle.new ≡ handle.old }
 {
     with_value!(handle, alloc, side, PayloadAnswer => |voice| voice.say_payload(side, payload))
 }
@@ -128,10 +115,8 @@ pub extern "C" fn zk_speaker_frame(
     handle: &mut SpeakerHandle,
     out: &mut [u8],
 ) -> LineAnswer
-    // With no speaker there is no frame.
-    ensures empty { handle.old.held.value ≡ None → (result ≡ no_line 65) × (out.new ≡ out.old) }
     // The frame is the speaker's.
-    ensures frame { (v : VoiceState) → handle.old.held.value ≡ Some v → TellsText v.frame out.old out.new result }
+    ensures frame { OnHeld handle.old.held.value (λ n. (result ≡ no_line n) × (out.new ≡ out.old)) (λ v. TellsText v.frame out.old out.new result) }
     // Nothing is allocated.
     ensures ample { result.status ≢ 5 }
     // The speaker stays as it is.

@@ -1,20 +1,19 @@
 //! `zk_talk_new` and its like: a conversation that a handle owns.
-#![tactic(auto, using(crate::proofs::Handles::is_held, crate::proofs::Handles::answers, crate::proofs::Handles::tells_ending))]
+#![tactic(auto, using(crate::proofs::Handles::answers))]
 
-ghost use Rattle.std.specs.Prelude.{◌≡◌, ◌≢◌, ◌⊎◌, Option, Some, None, IsSome, IfSome, MatchOption};
+ghost use Rattle.std.specs.Prelude.{◌≡◌, ◌≢◌, Some, None, IfSome, MatchOption};
 ghost use Rattle.std.specs.Option.{is_some};
-ghost use Rattle.zk_talk.specs.declared.message.Side.{Side};
-ghost use Rattle.zk_records.specs.declared.profile.Profile.{Profile};
-ghost use Rattle.zk_talk.specs.Stands.{TalkState};
 ghost use Rattle.zk_c.specs.Numbers.{side_of};
-ghost use Rattle.zk_c.specs.Answer.{no_step, no_ending, no_message, no_line, no_waiting, no_held};
-ghost use Rattle.zk_c.specs.Handle.{AreNumbers, IsNew, Renews, Tells, IsStep, IsPass, IsFinish, TellsEnding, IsView, IsLine, IsEndingLine, IsFields, IsPayload, IsWaiting, IsHeld, AreNoLimits};
+ghost use Rattle.zk_c.specs.Answer.{no_step, no_ending, ending_answer, no_message, no_line, no_waiting, no_held};
+ghost use Rattle.zk_c.specs.Handle.{AreNumbers, IsNew, IsRenewed, Tells, IsAnswerOf, IsStep, IsPass, IsFinish, IsView, IsLine, IsEndingLine, IsFields, IsPayload, IsWaiting, IsHeld, AreNoLimits};
+ghost use Rattle.zk_c.specs.Calls.{IsMaking, OnHeld, OnSide, Renews, TakesOn, WritesOn};
 ghost use Rattle.zk_c.specs.Read.{no_read};
 
-use crate::answer::{EndingAnswer, LineAnswer, MessageAnswer, StepAnswer};
+use crate::answer::{
+    EndingAnswer, HeldAnswer, LineAnswer, MessageAnswer, StepAnswer, WaitingAnswer,
+};
 use crate::boxes::TalkBox;
 use crate::conversation::Conversation;
-use crate::counts::{HeldAnswer, WaitingAnswer};
 use crate::handle::{fill, put_in, take_out, with_value};
 use crate::number::{EMPTY, WELL};
 use crate::read_answer::ReadAnswer;
@@ -71,12 +70,7 @@ pub extern "C" fn zk_talk_new(
     waiting: u32,
     profile: u32,
 ) -> u32
-    // A handle that holds a talk keeps it.
-    ensures in_use { IsSome handle.old.held.value → result ≡ 66 }
-    // Limits out of their ranges are refused as that, and those in them only if memory is refused.
-    ensures limits { handle.old.held.value ≡ None → AreNoLimits client server waiting profile → result ≡ 67 }
-    ensures range { result ≡ 67 → AreNoLimits client server waiting profile }
-    ensures status { handle.old.held.value ≡ None → (result ≡ 0) ⊎ (result ≡ 5) ⊎ (result ≡ 67) }
+    ensures status { IsMaking client server waiting profile handle.old.held.value result }
     // What is made has come through the empty history.
     ensures new { result ≡ 0 → IsNew client server waiting profile handle.new.held.value }
     // Nothing is changed if it is refused.
@@ -89,10 +83,8 @@ pub extern "C" fn zk_talk_new(
 /// Begins the talk anew with the same limits. Returns the status.
 #[unsafe(no_mangle)]
 pub extern "C" fn zk_talk_renew(alloc: Global, handle: &mut TalkHandle) -> u32
-    // With no talk nothing is done.
-    ensures empty { handle.old.held.value ≡ None → (result ≡ 65) × (handle.new.held.value ≡ None) }
     // The talk has come through the empty history, and the handle keeps it.
-    ensures renew { (t : TalkState) → handle.old.held.value ≡ Some t → (result ≡ 0) × Renews t handle.new.held.value }
+    ensures renew { Renews IsRenewed handle.old.held.value handle.new.held.value result }
 {
     with_value!(handle, alloc, EMPTY => |talk| {
         talk.renew();
@@ -108,12 +100,10 @@ pub extern "C" fn zk_talk_step(
     side: u32,
     piece: &[u8],
 ) -> StepAnswer
-    // A number that is no side's changes nothing.
-    ensures range { side_of side ≡ None → (result ≡ no_step 67) × (handle.new ≡ handle.old) }
-    // With no talk there is no step.
-    ensures empty { handle.old.held.value ≡ None → IsSome (side_of side) → (result ≡ no_step 65) × (handle.new.held.value ≡ None) }
     // The talk makes the step, and the handle keeps it.
-    ensures step { (s : Side) (t : TalkState) → side_of side ≡ Some s → handle.old.held.value ≡ Some t → Tells IsStep t s piece.now result handle.new.held.value }
+    ensures step { TakesOn no_step (Tells IsStep) side piece.now handle.old.held.value handle.new.held.value result }
+    // A number that is no side's changes nothing.
+    ensures range { side_of side ≡ None → handle.new ≡ handle.old }
 {
     with_value!(handle, alloc, side, StepAnswer => |talk| StepAnswer::of(talk.step(side, piece)))
 }
@@ -126,12 +116,10 @@ pub extern "C" fn zk_talk_pass(
     side: u32,
     piece: &[u8],
 ) -> StepAnswer
-    // A number that is no side's changes nothing.
-    ensures range { side_of side ≡ None → (result ≡ no_step 67) × (handle.new ≡ handle.old) }
-    // With no talk no byte is used.
-    ensures empty { handle.old.held.value ≡ None → IsSome (side_of side) → (result ≡ no_step 65) × (handle.new.held.value ≡ None) }
     // The talk passes over the bytes, and the handle keeps it.
-    ensures pass { (s : Side) (t : TalkState) → side_of side ≡ Some s → handle.old.held.value ≡ Some t → Tells IsPass t s piece.now result handle.new.held.value }
+    ensures pass { TakesOn no_step (Tells IsPass) side piece.now handle.old.held.value handle.new.held.value result }
+    // A number that is no side's changes nothing.
+    ensures range { side_of side ≡ None → handle.new ≡ handle.old }
 {
     with_value!(handle, alloc, side, StepAnswer => |talk| StepAnswer::of(talk.pass(side, piece)))
 }
@@ -139,12 +127,8 @@ pub extern "C" fn zk_talk_pass(
 /// The message of the frame that the side keeps.
 #[unsafe(no_mangle)]
 pub extern "C" fn zk_talk_view(alloc: Global, handle: &mut TalkHandle, side: u32) -> MessageAnswer
-    // A number that is no side's is refused.
-    ensures range { side_of side ≡ None → result ≡ no_message 67 }
-    // With no talk there is no message.
-    ensures empty { handle.old.held.value ≡ None → IsSome (side_of side) → result ≡ no_message 65 }
     // The message is the talk's.
-    ensures view { (s : Side) (t : TalkState) → side_of side ≡ Some s → handle.old.held.value ≡ Some t → IsView t s result }
+    ensures view { OnSide side handle.old.held.value (λ n. result ≡ no_message n) (λ s t. IsView t s result) }
     // The talk stays as it is.
     ensures same { handle.new.held.value ≡ handle.old.held.value }
 {
@@ -159,12 +143,8 @@ pub extern "C" fn zk_talk_line(
     side: u32,
     out: &mut [u8],
 ) -> LineAnswer
-    // A number that is no side's is refused.
-    ensures range { side_of side ≡ None → (result ≡ no_line 67) × (out.new ≡ out.old) }
-    // With no talk there is no line.
-    ensures empty { handle.old.held.value ≡ None → IsSome (side_of side) → (result ≡ no_line 65) × (out.new ≡ out.old) }
     // The line is that of the talk's message.
-    ensures line { (s : Side) (t : TalkState) → side_of side ≡ Some s → handle.old.held.value ≡ Some t → IsLine t s out.old out.new result }
+    ensures line { WritesOn no_line IsLine side handle.old.held.value out.old out.new result }
     // The talk stays as it is.
     ensures same { handle.new.held.value ≡ handle.old.held.value }
 {
@@ -179,12 +159,8 @@ pub extern "C" fn zk_talk_fields(
     side: u32,
     room: &mut [Field],
 ) -> ReadAnswer
-    // A number that is no side's is refused.
-    ensures range { side_of side ≡ None → (result ≡ no_read 67) × (room.new ≡ room.old) }
-    // With no talk there is no message.
-    ensures empty { handle.old.held.value ≡ None → IsSome (side_of side) → (result ≡ no_read 65) × (room.new ≡ room.old) }
     // The fields are those of the talk's message.
-    ensures fields { (s : Side) (t : TalkState) → side_of side ≡ Some s → handle.old.held.value ≡ Some t → IsFields t s room.old room.new result }
+    ensures fields { WritesOn no_read IsFields side handle.old.held.value room.old room.new result }
     // The talk stays as it is.
     ensures same { handle.new.held.value ≡ handle.old.held.value }
 {
@@ -199,12 +175,8 @@ pub extern "C" fn zk_talk_payload(
     side: u32,
     out: &mut [u8],
 ) -> LineAnswer
-    // A number that is no side's is refused.
-    ensures range { side_of side ≡ None → (result ≡ no_line 67) × (out.new ≡ out.old) }
-    // With no talk there is no payload.
-    ensures empty { handle.old.held.value ≡ None → IsSome (side_of side) → (result ≡ no_line 65) × (out.new ≡ out.old) }
     // The payload is that of the talk's message.
-    ensures payload { (s : Side) (t : TalkState) → side_of side ≡ Some s → handle.old.held.value ≡ Some t → IsPayload t s out.old out.new result }
+    ensures payload { WritesOn no_line IsPayload side handle.old.held.value out.old out.new result }
     // The talk stays as it is.
     ensures same { handle.new.held.value ≡ handle.old.held.value }
 {
@@ -214,10 +186,8 @@ pub extern "C" fn zk_talk_payload(
 /// How many requests of the history so far wait for their replies, and what they weigh.
 #[unsafe(no_mangle)]
 pub extern "C" fn zk_talk_waiting(alloc: Global, handle: &mut TalkHandle) -> WaitingAnswer
-    // With no talk nothing waits.
-    ensures empty { handle.old.held.value ≡ None → result ≡ no_waiting 65 }
     // The requests are the talk's.
-    ensures waiting { (t : TalkState) → handle.old.held.value ≡ Some t → IsWaiting t result }
+    ensures waiting { OnHeld handle.old.held.value (λ n. result ≡ no_waiting n) (λ t. IsWaiting t result) }
     // The talk stays as it is.
     ensures same { handle.new.held.value ≡ handle.old.held.value }
 {
@@ -227,12 +197,8 @@ pub extern "C" fn zk_talk_waiting(alloc: Global, handle: &mut TalkHandle) -> Wai
 /// How many bytes of the side are held of a frame that isn't whole.
 #[unsafe(no_mangle)]
 pub extern "C" fn zk_talk_held(alloc: Global, handle: &mut TalkHandle, side: u32) -> HeldAnswer
-    // A number that is no side's is refused.
-    ensures range { side_of side ≡ None → result ≡ no_held 67 }
-    // With no talk nothing is held.
-    ensures empty { handle.old.held.value ≡ None → IsSome (side_of side) → result ≡ no_held 65 }
     // The bytes are the talk's.
-    ensures held { (s : Side) (t : TalkState) → side_of side ≡ Some s → handle.old.held.value ≡ Some t → IsHeld t s result }
+    ensures held { OnSide side handle.old.held.value (λ n. result ≡ no_held n) (λ s t. IsHeld t s result) }
     // The talk stays as it is.
     ensures same { handle.new.held.value ≡ handle.old.held.value }
 {
@@ -242,10 +208,8 @@ pub extern "C" fn zk_talk_held(alloc: Global, handle: &mut TalkHandle, side: u32
 /// How the history so far ends.
 #[unsafe(no_mangle)]
 pub extern "C" fn zk_talk_finish(alloc: Global, handle: &mut TalkHandle) -> EndingAnswer
-    // With no talk there is no ending.
-    ensures empty { handle.old.held.value ≡ None → result ≡ no_ending 65 }
     // The ending is the talk's.
-    ensures ending { (t : TalkState) → handle.old.held.value ≡ Some t → TellsEnding (IsFinish t) result }
+    ensures ending { OnHeld handle.old.held.value (λ n. result ≡ no_ending n) (IsAnswerOf ending_answer (λ e t. IsFinish t e) result) }
     // The talk stays as it is.
     ensures same { handle.new.held.value ≡ handle.old.held.value }
 {
@@ -259,10 +223,8 @@ pub extern "C" fn zk_talk_ending_line(
     handle: &mut TalkHandle,
     out: &mut [u8],
 ) -> LineAnswer
-    // With no talk there is no line.
-    ensures empty { handle.old.held.value ≡ None → (result ≡ no_line 65) × (out.new ≡ out.old) }
     // The line is that of the talk's ending.
-    ensures line { (t : TalkState) → handle.old.held.value ≡ Some t → IsEndingLine t out.old out.new result }
+    ensures line { OnHeld handle.old.held.value (λ n. (result ≡ no_line n) × (out.new ≡ out.old)) (λ t. IsEndingLine t out.old out.new result) }
     // The talk stays as it is.
     ensures same { handle.new.held.value ≡ handle.old.held.value }
 {

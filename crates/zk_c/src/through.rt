@@ -1,15 +1,14 @@
 //! `zk_through_new` and its like: a conversation that goes on where its profile ends, which a handle owns.
-#![tactic(auto, using(crate::proofs::Handles::is_held, crate::proofs::Handles::answers, crate::proofs::Handles::tells_ending))]
+#![tactic(auto, using(crate::proofs::Handles::answers))]
 
-ghost use Rattle.std.specs.Prelude.{◌≡◌, ◌≢◌, ◌⊎◌, Some, None, IsSome, MatchOption};
+ghost use Rattle.std.specs.Prelude.{◌≡◌, ◌≢◌, Some, None, MatchOption};
 ghost use Rattle.std.specs.Option.{is_some};
-ghost use Rattle.zk_talk.specs.declared.message.Side.{Side};
 ghost use Rattle.zk_c.specs.Numbers.{side_of};
-ghost use Rattle.zk_c.specs.Answer.{no_message, no_line, no_ending};
-ghost use Rattle.zk_c.specs.Handle.{AreNoLimits, TellsEnding};
+ghost use Rattle.zk_c.specs.Answer.{no_message, no_line, no_ending, ending_answer};
+ghost use Rattle.zk_c.specs.Handle.{IsAnswerOf};
+ghost use Rattle.zk_c.specs.Calls.{IsMaking, OnHeld, OnSide, Renews, TakesOn, WritesOn};
 ghost use Rattle.zk_c.specs.Read.{no_read};
-ghost use Rattle.zk_c.specs.Passage.{PassageState};
-ghost use Rattle.zk_c.specs.Passing.{no_passed, IsNew, IsJoined, Renews, TellsStep, IsView, IsLine, IsFields, IsLeftOut, IsFinish};
+ghost use Rattle.zk_c.specs.Passing.{no_passed, IsNew, IsJoined, IsRenewed, TellsStep, IsView, IsLine, IsFields, IsLeftOut, IsFinish};
 
 use crate::answer::{EndingAnswer, LineAnswer, MessageAnswer};
 use crate::boxes::PassageBox;
@@ -60,12 +59,7 @@ pub extern "C" fn zk_through_new(
     waiting: u32,
     profile: u32,
 ) -> u32
-    // A handle that holds a passage keeps it.
-    ensures in_use { IsSome handle.old.held.value → result ≡ 66 }
-    // Limits out of their ranges are refused as that, and those in them only if memory is refused.
-    ensures limits { handle.old.held.value ≡ None → AreNoLimits client server waiting profile → result ≡ 67 }
-    ensures range { result ≡ 67 → AreNoLimits client server waiting profile }
-    ensures status { handle.old.held.value ≡ None → (result ≡ 0) ⊎ (result ≡ 5) ⊎ (result ≡ 67) }
+    ensures status { IsMaking client server waiting profile handle.old.held.value result }
     // What is made has come through the empty history.
     ensures new { result ≡ 0 → IsNew client server waiting profile handle.new.held.value }
     // Nothing is changed if it is refused.
@@ -85,12 +79,7 @@ pub extern "C" fn zk_talk_join(
     waiting: u32,
     profile: u32,
 ) -> u32
-    // A handle that holds a passage keeps it.
-    ensures in_use { IsSome handle.old.held.value → result ≡ 66 }
-    // Limits out of their ranges are refused as that, and those in them only if memory is refused.
-    ensures limits { handle.old.held.value ≡ None → AreNoLimits client server waiting profile → result ≡ 67 }
-    ensures range { result ≡ 67 → AreNoLimits client server waiting profile }
-    ensures status { handle.old.held.value ≡ None → (result ≡ 0) ⊎ (result ≡ 5) ⊎ (result ≡ 67) }
+    ensures status { IsMaking client server waiting profile handle.old.held.value result }
     // What is made has come through a connect request and its answer, which nobody sent.
     ensures join { result ≡ 0 → IsJoined client server waiting profile handle.new.held.value }
     // Nothing is changed if it is refused.
@@ -103,10 +92,8 @@ pub extern "C" fn zk_talk_join(
 /// Begins the passage anew with the same limits. Returns the status.
 #[unsafe(no_mangle)]
 pub extern "C" fn zk_through_renew(alloc: Global, handle: &mut ThroughHandle) -> u32
-    // With no passage nothing is done.
-    ensures empty { handle.old.held.value ≡ None → (result ≡ 65) × (handle.new.held.value ≡ None) }
     // Nothing has come, and the handle keeps it.
-    ensures renew { (p : PassageState) → handle.old.held.value ≡ Some p → (result ≡ 0) × Renews p handle.new.held.value }
+    ensures renew { Renews IsRenewed handle.old.held.value handle.new.held.value result }
 {
     with_value!(handle, alloc, EMPTY => |passage| {
         passage.renew();
@@ -122,12 +109,10 @@ pub extern "C" fn zk_through_step(
     side: u32,
     piece: &[u8],
 ) -> PassedAnswer
-    // A number that is no side's changes nothing.
-    ensures range { side_of side ≡ None → (result ≡ no_passed 67) × (handle.new ≡ handle.old) }
-    // With no passage there is no step.
-    ensures empty { handle.old.held.value ≡ None → IsSome (side_of side) → (result ≡ no_passed 65) × (handle.new.held.value ≡ None) }
     // The passage makes the step, and the handle keeps it.
-    ensures step { (s : Side) (p : PassageState) → side_of side ≡ Some s → handle.old.held.value ≡ Some p → TellsStep p s piece.now result handle.new.held.value }
+    ensures step { TakesOn no_passed TellsStep side piece.now handle.old.held.value handle.new.held.value result }
+    // A number that is no side's changes nothing.
+    ensures range { side_of side ≡ None → handle.new ≡ handle.old }
 {
     with_value!(handle, alloc, side, PassedAnswer => |passage| PassedAnswer::of(passage.step(side, piece)))
 }
@@ -139,12 +124,8 @@ pub extern "C" fn zk_through_view(
     handle: &mut ThroughHandle,
     side: u32,
 ) -> MessageAnswer
-    // A number that is no side's is refused.
-    ensures range { side_of side ≡ None → result ≡ no_message 67 }
-    // With no passage there is no message.
-    ensures empty { handle.old.held.value ≡ None → IsSome (side_of side) → result ≡ no_message 65 }
     // The message is the passage's.
-    ensures view { (s : Side) (p : PassageState) → side_of side ≡ Some s → handle.old.held.value ≡ Some p → IsView p s result }
+    ensures view { OnSide side handle.old.held.value (λ n. result ≡ no_message n) (λ s p. IsView p s result) }
     // The passage stays as it is.
     ensures same { handle.new.held.value ≡ handle.old.held.value }
 {
@@ -159,12 +140,8 @@ pub extern "C" fn zk_through_line(
     side: u32,
     out: &mut [u8],
 ) -> LineAnswer
-    // A number that is no side's is refused.
-    ensures range { side_of side ≡ None → (result ≡ no_line 67) × (out.new ≡ out.old) }
-    // With no passage there is no line.
-    ensures empty { handle.old.held.value ≡ None → IsSome (side_of side) → (result ≡ no_line 65) × (out.new ≡ out.old) }
     // The line is that of the passage's message.
-    ensures line { (s : Side) (p : PassageState) → side_of side ≡ Some s → handle.old.held.value ≡ Some p → IsLine p s out.old out.new result }
+    ensures line { WritesOn no_line IsLine side handle.old.held.value out.old out.new result }
     // The passage stays as it is.
     ensures same { handle.new.held.value ≡ handle.old.held.value }
 {
@@ -179,12 +156,8 @@ pub extern "C" fn zk_through_fields(
     side: u32,
     room: &mut [Field],
 ) -> ReadAnswer
-    // A number that is no side's is refused.
-    ensures range { side_of side ≡ None → (result ≡ no_read 67) × (room.new ≡ room.old) }
-    // With no passage there is no message.
-    ensures empty { handle.old.held.value ≡ None → IsSome (side_of side) → (result ≡ no_read 65) × (room.new ≡ room.old) }
     // The fields are those of the passage's message.
-    ensures fields { (s : Side) (p : PassageState) → side_of side ≡ Some s → handle.old.held.value ≡ Some p → IsFields p s room.old room.new result }
+    ensures fields { WritesOn no_read IsFields side handle.old.held.value room.old room.new result }
     // The passage stays as it is.
     ensures same { handle.new.held.value ≡ handle.old.held.value }
 {
@@ -199,12 +172,8 @@ pub extern "C" fn zk_through_payload(
     side: u32,
     out: &mut [u8],
 ) -> LineAnswer
-    // A number that is no side's is refused.
-    ensures range { side_of side ≡ None → (result ≡ no_line 67) × (out.new ≡ out.old) }
-    // With no passage there is no payload.
-    ensures empty { handle.old.held.value ≡ None → IsSome (side_of side) → (result ≡ no_line 65) × (out.new ≡ out.old) }
     // The payload is that of the passage's frame.
-    ensures payload { (s : Side) (p : PassageState) → side_of side ≡ Some s → handle.old.held.value ≡ Some p → IsLeftOut p s out.old out.new result }
+    ensures payload { WritesOn no_line IsLeftOut side handle.old.held.value out.old out.new result }
     // The passage stays as it is.
     ensures same { handle.new.held.value ≡ handle.old.held.value }
 {
@@ -214,10 +183,8 @@ pub extern "C" fn zk_through_payload(
 /// How the history so far ends.
 #[unsafe(no_mangle)]
 pub extern "C" fn zk_through_finish(alloc: Global, handle: &mut ThroughHandle) -> EndingAnswer
-    // With no passage there is no ending.
-    ensures empty { handle.old.held.value ≡ None → result ≡ no_ending 65 }
     // The ending is the passage's.
-    ensures ending { (p : PassageState) → handle.old.held.value ≡ Some p → TellsEnding (IsFinish p) result }
+    ensures ending { OnHeld handle.old.held.value (λ n. result ≡ no_ending n) (IsAnswerOf ending_answer (λ e p. IsFinish p e) result) }
     // The passage stays as it is.
     ensures same { handle.new.held.value ≡ handle.old.held.value }
 {
