@@ -8,7 +8,7 @@ import pathlib
 
 TOP = pathlib.Path(__file__).resolve().parent.parent
 
-# Payloads, as in the tables PAYLOADS of crates/codec_tests/src (asks.rt, answers.rt): the call, of a reply with the
+# Payloads, as in the tables PAYLOADS of crates/codec_tests/src/tests (asks.rt, answers.rt): the call, of a reply with the
 # numbers of the operation and of its parts, the payload, the status and the place.
 HELLO = "00000000 0000000000000000 00007530 0000000000000000 00000010 00000000000000000000000000000000"
 WELCOME = "00000000 00007530 0100000000000001 00000010 000102030405060708090a0b0c0d0e0f"

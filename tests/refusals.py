@@ -12,7 +12,7 @@ up from 1 until a run meets no refusal
   memory; or it ends with status 3, `zkdump: out of memory` on standard error, and a prefix of the output that it has
   with ample memory;
 - calls: over the recordings of the first format that check is stored with, a test of the library
-  (crates/talk_tests/src/growth.rt) passes, with the example on its standard input: each call of read_all, Talk::new,
+  (crates/talk_tests/src/tests/growth.rt) passes, with the example on its standard input: each call of read_all, Talk::new,
   Talk::take, Speaker::new, Speaker::say, MessageRef::to_message, line_of, line_of_ref, read_line and ending_line that
   runs out of memory returns, when it is called again, what it returns with ample memory; and Talk::step and Talk::view,
   which are called once, never allocate;
@@ -42,7 +42,7 @@ import costs_inputs  # noqa: E402
 
 CASES = TOP / "crates" / "zkdump" / "cases"
 TESTS = TOP / "crates" / "talk_tests" / "out" / "talk_tests_tests"
-CALLS = "growth::asked_again"
+CALLS = "tests::growth::asked_again"
 KINDS = ("show", "check", "build", "migrate", "calls", "few")
 # A mix, and more bytes of a recording than a message of it has.
 MIXES = {

@@ -1,7 +1,7 @@
 #!/usr/bin/env python3
-"""Writes src/earliest/bodies.rt: bodies of every layout, and what `earliest` has to answer for each.
+"""Writes src/tests/earliest/bodies.rt: bodies of every layout, and what `earliest` has to answer for each.
 
-    make_bodies.py > src/earliest/bodies.rt
+    make_bodies.py > src/tests/earliest/bodies.rt
 
 The answers are made by the definition alone: the longest front of a body that begins some spelling of
 the same number of bytes. Whether a front does is found by trying: it is written as a pattern, in which each later
@@ -203,14 +203,14 @@ def rows(items, wanted, chance):
 def main():
     print("//! Bodies of every layout: written by make_bodies.py.")
     print("use zk_answers::Layout;\nuse zk_records::Op;\n")
-    print("/// Bodies of each layout: what is answered to one, and its bytes.")
+    print("/// Bodies of each layout: the bytes of one, and what is answered to it.")
     print("pub(crate) const BODIES: &[(Layout, &str)] = &[")
     for layout, items in LAYOUTS.items():
         wanted = 20 if items == ("parts",) else 2 if items == () else 6
         # A seed of its own, so that a further layout changes no other's bodies.
         found = rows(items, wanted, random.Random(layout))
         told = ("None" if answer is None else f"Some({answer})" for _, answer in found)
-        lines = "\n".join(f"{answer} {body.hex()}" for answer, (body, _) in zip(told, found))
+        lines = "\n".join(f"{body.hex()} = {answer}" for answer, (body, _) in zip(told, found))
         print(f'    (\n        Layout::{layout},\n        "{lines}",\n    ),')
     print("];")
 

@@ -14,7 +14,7 @@ import lists  # noqa: E402
 FOLDERS = [f"crates/{name}/src" for name in ("zk_records", "zk_asks", "zk_answers", "zk_fields", "zk_lines", "zk_c")]
 FILES = (*lists.PARTS, *lists.WHOLE, "docs/names.py", "docs/lists.py", "docs/source.py", "docs/formats.py",
          "docs/FORMATS.md", "docs/REASONS.md", "examples/python/libzk/_messages.py", "examples/python/libzk/_held.py",
-         "crates/talk_tests/src/earliest/bodies.rt", "examples/server.c", "wireshark/tree.c", "wireshark/message.h",
+         "crates/talk_tests/src/tests/earliest/bodies.rt", "examples/server.c", "wireshark/tree.c", "wireshark/message.h",
          "tools/forms.py", "bench/make_recording.py")
 ALL_PASSED = (0, ["25 passed, 0 failed"])
 # A file, what is replaced in it and by what, and what is then said: `{line}` is the line of the change.
@@ -114,8 +114,8 @@ COMPARED = (
      ("examples/python/libzk/_messages.py:*: FieldKind.BLOB is 6, and ZK_KIND_BLOB 5",)),
     ("crates/zk_fields/src/kind.rt", "TEXT: u8 = 4", "TEXT: u8 = 5",
      ("include/zk.h: ZK_KIND_TEXT is 4, and in the sources 5",)),
-    ("crates/talk_tests/src/earliest/bodies.rt", "Layout::Answered(Op::Sync),", "Layout::Answered(Op::Ping),",
-     ("crates/talk_tests/src/earliest/bodies.rt: no bodies of Answered(Op::Sync)",)),
+    ("crates/talk_tests/src/tests/earliest/bodies.rt", "Layout::Answered(Op::Sync),", "Layout::Answered(Op::Ping),",
+     ("crates/talk_tests/src/tests/earliest/bodies.rt: no bodies of Answered(Op::Sync)",)),
     ("bench/make_recording.py", "NODE_EXISTS = -101, -103, -110", "NODE_EXISTS = -101, -103, -111",
      ("bench/make_recording.py: NODE_EXISTS is -111, and in the sources -110",)),
     ("crates/zk_records/src/names.rt", '-102 => Some("NOAUTH"),', '-102 => Some("NORIGHT"),',
@@ -147,7 +147,7 @@ PAGE = (
      "vector of ustring invented (inventions; InventResponse) |\n"),
     ("docs/FORMATS.md", "| auth | `auth", "| invent | `invent path=`text |\n"),
     ("docs/FORMATS.md", "| multi | ` {`,", "| invent | ` invented=`list of text |\n"),
-    ("crates/talk_tests/src/earliest/bodies.rt", "    (\n        Layout::Connect,",
+    ("crates/talk_tests/src/tests/earliest/bodies.rt", "    (\n        Layout::Connect,",
      "    (Layout::Asked(Op::Invent), \"\"),\n    (Layout::Answered(Op::Invent), \"\"),\n"),
     ("wireshark/tree.c", "    [ZK_NAME_READ_ONLY]", "    [ZK_NAME_INVENTIONS] = FIELD_INVENTIONS,\n"),
 )
@@ -215,7 +215,7 @@ class Names(ToolCase):
                                   "examples/python/libzk/_names.py", "examples/rust/zk/src/names.rs",
                                   "tools/columns/json.c", "wireshark/names.c", "wireshark/tree.c",
                                   "bench/peer/peer.rs", "wireshark/register.c", "examples/go/libzk.go",
-                                  "completion/zkdump.bash", "crates/talk_tests/src/earliest/bodies.rt"})
+                                  "completion/zkdump.bash", "crates/talk_tests/src/tests/earliest/bodies.rt"})
         for name, before, added in PAGE:
             self.change(name, before, added + before)
         self.assertEqual(self.run_names("--write"), ALL_PASSED)

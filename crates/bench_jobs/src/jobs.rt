@@ -36,11 +36,15 @@ fn recording(alloc: Global, mix: Mix, cut: Cut, seed: u64, turns: u64) -> Result
     Ok(Given::new(Feed::new(alloc, streams, cut, seed, turns)?))
 }
 
-/// A check of a night's recording.
-pub(crate) fn check(alloc: Global, seed: u64, turns: u64) -> Result<u64> {
+/// A check of a night's recording, or its listing.
+pub(crate) fn night(alloc: Global, lists: bool, seed: u64, turns: u64) -> Result<u64> {
     let mut digest = Digest::new();
     let mut feed = recording(alloc, Mix::Night, Cut::Bursts, seed, turns)?;
-    let status = check_run(alloc, limits()?, &mut feed, &mut digest)?;
+    let status = if lists {
+        show_run(alloc, limits()?, &mut feed, &mut digest)?
+    } else {
+        check_run(alloc, limits()?, &mut feed, &mut digest)?
+    };
     add_status(&mut digest, status);
     Ok(digest.sum())
 }
@@ -54,15 +58,6 @@ pub(crate) fn single(alloc: Global, seed: u64, turns: u64) -> Result<u64> {
     add_status(&mut digest, status);
     let other = seed.wrapping_add(1);
     let mut feed = recording(alloc, Mix::Foreign, Cut::Frames, other, turns / 4)?;
-    let status = show_run(alloc, limits()?, &mut feed, &mut digest)?;
-    add_status(&mut digest, status);
-    Ok(digest.sum())
-}
-
-/// A listing of a night's recording.
-pub(crate) fn show(alloc: Global, seed: u64, turns: u64) -> Result<u64> {
-    let mut digest = Digest::new();
-    let mut feed = recording(alloc, Mix::Night, Cut::Bursts, seed, turns)?;
     let status = show_run(alloc, limits()?, &mut feed, &mut digest)?;
     add_status(&mut digest, status);
     Ok(digest.sum())

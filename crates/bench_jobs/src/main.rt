@@ -22,9 +22,9 @@ const JOBS: [&str; 6] = ["check", "single", "show", "build", "clients", "archive
 
 fn run(alloc: Global, job: &str, seed: u64, turns: u64) -> Result<u64> {
     match job {
-        "check" => jobs::check(alloc, seed, turns),
+        "check" => jobs::night(alloc, false, seed, turns),
         "single" => jobs::single(alloc, seed, turns),
-        "show" => jobs::show(alloc, seed, turns),
+        "show" => jobs::night(alloc, true, seed, turns),
         "build" => jobs::build(alloc, seed, turns),
         "clients" => jobs::clients(alloc, seed, turns),
         "archive" => jobs::archive(alloc, seed, turns),

@@ -5,22 +5,4 @@
 #![tactic(auto)]
 
 #[cfg(test)]
-mod answers;
-#[cfg(test)]
-mod asks;
-#[cfg(test)]
-mod awaited;
-#[cfg(test)]
-mod digits;
-#[cfg(test)]
-mod frames;
-#[cfg(test)]
-mod jute;
-#[cfg(test)]
-mod records;
-#[cfg(test)]
-mod samples;
-#[cfg(test)]
-mod values;
-#[cfg(test)]
-mod waiting;
+mod tests;

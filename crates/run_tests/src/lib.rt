@@ -5,20 +5,4 @@
 #![tactic(auto)]
 
 #[cfg(test)]
-mod adapters;
-#[cfg(test)]
-mod blocks;
-#[cfg(test)]
-mod devices;
-#[cfg(test)]
-mod engines;
-#[cfg(test)]
-mod memory;
-#[cfg(test)]
-mod said;
-#[cfg(test)]
-mod samples;
-#[cfg(test)]
-mod watching;
-#[cfg(test)]
-mod words;
+mod tests;

@@ -5,20 +5,4 @@
 #![tactic(auto)]
 
 #[cfg(test)]
-mod answers;
-#[cfg(test)]
-mod calls;
-#[cfg(test)]
-mod earliest;
-#[cfg(test)]
-mod frames;
-#[cfg(test)]
-mod growth;
-#[cfg(test)]
-mod library;
-#[cfg(test)]
-mod lines;
-#[cfg(test)]
-mod speaker;
-#[cfg(test)]
-mod through;
+mod tests;

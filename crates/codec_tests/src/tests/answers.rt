@@ -1,8 +1,7 @@
 //! Tests of server payloads: a table of payloads, each read, judged in each way, and written again.
-use crate::digits::hex;
-use crate::values::fault_told;
+use super::shared::{hex, is_all, keeps, same};
+use super::values::{fault_told, is_told};
 use std::alloc::Global;
-use std::process::Abort;
 use std::test::Fail;
 use zk_answers::{
     Form, ServerFrame, ServerRef, borrow_event_under, borrow_reply_under, fits, form_of,
@@ -61,13 +60,18 @@ fn left(alloc: Global, ask: &Ask) -> Result<Form, Fail> {
     Ok(form_of(alloc, ask)?)
 }
 
-/// What of the request with the payload `digits` its reply is read by.
+/// The same of what was read; it must be a request.
+fn left_of(alloc: Global, read: &Result<ClientFrame, ItemFault>) -> Result<Form, Fail> {
+    match read {
+        Ok(ClientFrame::Ask { ask, .. }) => left(alloc, ask),
+        _ => Err("no request".into()),
+    }
+}
+
+/// The same of the request with the payload `digits`.
 fn form(alloc: Global, digits: &str) -> Result<Form, Fail> {
     let request = hex(alloc, digits)?;
-    match read_ask(alloc, Profile::V35, &request) {
-        Ok(ClientFrame::Ask { ask, .. }) => left(alloc, &ask),
-        _ => Err("no request")?,
-    }
+    left_of(alloc, &read_ask(alloc, Profile::V35, &request))
 }
 
 /// The reply to `form`, if the payload is no event.
@@ -130,12 +134,10 @@ fn scanned(call: &str, form: &Form, payload: &[u8]) -> Option<ItemFault> {
 
 /// The frame is written as this payload, and needs all its bytes.
 fn is_written(alloc: Global, frame: &ServerFrame, payload: &[u8]) -> Result<(), Fail> {
-    let Some(most) = frame.size_within(i32::MAX as u32) else {
+    let Some(size) = frame.size_within(i32::MAX as u32) else {
         return Err("no size".into());
     };
-    if most as usize != payload.len() || frame.size_within(most.saturating_sub(1)).is_some() {
-        return Err("another size".into());
-    }
+    let less = frame.size_within(size.saturating_sub(1));
     if let ServerFrame::Answered(reply) = frame {
         if reply.xid == -1 {
             return Err("the xid of events".into());
@@ -143,10 +145,7 @@ fn is_written(alloc: Global, frame: &ServerFrame, payload: &[u8]) -> Result<(), 
     }
     let mut out = Vec::new(alloc);
     write_server(frame, &mut out)?;
-    if out.as_slice() != payload {
-        return Err("written otherwise".into());
-    }
-    Ok(())
+    is_all(&out, (size, less), payload)
 }
 
 /// The frame in words, once it is written again as its payload.
@@ -158,98 +157,83 @@ fn frame_told(alloc: Global, frame: &ServerFrame, payload: &[u8]) -> Result<Stri
 /// The frame that was read of the payload, or what is wrong with it, in words.
 fn answer_told(
     alloc: Global,
-    answer: Result<ServerFrame, ItemFault>,
+    answer: &Result<ServerFrame, ItemFault>,
     payload: &[u8],
 ) -> Result<String, Fail> {
     match answer {
-        Ok(frame) => frame_told(alloc, &frame, payload),
-        Err(fault) => Ok(fault_told(alloc, &fault)?),
+        Ok(frame) => frame_told(alloc, frame, payload),
+        Err(fault) => Ok(fault_told(alloc, fault)?),
     }
 }
 
 /// What the call of this name reads of the payload, in words; a reply is one to `form`.
 fn told(alloc: Global, call: &str, form: &Form, payload: &[u8]) -> Result<String, Fail> {
-    match call {
-        "connected" => answer_told(alloc, read_connected(alloc, payload), payload),
-        "event" => answer_told(alloc, event(alloc, payload), payload),
-        _ => answer_told(alloc, reply(alloc, form, payload), payload),
-    }
-}
-
-/// The payload is what the row says; borrowed, scanned and by `judge_reply` it is judged alike.
-fn judged(
-    rt: &impl Abort,
-    alloc: Global,
-    (call, form): (&str, &Form),
-    payload: &[u8],
-    want: &str,
-) -> Result<(), Fail> {
-    let answer = told(alloc, call, form, payload)?;
-    assert_eq!(rt; answer.as_str(), want);
-    let fault = match scanned(call, form, payload) {
-        None => String::new(alloc),
-        Some(fault) => fault_told(alloc, &fault)?,
+    let answer = match call {
+        "connected" => read_connected(alloc, payload),
+        "event" => event(alloc, payload),
+        _ => reply(alloc, form, payload),
     };
-    let is_well = fault.as_str().is_empty();
-    assert!(rt;
-        is_well || fault.as_str() == want,
-        "{fault}, and not {want}"
-    );
-    assert_eq!(rt;
-        is_front(form, payload),
-        is_well && call == "reply",
-        "of {want}"
-    );
-    Ok(())
+    answer_told(alloc, &answer, payload)
 }
 
-/// A row's call, its request, its payload, and the answer.
-fn parts(row: &str) -> Option<(&str, &str, &str, &str)> {
-    let (asked, want) = row.split_once(" = ")?;
+/// The payload in words; borrowed, scanned and by `judge_reply` it is judged alike.
+fn judged(alloc: Global, call: &str, form: &Form, payload: &[u8]) -> Result<String, Fail> {
+    let told = told(alloc, call, form, payload)?;
+    let fault = scanned(call, form, payload);
+    if is_front(form, payload) != (fault.is_none() && call == "reply") {
+        return Err("another judgement of judge_reply".into());
+    }
+    if !is_told(alloc, &fault, &told)? {
+        return Err("scanned otherwise".into());
+    }
+    Ok(told)
+}
+
+/// A row's call, its request, and its payload.
+fn parts(asked: &str) -> Option<(&str, &str, &str)> {
     let (call, rest) = asked.split_once(' ')?;
     let (request, digits) = rest.split_once(' ')?;
-    Some((call, request, digits, want))
+    Some((call, request, digits))
 }
 
-/// A row is judged as it says.
-fn row_judged(rt: &impl Abort, alloc: Global, row: &str) -> Result<(), Fail> {
-    let (call, request, digits, want) = parts(row).ok_or("no row")?;
-    let form = match request {
-        "-" => form(alloc, "fffffffe0000000b")?,
-        _ => form(alloc, request)?,
+fn row_told(alloc: Global, asked: &str) -> Result<String, Fail> {
+    let (call, request, digits) = parts(asked).ok_or("no row")?;
+    let request = match request {
+        "-" => "fffffffe0000000b",
+        _ => request,
     };
-    let payload = hex(alloc, digits)?;
-    judged(rt, alloc, (call, &form), &payload, want)
+    let form = form(alloc, request)?;
+    judged(alloc, call, &form, &hex(alloc, digits)?)
 }
 
 #[test]
 fn payloads(rt: HostRuntime) -> Result<(), Fail> {
-    for row in PAYLOADS.lines() {
-        row_judged(&rt, rt.alloc(), row)?;
-    }
-    Ok(())
+    keeps(&rt, rt.alloc(), PAYLOADS, row_told)
 }
 
-/// Whether the reply to an exists request fits a request of the operation `op`.
-fn fits_one(alloc: Global, payload: &[u8], op: Op) -> Result<bool, Fail> {
-    let parts = Vec::new(alloc);
-    let exists = Form {
-        op: Op::Exists,
+/// A request without parts.
+fn alone(alloc: Global, op: Op) -> Form {
+    Form {
+        op,
         parts: Vec::new(alloc),
-    };
-    let ServerFrame::Answered(answer) = reply(alloc, &exists, payload)? else {
-        return Err("no reply")?;
-    };
-    if op == Op::Multi {
-        return Err("a multi")?;
     }
-    Ok(fits(&Form { op, parts }, &answer))
+}
+
+/// Whether the frame is a reply that fits a request.
+fn is_fit(frame: &ServerFrame, form: &Form) -> Option<bool> {
+    match frame {
+        ServerFrame::Answered(answer) => Some(fits(form, answer)),
+        _ => None,
+    }
 }
 
 #[test]
 fn replies_fit_their_requests(rt: HostRuntime) -> Result<(), Fail> {
     let no_node = hex(rt.alloc(), "000000010000000000000005ffffff9b")?;
-    assert!(rt; fits_one(rt.alloc(), &no_node, Op::Exists)?);
-    assert!(rt; !fits_one(rt.alloc(), &no_node, Op::SetData)?);
+    let exists = alone(rt.alloc(), Op::Exists);
+    let answer = reply(rt.alloc(), &exists, &no_node)?;
+    same(&rt, &is_fit(&answer, &exists), &Some(true));
+    let other = alone(rt.alloc(), Op::SetData);
+    same(&rt, &is_fit(&answer, &other), &Some(false));
     Ok(())
 }

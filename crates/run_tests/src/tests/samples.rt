@@ -1,8 +1,10 @@
-//! A recording, what the commands make of it, and runs of the whole program, for the tests.
+//! What the tests share: a recording, what the commands make of it, runs of the whole program, and a comparison.
 ghost use Rattle.std.specs.Prelude.{◌≡◌, ◌<◌, ◌^◌, false};
 
-use crate::memory::MemorySink;
+use super::memory::MemorySink;
 use std::alloc::Global;
+use std::fmt::Debug;
+use std::process::Abort;
 use std::test::Fail;
 use zk_listings::{Sink, Source};
 use zk_runs::run_words;
@@ -37,6 +39,11 @@ S 1 exists zxid=5 err=-101/NONODE
 
 /// The last line of its listing.
 pub(crate) const WHOLE: &str = ". whole unanswered=0\n";
+
+/// The value of this row is the one that is wanted.
+pub(crate) fn same<T: PartialEq + Debug>(rt: &impl Abort, got: &T, want: &T, of: &impl Debug) {
+    assert_eq!(rt; got, want, "of {of:?}");
+}
 
 /// The bytes of hexadecimal digits.
 pub(crate) fn hex(alloc: Global, digits: &str) -> Result<Vec<u8>, Fail> {

@@ -4,8 +4,8 @@ ghost use Rattle.zk_listings.specs.declared.listing.Listing.TheVariants.{Last};
 ghost use Rattle.zk_listings.specs.Running.{HasListed};
 ghost use Rattle.zk_runs.specs.Building.{HasBuilt};
 
-use crate::memory::{MemorySink, MemorySource};
-use crate::samples::{MESSAGES, RECORDING, WHOLE, hex};
+use super::memory::{MemorySink, MemorySource};
+use super::samples::{MESSAGES, RECORDING, WHOLE, hex, same};
 use std::alloc::Global;
 use std::process::Abort;
 use std::test::Fail;
@@ -43,9 +43,11 @@ fn slices(rt: HostRuntime) -> Result<(), Fail> {
     let limits = Limits::new(64, 64, 1).ok_or("limits")?;
     let recording = hex(rt.alloc(), RECORDING)?;
     let (built, sink) = built(rt.alloc(), limits, MESSAGES.as_bytes())?;
-    assert_eq!(rt; (built, sink.bytes()), (Built::Whole, recording.as_slice()));
+    let whole = (Built::Whole, recording.as_slice());
+    same(&rt, &(built, sink.bytes()), &whole, &"lines");
     let (status, sink) = checked(rt.alloc(), limits, &recording)?;
-    assert_eq!(rt; (status, sink.bytes()), (Status::Good, WHOLE.as_bytes()));
+    let good = (Status::Good, WHOLE.as_bytes());
+    same(&rt, &(status, sink.bytes()), &good, &"a recording");
     Ok(())
 }
 
@@ -59,6 +61,6 @@ fn damage_of_a_slice(rt: HostRuntime) -> Result<(), Fail> {
         offset: 4,
         reason: Damage::BadSide,
     };
-    assert_eq!(rt; migrated, Ok(damage));
+    same(&rt, &migrated, &Ok(damage), &"a side");
     Ok(())
 }

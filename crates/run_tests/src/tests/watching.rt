@@ -1,7 +1,7 @@
 //! Tests of when output is written: before each read all that the bytes so far have given.
 ghost use Rattle.std.specs.Prelude.{None, false};
 
-use crate::samples::{MESSAGES, MIGRATED, RECORDING, WHOLE, hex, run};
+use super::samples::{MESSAGES, MIGRATED, RECORDING, WHOLE, hex, run, same};
 use std::alloc::Global;
 use std::cell::Cell;
 use std::process::Abort;
@@ -92,10 +92,10 @@ fn expect_written(rt: &impl Abort, alloc: Global, of: &Run<'_>) -> Result<(), Fa
     };
     let mut writer = Counted { written: &written };
     let (status, says) = run(alloc, of.line, &mut reader, &mut writer)?;
-    assert_eq!(rt; (status, says.as_str()), (0, ""), "of {}", of.line);
+    same(rt, &(status, says.as_str()), &(0, ""), &of.line);
     for (end, output) in of.ends.iter().zip(of.outputs) {
         let seen = reader.seen.get(*end).copied();
-        assert_eq!(rt; seen, Some(output), "of {} behind {end} bytes", of.line);
+        same(rt, &seen, &Some(output), &(of.line, end));
     }
     Ok(())
 }

@@ -1,6 +1,6 @@
 //! `Speaker`: its laws, and a payload that has no turn. What may be said, and why other messages may not, are stored cases
 //! of the program.
-use crate::frames::{CONNECT, CONNECTED, NO_NODE, newer};
+use super::frames::{CONNECT, CONNECTED, NO_NODE, newer, same};
 use std::process::Abort;
 use std::test::Fail;
 use zk_jute::{ItemFault, Reason};
@@ -19,7 +19,11 @@ fn payload(frame: &[u8]) -> Result<&[u8], Fail> {
 /// The server's payload is refused: no request waits for it.
 fn is_unasked(rt: &impl Abort, speaker: &mut Speaker, payload: &[u8], bytes: &mut Vec<u8>) {
     let unasked = Err(PayloadFault::Item(ItemFault::at(0, Reason::Unasked)));
-    assert_eq!(rt; speaker.say_payload(Side::Server, payload, bytes), unasked);
+    same(
+        rt,
+        &speaker.say_payload(Side::Server, payload, bytes),
+        &unasked,
+    );
 }
 
 /// Says the payloads of the connect request and of the reply to it.
@@ -34,15 +38,12 @@ fn are_unasked(rt: &impl Abort, speaker: &mut Speaker, bytes: &mut Vec<u8>) -> R
     is_unasked(rt, speaker, payload(CONNECTED)?, bytes);
     connects(speaker, bytes)?;
     is_unasked(rt, speaker, payload(NO_NODE)?, bytes);
-    assert_eq!(rt; bytes.len(), CONNECT.len() + CONNECTED.len());
+    same(rt, &bytes.len(), &(CONNECT.len() + CONNECTED.len()));
     Ok(())
 }
 
 #[test]
 fn a_payload_without_its_request_is_refused(rt: HostRuntime) -> Result<(), Fail> {
-    let mut bytes = Vec::new(rt.alloc());
     let mut speaker = Speaker::new(rt.alloc(), newer()?)?;
-    let refused = are_unasked(&rt, &mut speaker, &mut bytes);
-    drop(speaker);
-    refused
+    are_unasked(&rt, &mut speaker, &mut Vec::new(rt.alloc()))
 }

@@ -1,5 +1,5 @@
 //! Tests of `Through`, call by call: what each step returns, what then waits and is left out, and how it ends.
-use crate::frames::{Has, keeps, piece, usual};
+use super::frames::{Has, keeps, piece, usual};
 use std::alloc::Global;
 use std::process::Abort;
 use std::test::Fail;
@@ -29,7 +29,7 @@ S 000000250000000000007530010000000000000100000010000102030405060708090a0b0c0d0e
 
 /// Each step of the rows returns what its row says.
 fn goes_on(rt: &impl Abort, alloc: Global, through: &mut Through, rows: &str) -> Result<(), Fail> {
-    keeps(rt, rows, Has::Beginning, |row| told(alloc, through, row))
+    keeps(rt, alloc, through, rows, Has::Beginning, told)
 }
 
 /// No message of either side is shown.
@@ -51,10 +51,7 @@ fn twice(rt: &impl Abort, alloc: Global, through: &mut Through, rows: &str) -> R
 /// Each step of a new passage with room for `waiting` requests returns what its row says.
 fn goes(rt: &impl Abort, alloc: Global, waiting: u32, rows: &str) -> Result<(), Fail> {
     let limits = Limits::new(4_194_304, 4_194_304, waiting).ok_or("no limits")?;
-    let mut through = Through::new(alloc, limits)?;
-    let kept = twice(rt, alloc, &mut through, rows);
-    drop(through);
-    kept
+    twice(rt, alloc, &mut Through::new(alloc, limits)?, rows)
 }
 
 /// A request that no profile has (9999), of `/a` under xid 1, its reply, and an exists request between them.
@@ -217,7 +214,7 @@ fn answers_anew(rt: &impl Abort, alloc: Global, through: &mut Through) -> Result
     for _ in 0..2 {
         assert!(rt; through.answered().is_none());
         goes_on(rt, alloc, through, CONNECTED)?;
-        keeps(rt, ANSWERS, Has::All, |row| answered(alloc, through, row))?;
+        keeps(rt, alloc, through, ANSWERS, Has::All, answered)?;
         through.renew();
     }
     Ok(())
@@ -225,10 +222,7 @@ fn answers_anew(rt: &impl Abort, alloc: Global, through: &mut Through) -> Result
 
 #[test]
 fn replies_answer_frames(rt: HostRuntime) -> Result<(), Fail> {
-    let mut through = Through::new(rt.alloc(), usual()?)?;
-    let answered = answers_anew(&rt, rt.alloc(), &mut through);
-    drop(through);
-    answered
+    answers_anew(&rt, rt.alloc(), &mut Through::new(rt.alloc(), usual()?)?)
 }
 
 /// Seen late are exists under xid 7, 9999 under 8 and a ping. What was asked before are 5, 6 and pings; an
@@ -276,10 +270,7 @@ fn late(rt: &impl Abort, alloc: Global, through: &mut Through, rows: &str) -> Re
 
 /// Each step of a new passage that is seen late, with the usual limits, returns what its row says.
 fn joins(rt: &impl Abort, alloc: Global, rows: &str) -> Result<(), Fail> {
-    let mut through = Through::join(alloc, usual()?)?;
-    let kept = late(rt, alloc, &mut through, rows);
-    drop(through);
-    kept
+    late(rt, alloc, &mut Through::join(alloc, usual()?)?, rows)
 }
 
 #[test]

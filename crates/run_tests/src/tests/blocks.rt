@@ -1,8 +1,8 @@
 //! Tests of lines that `build` takes block by block: what is written is that of taking them line by line.
 ghost use Rattle.std.specs.Prelude.{◌<◌};
 
-use crate::memory::{MemorySink, MemorySource};
-use crate::samples::{MESSAGES, RECORDING, WHOLE, hex, run};
+use super::memory::{MemorySink, MemorySource};
+use super::samples::{MESSAGES, RECORDING, WHOLE, hex, run, same};
 use std::alloc::Global;
 use std::process::Abort;
 use std::test::Fail;
@@ -25,8 +25,8 @@ fn expect_built(
     let mut reader = MemorySource::by_steps(lines.as_bytes(), size);
     let mut writer = MemorySink::new(alloc);
     let (got, says) = run(alloc, "build", &mut reader, &mut writer)?;
-    assert_eq!(rt; (got, says.as_str()), want, "by {size}");
-    assert_eq!(rt; writer.bytes(), recording.as_slice(), "by {size}");
+    same(rt, &(got, says.as_str()), &want, &size);
+    same(rt, &writer.bytes(), &recording.as_slice(), &size);
     Ok(())
 }
 
@@ -53,8 +53,8 @@ fn write_fails_before_a_refused_line(rt: HostRuntime) -> Result<(), Fail> {
         let mut writer = MemorySink::failing_at(rt.alloc(), (before as u64).saturating_add(1));
         let (status, says) = run(rt.alloc(), "build", &mut reader, &mut writer)?;
         let want = (3, "zkdump: write failed\n");
-        assert_eq!(rt; (status, says.as_str()), want, "at {before}");
-        assert_eq!(rt; writer.bytes(), &recording[..before], "at {before}");
+        same(&rt, &(status, says.as_str()), &want, &before);
+        same(&rt, &writer.bytes(), &&recording[..before], &before);
     }
     Ok(())
 }

@@ -3,7 +3,7 @@
 //! A call that runs out of memory returns what it does with ample memory when it is called again, and a step allocates
 //! nothing. tests/refusals.py runs the test over each worked example, which is on its standard input, and refuses one
 //! growth a run; with no input it goes over the first example that has a reply.
-use crate::frames::{EXAMPLE, newer};
+use super::frames::{EXAMPLE, newer, same};
 use std::alloc::{AllocError, Global};
 use std::io::Read;
 use std::process::Abort;
@@ -95,20 +95,15 @@ fn append(lines: &mut Vec<u8>, bytes: &[u8]) -> Result<(), AllocError> {
 
 /// The line of a copy of the message.
 fn copied_line(alloc: Global, message: &MessageRef<'_>) -> Result<Vec<u8>, AllocError> {
-    let copy = copied(alloc, message)?;
-    let line = line(alloc, &copy);
-    drop(copy);
-    line
+    line(alloc, &copied(alloc, message)?)
 }
 
 /// The line of the message that `shown` is read as; nothing if it is no line.
 fn line_again(alloc: Global, shown: &[u8]) -> Result<Vec<u8>, AllocError> {
-    let Ok(message) = message(alloc, shown) else {
-        return Ok(Vec::new(alloc));
-    };
-    let line = line(alloc, &message);
-    drop(message);
-    line
+    match &message(alloc, shown) {
+        Ok(message) => line(alloc, message),
+        Err(_) => Ok(Vec::new(alloc)),
+    }
 }
 
 /// A conversation that is read by `take` and by `step`, and said again by its messages and by its payloads.
@@ -157,40 +152,25 @@ fn begun(alloc: Global, limits: Limits) -> Result<Reading, AllocError> {
     })
 }
 
-/// The message's line, once it is said.
-fn said_line(
-    alloc: Global,
-    speaker: &mut Speaker,
-    message: &Message,
-    out: &mut Vec<u8>,
-) -> Result<Vec<u8>, Fail> {
-    said(speaker, message, out)?;
-    Ok(line(alloc, message)?)
-}
-
 /// The line of what was taken, once it is said; nothing if no message came.
 fn taken_line(
     alloc: Global,
     speaker: &mut Speaker,
-    message: Option<Message>,
+    message: &Option<Message>,
     out: &mut Vec<u8>,
 ) -> Result<Vec<u8>, Fail> {
     let Some(message) = message else {
         return Ok(Vec::new(alloc));
     };
-    let line = said_line(alloc, speaker, &message, out);
-    drop(message);
-    line
+    said(speaker, message, out)?;
+    Ok(line(alloc, message)?)
 }
 
 /// The side shows the message of this line, which is read as the same message.
 fn shows(rt: &impl Abort, alloc: Global, shown: &MessageRef<'_>, line: &[u8]) -> Result<(), Fail> {
-    let seen = line_seen(alloc, shown)?;
-    assert_eq!(rt; seen.as_slice(), line);
-    let copied = copied_line(alloc, shown)?;
-    assert_eq!(rt; copied.as_slice(), line);
-    let again = line_again(alloc, line)?;
-    assert_eq!(rt; again.as_slice(), line);
+    same(rt, &line_seen(alloc, shown)?.as_slice(), &line);
+    same(rt, &copied_line(alloc, shown)?.as_slice(), &line);
+    same(rt, &line_again(alloc, line)?.as_slice(), &line);
     Ok(())
 }
 
@@ -208,11 +188,11 @@ fn steps_too(
     (used, line): (usize, &[u8]),
 ) -> Result<(), Fail> {
     let stepped = steps(&mut reading.stepping, piece);
-    assert_eq!(rt; stepped, Some((used, line.len() > 0)));
+    same(rt, &stepped, &Some((used, line.len() > 0)));
     match reading.stepping.view(piece.0) {
         Some(message) => shows(rt, reading.alloc, &message, line),
         None => {
-            assert_eq!(rt; line.len(), 0);
+            same(rt, &line.len(), &0);
             Ok(())
         }
     }
@@ -232,11 +212,11 @@ fn heard(
     rt: &impl Abort,
     reading: &mut Reading,
     piece: Piece<'_>,
-    taken: Taken,
+    taken: &Taken,
 ) -> Result<usize, Fail> {
     let used = taken.used;
     let out = &mut reading.told.bytes;
-    let line = taken_line(reading.alloc, &mut reading.speaker, taken.message, out)?;
+    let line = taken_line(reading.alloc, &mut reading.speaker, &taken.message, out)?;
     steps_too(rt, reading, piece, (used, &line))?;
     said_too(reading, piece.0)?;
     if line.len() > 0 {
@@ -248,11 +228,11 @@ fn heard(
 
 /// How much of a piece is read up to the end of a frame; all of it if it is refused, which a step is for the same fault.
 fn hear_next(rt: &impl Abort, reading: &mut Reading, piece: Piece<'_>) -> Result<usize, Fail> {
-    match taken(&mut reading.taking, piece) {
+    match &taken(&mut reading.taking, piece) {
         Ok(taken) => heard(rt, reading, piece, taken),
         Err(fault) => {
             let (side, bytes) = piece;
-            assert_eq!(rt; reading.stepping.step(side, bytes).err(), Some(fault));
+            same(rt, &reading.stepping.step(side, bytes).err(), &Some(*fault));
             Ok(bytes.len())
         }
     }
@@ -272,7 +252,7 @@ fn hear_all(rt: &impl Abort, reading: &mut Reading, pieces: &[Piece<'_>]) -> Res
         hear(rt, reading, *piece)?;
     }
     let ending = reading.taking.finish();
-    assert_eq!(rt; reading.stepping.finish(), ending);
+    same(rt, &reading.stepping.finish(), &ending);
     let last = last_line(reading.alloc, &ending)?;
     Ok(append(&mut reading.told.lines, &last)?)
 }
@@ -281,7 +261,7 @@ fn hear_all(rt: &impl Abort, reading: &mut Reading, pieces: &[Piece<'_>]) -> Res
 fn asked(rt: &impl Abort, alloc: Global, pieces: &[Piece<'_>]) -> Result<Reading, Fail> {
     let mut reading = begun(alloc, newer()?)?;
     hear_all(rt, &mut reading, pieces)?;
-    assert_eq!(rt; reading.told.payloads, reading.told.bytes);
+    same(rt, &reading.told.payloads, &reading.told.bytes);
     Ok(reading)
 }
 
@@ -297,20 +277,17 @@ fn lines_of(alloc: Global, ended: &Ended) -> Result<Vec<u8>, AllocError> {
 }
 
 fn listed(alloc: Global, pieces: &[Piece<'_>]) -> Result<Vec<u8>, Fail> {
-    let ended = all(alloc, newer()?, pieces)?;
-    let lines = lines_of(alloc, &ended);
-    drop(ended);
-    Ok(lines?)
+    Ok(lines_of(alloc, &all(alloc, newer()?, pieces)?)?)
 }
 
 /// Makes all calls for the pieces, and then those of a conversation once more.
 fn ask(rt: &impl Abort, alloc: Global, pieces: &[Piece<'_>]) -> Result<(), Fail> {
     let some = asked(rt, alloc, pieces)?;
     let listed = listed(alloc, pieces)?;
-    assert_eq!(rt; listed, some.told.lines);
+    same(rt, &listed, &some.told.lines);
     let others = asked(rt, alloc, pieces)?;
-    assert_eq!(rt; others.told.lines, some.told.lines);
-    assert_eq!(rt; others.told.bytes, some.told.bytes);
+    same(rt, &others.told.lines, &some.told.lines);
+    same(rt, &others.told.bytes, &some.told.bytes);
     Ok(())
 }
 

@@ -1,4 +1,8 @@
 //! Tests of jute's numbers, of borrowed values and lists, and of faults in words.
+ghost use Rattle.std.specs.Prelude.{◌≤◌, length};
+
+use super::shared::same;
+use std::alloc::{AllocError, Global};
 use std::process::Abort;
 use std::test::Fail;
 use zk_jute::{
@@ -7,12 +11,11 @@ use zk_jute::{
 };
 
 #[test]
-fn numbers(rt: HostRuntime) -> Result<(), Fail> {
+fn numbers(rt: HostRuntime) {
     let bytes = b"\0\0\0\x07\xff\xff\xff\xff\xff\xff\xff\xfe\x01";
-    assert_eq!(rt; int_at(bytes, 0)?, (7, 4));
-    assert_eq!(rt; long_at(bytes, 4)?, (-2, 12));
-    assert_eq!(rt; bool_at(bytes, 12)?, (true, 13));
-    Ok(())
+    same(&rt, &int_at(bytes, 0), &Ok((7, 4)));
+    same(&rt, &long_at(bytes, 4), &Ok((-2, 12)));
+    same(&rt, &bool_at(bytes, 12), &Ok((true, 13)));
 }
 
 /// A list of a text and null.
@@ -25,7 +28,7 @@ fn text(rt: HostRuntime) -> Result<(), Fail> {
     let TextRef::Full(text) = text else {
         return Err("null".into());
     };
-    assert_eq!(rt; (text.as_str(), end), ("/a", 10));
+    same(&rt, &(text.as_str(), end), &("/a", 10));
     Ok(())
 }
 
@@ -36,64 +39,67 @@ fn data_at_a_place(rt: HostRuntime) -> Result<(), Fail> {
     let BlobRef::Full(blob) = blob else {
         return Err("null".into());
     };
-    assert_eq!(rt; (blob.as_slice(), end), (b"/a".as_slice(), 10));
+    same(&rt, &(blob.as_slice(), end), &(b"/a".as_slice(), 10));
     Ok(())
+}
+
+/// Where a value ends, or why it doesn't; and whether that is decided.
+fn ended<T: Ends>(bytes: &[u8], at: usize) -> (Result<usize, ItemFault>, Option<usize>)
+    requires { at ≤ length bytes.now }
+{
+    (
+        T::end::<ItemFault>(bytes, at),
+        T::end::<Undecided>(bytes, at).ok(),
+    )
 }
 
 /// Where the text ends.
 #[test]
-fn ends(rt: HostRuntime) -> Result<(), Fail> {
-    assert_eq!(rt; scan::<TextRef>(TWO, 4)?, 10);
-    assert_eq!(rt; TextRef::end::<ItemFault>(TWO, 4)?, 10);
+fn ends(rt: HostRuntime) {
     let short = ItemFault::at(4, Reason::Short);
-    assert_eq!(rt; TextRef::end::<ItemFault>(&TWO[..9], 4).err(), Some(short));
-    assert_eq!(rt; TextRef::end::<Undecided>(TWO, 4).ok(), Some(10));
-    assert_eq!(rt; TextRef::end::<Undecided>(&TWO[..9], 4).ok(), None);
-    Ok(())
+    same(&rt, &scan::<TextRef>(TWO, 4), &Ok(10));
+    same(&rt, &ended::<TextRef>(TWO, 4), &(Ok(10), Some(10)));
+    same(&rt, &ended::<TextRef>(&TWO[..9], 4), &(Err(short), None));
 }
 
 /// Where a list of texts ends that one look finds plain, or that needs a look at each.
 #[test]
-fn ends_of_lists(rt: HostRuntime) -> Result<(), Fail> {
+fn ends_of_lists(rt: HostRuntime) {
     let plain = b"\0\0\0\x02\0\0\0\x02/a\0\0\0\0";
     let letters = b"\0\0\0\x02\0\0\0\x02\xc3\xa4\xff\xff\xff\xff";
     let stray = b"\0\0\0\x02\0\0\0\x02\xc3\xa4\0\0\0\x01\xc3";
-    assert_eq!(rt; TextList::end::<Undecided>(plain, 0).ok(), Some(14));
-    assert_eq!(rt; TextList::end::<Undecided>(&plain[..13], 0).ok(), None);
-    assert_eq!(rt; TextList::end::<Undecided>(TWO, 0).ok(), Some(14));
-    assert_eq!(rt; TextList::end::<Undecided>(letters, 0).ok(), Some(14));
-    assert_eq!(rt; TextList::end::<Undecided>(stray, 0).ok(), None);
     let short = ItemFault::at(10, Reason::Short);
-    assert_eq!(rt;
-        TextList::end::<ItemFault>(&plain[..13], 0).err(),
-        Some(short)
-    );
     let bad = ItemFault::at(14, Reason::BadText);
-    assert_eq!(rt; TextList::end::<ItemFault>(stray, 0).err(), Some(bad));
-    Ok(())
+    same(&rt, &ended::<TextList>(plain, 0), &(Ok(14), Some(14)));
+    same(
+        &rt,
+        &ended::<TextList>(&plain[..13], 0),
+        &(Err(short), None),
+    );
+    same(&rt, &ended::<TextList>(TWO, 0), &(Ok(14), Some(14)));
+    same(&rt, &ended::<TextList>(letters, 0), &(Ok(14), Some(14)));
+    same(&rt, &ended::<TextList>(stray, 0), &(Err(bad), None));
 }
 
-/// Where a list of more texts ends than get one look.
-#[test]
-fn ends_of_many(rt: HostRuntime) -> Result<(), Fail> {
-    let mut many = Vec::new(rt.alloc());
+/// A list of more texts than get one look: 129 of a letter, and one of two bytes.
+fn many(alloc: Global) -> Result<Vec<u8>, AllocError> {
+    let mut many = Vec::new(alloc);
     many.extend_from_slice(b"\0\0\0\x82")?;
     for _ in 0..129 {
         many.extend_from_slice(b"\0\0\0\x01n")?;
     }
     many.extend_from_slice(b"\0\0\0\x02\xc3\xa4")?;
-    assert_eq!(rt;
-        TextList::end::<Undecided>(many.as_slice(), 0).ok(),
-        Some(655)
-    );
-    assert_eq!(rt; TextList::end::<ItemFault>(many.as_slice(), 0)?, 655);
+    Ok(many)
+}
+
+/// Where it ends, whole and without its last byte.
+#[test]
+fn ends_of_many(rt: HostRuntime) -> Result<(), Fail> {
+    let mut many = many(rt.alloc())?;
+    same(&rt, &ended::<TextList>(&many, 0), &(Ok(655), Some(655)));
     many.truncate(654);
-    assert_eq!(rt; TextList::end::<Undecided>(many.as_slice(), 0).ok(), None);
     let short = ItemFault::at(649, Reason::Short);
-    assert_eq!(rt;
-        TextList::end::<ItemFault>(many.as_slice(), 0).err(),
-        Some(short)
-    );
+    same(&rt, &ended::<TextList>(&many, 0), &(Err(short), None));
     Ok(())
 }
 
@@ -101,14 +107,20 @@ fn ends_of_many(rt: HostRuntime) -> Result<(), Fail> {
 #[test]
 fn listed(rt: HostRuntime) -> Result<(), Fail> {
     let (list, end) = read_ref::<TextList>(TWO, 0)?;
-    assert_eq!(rt; (list.is_null(), list.count(), end), (false, 2, 14));
+    same(&rt, &(list.is_null(), list.count(), end), &(false, 2, 14));
     let mut items = list.items();
-    assert_eq!(rt; items.size_hint(), (2, Some(2)));
+    same(&rt, &items.size_hint(), &(2, Some(2)));
     assert!(rt; matches!(items.next(), Some(TextRef::Full(_))));
     assert!(rt; matches!(items.next(), Some(TextRef::Null)));
     assert!(rt; items.next().is_none());
+    Ok(())
+}
+
+/// A list that is null.
+#[test]
+fn null_list(rt: HostRuntime) -> Result<(), Fail> {
     let (null, end) = read_ref::<TextList>(TWO, 10)?;
-    assert_eq!(rt; (null.is_null(), null.count(), end), (true, 0, 14));
+    same(&rt, &(null.is_null(), null.count(), end), &(true, 0, 14));
     Ok(())
 }
 
@@ -116,12 +128,12 @@ fn listed(rt: HostRuntime) -> Result<(), Fail> {
 #[test]
 fn counted(rt: HostRuntime) -> Result<(), Fail> {
     let items = Items::new(vec![in rt.alloc(); 3u8, 4u8]?);
-    assert_eq!(rt; (items.len(), items.is_empty()), (2, false));
+    same(&rt, &(items.len(), items.is_empty()), &(2, false));
     let mut last = 0;
     for item in &items {
         last = *item;
     }
-    assert_eq!(rt; last, 4);
+    same(&rt, &last, &4);
     Ok(())
 }
 
@@ -134,7 +146,11 @@ fn fault_in_words(rt: HostRuntime) -> Result<(), Fail> {
     };
     let fault = ItemFault { place: 4, reason };
     let words = format!(in rt.alloc(); "{fault}")?;
-    assert_eq!(rt; words.as_str(), "place=4 reason=XidOrder expected=1 got=-2");
+    same(
+        &rt,
+        &words.as_str(),
+        &"place=4 reason=XidOrder expected=1 got=-2",
+    );
     Ok(())
 }
 
@@ -147,5 +163,5 @@ fn place_within_a_pair(rt: HostRuntime) {
         reason: Reason::Short,
     };
     let answer = read_ref::<(bool, (bool, TextList))>(cut, 0);
-    assert_eq!(rt; answer.err(), Some(fault));
+    same(&rt, &answer.err(), &Some(fault));
 }

@@ -1,6 +1,7 @@
 //! Tests of `FromRead` and `FromWrite` over a reader and a writer that fail at their first call and work at the next.
 //!
 //! The failure is returned at that call, and remembered.
+use super::samples::same;
 use std::io;
 use std::io::{ErrorKind, Read, Write};
 use std::test::Fail;
@@ -58,10 +59,10 @@ fn failed_read_is_told(rt: HostRuntime) -> Result<(), Fail> {
     for kind in KINDS {
         let mut source = FromRead::new(FailsOnce::new(kind));
         let mut buf = [0; 4];
-        assert_eq!(rt; source.read(&mut buf), Err(Failed));
-        assert_eq!(rt; (source.failed(), source.reads()), (true, 1));
-        assert_eq!(rt; source.read(&mut buf), Ok(4));
-        assert_eq!(rt; (source.failed(), source.reads()), (true, 2));
+        same(&rt, &source.read(&mut buf), &Err(Failed), &kind);
+        same(&rt, &(source.failed(), source.reads()), &(true, 1), &kind);
+        same(&rt, &source.read(&mut buf), &Ok(4), &kind);
+        same(&rt, &(source.failed(), source.reads()), &(true, 2), &kind);
     }
     Ok(())
 }
@@ -70,9 +71,9 @@ fn failed_read_is_told(rt: HostRuntime) -> Result<(), Fail> {
 fn failed_write_is_told(rt: HostRuntime) -> Result<(), Fail> {
     for kind in KINDS {
         let mut sink = FromWrite::new(FailsOnce::new(kind));
-        assert_eq!(rt; sink.write(b"line"), Err(Failed));
+        same(&rt, &sink.write(b"line"), &Err(Failed), &kind);
         assert!(rt; sink.failed());
-        assert_eq!(rt; sink.write(b"line"), Ok(4));
+        same(&rt, &sink.write(b"line"), &Ok(4), &kind);
         assert!(rt; sink.failed());
     }
     Ok(())

@@ -1,5 +1,5 @@
 //! Tests of `Talk`, call by call: what each returns, and what the sides then hold.
-use crate::frames::{Has, keeps, piece, usual};
+use super::frames::{Has, keeps, piece, same, usual};
 use std::alloc::Global;
 use std::process::Abort;
 use std::test::Fail;
@@ -51,9 +51,7 @@ pub(crate) fn told(alloc: Global, talk: &mut Talk, asked: &str) -> Result<String
 /// Each call of a new conversation returns what its row says.
 fn goes(rt: &impl Abort, alloc: Global, rows: &str) -> Result<(), Fail> {
     let mut talk = Talk::new(alloc, usual()?)?;
-    let kept = keeps(rt, rows, Has::Beginning, |row| told(alloc, &mut talk, row));
-    drop(talk);
-    kept
+    keeps(rt, alloc, &mut talk, rows, Has::Beginning, told)
 }
 
 /// Within a request and after it, by `take`, which keeps no frame.
@@ -101,9 +99,10 @@ fn fault_is_kept(rt: HostRuntime) -> Result<(), Fail> {
 #[test]
 fn limits_with_a_profile(rt: HostRuntime) -> Result<(), Fail> {
     let limits = Limits::new(64, 65, 66).ok_or("no limits")?;
-    assert_eq!(rt; limits.profile(), Profile::V34);
+    same(&rt, &limits.profile(), &Profile::V34);
     let newer = limits.with_profile(Profile::V35);
     let numbers = (newer.client(), newer.server(), newer.waiting());
-    assert_eq!(rt; (numbers, newer.profile()), ((64, 65, 66), Profile::V35));
+    same(&rt, &numbers, &(64, 65, 66));
+    same(&rt, &newer.profile(), &Profile::V35);
     Ok(())
 }

@@ -1,5 +1,5 @@
 //! Tests of the library's usage as its page shows it: a conversation that is read, and one that is said.
-use crate::frames::{CONNECT, CONNECTED, EXISTS, usual};
+use super::frames::{CONNECT, CONNECTED, EXISTS, same, usual};
 use std::process::Abort;
 use std::test::Fail;
 use zk_asks::{Ask, ClientFrame};
@@ -27,7 +27,7 @@ fn read(
     messages: &mut Vec<Message>,
 ) -> Result<(), Fail> {
     let taken = talk.take(side, piece)?;
-    assert_eq!(rt; taken.used, piece.len());
+    same(rt, &taken.used, &piece.len());
     if let Some(message) = taken.message {
         messages.push(message)?;
     }
@@ -39,18 +39,15 @@ fn read_all(rt: &impl Abort, talk: &mut Talk, messages: &mut Vec<Message>) -> Re
     for piece in PIECES {
         read(rt, talk, piece, messages)?;
     }
-    assert_eq!(rt; messages.len(), 3);
-    assert_eq!(rt; talk.finish(), Ending::Whole { unanswered: 1 });
+    same(rt, &messages.len(), &3);
+    same(rt, &talk.finish(), &Ending::Whole { unanswered: 1 });
     Ok(())
 }
 
 #[test]
 fn a_conversation_is_read(rt: HostRuntime) -> Result<(), Fail> {
-    let mut messages = Vec::new(rt.alloc());
     let mut talk = Talk::new(rt.alloc(), usual()?)?;
-    let read = read_all(&rt, &mut talk, &mut messages);
-    drop(talk);
-    read
+    read_all(&rt, &mut talk, &mut Vec::new(rt.alloc()))
 }
 
 /// Steps over a piece, and appends the line of its message.
@@ -78,11 +75,8 @@ fn put_lines_seen(talk: &mut Talk, lines: &mut Vec<u8>) -> Result<(), Fail> {
 #[test]
 fn messages_are_seen_where_they_lie(rt: HostRuntime) -> Result<(), Fail> {
     let mut lines = Vec::new(rt.alloc());
-    let mut talk = Talk::new(rt.alloc(), usual()?)?;
-    let put = put_lines_seen(&mut talk, &mut lines);
-    drop(talk);
-    put?;
-    assert_eq!(rt; lines.as_slice(), LINES);
+    put_lines_seen(&mut Talk::new(rt.alloc(), usual()?)?, &mut lines)?;
+    same(&rt, &lines.as_slice(), &LINES);
     Ok(())
 }
 
@@ -107,24 +101,20 @@ fn ping(xid: i32) -> Message {
 }
 
 /// The message is said.
-fn is_said(rt: &impl Abort, speaker: &mut Speaker, message: Message, bytes: &mut Vec<u8>) {
-    assert_eq!(rt; speaker.say(&message, bytes), Ok(()));
-    drop(message);
+fn is_said(rt: &impl Abort, speaker: &mut Speaker, message: &Message, bytes: &mut Vec<u8>) {
+    same(rt, &speaker.say(message, bytes), &Ok(()));
 }
 
 /// The connect request is said, and a ping.
 fn are_said(rt: &impl Abort, speaker: &mut Speaker, bytes: &mut Vec<u8>) {
-    is_said(rt, speaker, connect(), bytes);
-    is_said(rt, speaker, ping(-2), bytes);
-    assert_eq!(rt; bytes.len(), 44);
-    assert_eq!(rt; speaker.unanswered(), 2);
+    is_said(rt, speaker, &connect(), bytes);
+    is_said(rt, speaker, &ping(-2), bytes);
+    same(rt, &(bytes.len(), speaker.unanswered()), &(44, 2));
 }
 
 #[test]
 fn a_conversation_is_said(rt: HostRuntime) -> Result<(), Fail> {
-    let mut bytes = Vec::new(rt.alloc());
     let mut speaker = Speaker::new(rt.alloc(), usual()?)?;
-    are_said(&rt, &mut speaker, &mut bytes);
-    drop(speaker);
+    are_said(&rt, &mut speaker, &mut Vec::new(rt.alloc()));
     Ok(())
 }

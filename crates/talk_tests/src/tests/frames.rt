@@ -1,5 +1,6 @@
-//! Frames and limits that the tests share.
+//! What the tests share: frames, limits, and comparisons, each proved once for all types.
 use std::alloc::Global;
+use std::fmt::Debug;
 use std::process::Abort;
 use std::test::Fail;
 use zk_records::Profile;
@@ -42,6 +43,11 @@ pub(crate) fn hex(alloc: Global, digits: &str) -> Result<Vec<u8>, Fail> {
     Ok(hex::decode(alloc, digits)?)
 }
 
+/// The value is the one that is wanted.
+pub(crate) fn same<T: PartialEq + Debug>(rt: &impl Abort, got: &T, want: &T) {
+    assert_eq!(rt; got, want);
+}
+
 /// How much of what `told` gives a row has.
 #[derive(Clone, Copy)]
 pub(crate) enum Has {
@@ -49,9 +55,22 @@ pub(crate) enum Has {
     All,
 }
 
-/// What `told` gives for each row, in order, is what the row has of it.
-pub(crate) fn keeps<F: FnMut(&str) -> Result<String, Fail>>(
+impl Has {
+    /// What was found of a row is what it has.
+    fn keeps(self, rt: &impl Abort, asked: &str, found: &str, want: &str) {
+        let is_kept = match self {
+            Has::Beginning => found.starts_with(want),
+            Has::All => found == want,
+        };
+        assert!(rt; is_kept, "{asked} = {found}");
+    }
+}
+
+/// What `told` gives of `of` for each row, in order, is what the row has of it.
+pub(crate) fn keeps<T, F: FnMut(Global, &mut T, &str) -> Result<String, Fail>>(
     rt: &impl Abort,
+    alloc: Global,
+    of: &mut T,
     rows: &str,
     has: Has,
     mut told: F,
@@ -60,12 +79,8 @@ pub(crate) fn keeps<F: FnMut(&str) -> Result<String, Fail>>(
 {
     for row in rows.lines() {
         let (asked, want) = row.split_once(" = ").ok_or("no row")?;
-        let found = told(asked)?;
-        let is_kept = match has {
-            Has::Beginning => found.as_str().starts_with(want),
-            Has::All => found.as_str() == want,
-        };
-        assert!(rt; is_kept, "{asked} = {found}");
+        let found = told(alloc, of, asked)?;
+        has.keeps(rt, asked, &found, want);
     }
     Ok(())
 }

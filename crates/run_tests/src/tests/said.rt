@@ -2,7 +2,8 @@
 //! line's message and saying it, one by one.
 ghost use Rattle.std.specs.Prelude.{◌<◌};
 
-use crate::memory::{MemorySink, MemorySource};
+use super::memory::{MemorySink, MemorySource};
+use super::samples::same;
 use std::alloc::Global;
 use std::process::Abort;
 use std::test::Fail;
@@ -148,8 +149,8 @@ fn expect_built(
     let mut reader = MemorySource::by_steps(lines, size);
     let mut writer = MemorySink::new(alloc);
     let built = build_run(alloc, limits()?, &mut reader, &mut writer);
-    assert_eq!(rt; built, Ok(want.0), "by {size}");
-    assert_eq!(rt; writer.bytes(), want.1.as_slice(), "by {size}");
+    same(rt, &built, &Ok(want.0), &size);
+    same(rt, &writer.bytes(), &want.1.as_slice(), &size);
     Ok(())
 }
 

@@ -1,5 +1,5 @@
 //! Tests of the words of command lines: which settings they give, and which are refused.
-use crate::samples::words;
+use super::samples::{same, words};
 use std::alloc::Global;
 use std::process::Abort;
 use std::test::Fail;
@@ -45,7 +45,7 @@ fn reads_the_words(rt: HostRuntime) -> Result<(), Fail> {
         let (line, want) = row.split_once(" = ").ok_or("no row")?;
         let chosen = of(rt.alloc(), line)?.ok().ok_or("refused")?;
         let told = told(rt.alloc(), &chosen)?;
-        assert_eq!(rt; told.as_str(), want, "at {line}");
+        same(&rt, &told.as_str(), &want, &line);
     }
     Ok(())
 }
@@ -81,7 +81,7 @@ help";
 fn refuses_other_words(rt: HostRuntime) -> Result<(), Fail> {
     for line in REFUSED.lines() {
         let fault = of(rt.alloc(), line)?.err();
-        assert_eq!(rt; fault, Some(UsageFault::Words), "at {line}");
+        same(&rt, &fault, &Some(UsageFault::Words), &line);
     }
     Ok(())
 }

@@ -1,5 +1,6 @@
 //! Tests of the lines of messages and of endings, and of faults in words. Other lines, and those that are refused, are
 //! stored cases of the program.
+use super::frames::same;
 use std::alloc::Global;
 use std::fmt::Display;
 use std::process::Abort;
@@ -25,14 +26,15 @@ fn put_again(lines: &mut Vec<u8>, alloc: Global, line: &[u8]) -> Result<(), Fail
 fn line_behind_another(rt: HostRuntime) -> Result<(), Fail> {
     let mut lines = Vec::from_slice(rt.alloc(), b"one\n")?;
     put_again(&mut lines, rt.alloc(), b"C 1 sync path=\"/a\"")?;
-    assert_eq!(rt; lines.as_slice(), b"one\nC 1 sync path=\"/a\"".as_slice());
+    let want = b"one\nC 1 sync path=\"/a\"";
+    same(&rt, &lines.as_slice(), &want.as_slice());
     Ok(())
 }
 
 /// The value is shown in these words.
 fn is_shown<T: Display>(rt: &impl Abort, alloc: Global, value: &T, want: &str) -> Result<(), Fail> {
     let told = format!(in alloc; "{value}")?;
-    assert_eq!(rt; told.as_str(), want);
+    same(rt, &told.as_str(), &want);
     Ok(())
 }
 
@@ -58,14 +60,14 @@ fn faults_in_words(rt: HostRuntime) -> Result<(), Fail> {
         reason: LineReason::Word,
     };
     is_shown(&rt, rt.alloc(), &word, "column 28: Word")?;
-    assert_eq!(rt; line_reason_name(&LineReason::Word), "Word");
+    same(&rt, &line_reason_name(&LineReason::Word), &"Word");
     Ok(())
 }
 
 /// The ending has this line.
 fn ends(rt: &impl Abort, alloc: Global, ending: &Ending, line: &str) -> Result<(), Fail> {
     let told = ending_line(alloc, ending)?;
-    assert_eq!(rt; told.as_slice(), line.as_bytes());
+    same(rt, &told.as_slice(), &line.as_bytes());
     Ok(())
 }
 

@@ -1,10 +1,11 @@
 //! Tests of client payloads: a table of payloads, each read, judged in each way, and written again.
+ghost use Rattle.std.specs.Prelude.{IfOk};
 ghost use Rattle.zk_asks.specs.Frames.{MaySend};
 
-use crate::digits::hex;
-use crate::values::{fault_told, parsed};
+use super::shared::{hex, is_all, keeps};
+use super::values::{fault_told, is_told, named};
+use super::waiting::Batch;
 use std::alloc::Global;
-use std::process::Abort;
 use std::test::Fail;
 use zk_asks::{
     Alone, Asked, ClientFrame, allowed, ask_laws, asked_laws, first_laws, form_laws, judge_ask,
@@ -72,18 +73,13 @@ fn scanned(kind: &str, payload: &[u8]) -> Option<ItemFault> {
 fn is_written(alloc: Global, frame: &ClientFrame, payload: &[u8]) -> Result<(), Fail>
     requires { MaySend frame.now }
 {
-    let Some(most) = frame.size_within(i32::MAX as u32) else {
+    let Some(size) = frame.size_within(i32::MAX as u32) else {
         return Err("no size".into());
     };
-    if most as usize != payload.len() || frame.size_within(most.saturating_sub(1)).is_some() {
-        return Err("another size".into());
-    }
+    let less = frame.size_within(size.saturating_sub(1));
     let mut out = Vec::new(alloc);
     write_client(frame, &mut out)?;
-    if out.as_slice() != payload {
-        return Err("written otherwise".into());
-    }
-    Ok(())
+    is_all(&out, (size, less), payload)
 }
 
 /// The frame in words, once it is written again as its payload.
@@ -94,59 +90,44 @@ fn frame_told(alloc: Global, frame: &ClientFrame, payload: &[u8]) -> Result<Stri
     Ok(format!(in alloc; "{frame:?}")?)
 }
 
-/// The first payload in words, or what is wrong with it.
-fn first_told(alloc: Global, payload: &[u8]) -> Result<String, Fail> {
-    match read_first(alloc, payload) {
-        Ok(frame) => frame_told(alloc, &frame, payload),
-        Err(fault) => Ok(fault_told(alloc, &fault)?),
-    }
-}
-
-/// A later payload in words, or what is wrong with it.
-fn ask_told(alloc: Global, profile: Profile, payload: &[u8]) -> Result<String, Fail> {
-    match read_ask(alloc, profile, payload) {
-        Ok(frame) => frame_told(alloc, &frame, payload),
-        Err(fault) => Ok(fault_told(alloc, &fault)?),
-    }
-}
-
-fn told(alloc: Global, kind: &str, payload: &[u8]) -> Result<String, Fail> {
+/// What the payload is read as: as the first one, or under a profile.
+fn read(alloc: Global, kind: &str, payload: &[u8]) -> Result<ClientFrame, ItemFault>
+    ensures { IfOk result MaySend }
+{
     match kind {
-        "first" => first_told(alloc, payload),
-        "34" => ask_told(alloc, Profile::V34, payload),
-        _ => ask_told(alloc, Profile::V35, payload),
+        "first" => read_first(alloc, payload),
+        "34" => read_ask(alloc, Profile::V34, payload),
+        _ => read_ask(alloc, Profile::V35, payload),
     }
 }
 
-/// The payload is what the row says, and scanned it is refused for the same.
-fn judged(
-    rt: &impl Abort,
+/// What was read of the payload in words, or what is wrong with it.
+fn answer_told(
     alloc: Global,
-    kind: &str,
+    answer: &Result<ClientFrame, ItemFault>,
     payload: &[u8],
-    want: &str,
-) -> Result<(), Fail> {
-    let told = told(alloc, kind, payload)?;
-    assert_eq!(rt; told.as_str(), want);
-    if let Some(fault) = scanned(kind, payload) {
-        let told = fault_told(alloc, &fault)?;
-        assert_eq!(rt; told.as_str(), want, "where it lies");
+) -> Result<String, Fail>
+    requires { IfOk answer.now MaySend }
+{
+    match answer {
+        Ok(frame) => frame_told(alloc, frame, payload),
+        Err(fault) => Ok(fault_told(alloc, fault)?),
     }
-    Ok(())
 }
 
-/// A row is judged as it says.
-fn row_judged(rt: &impl Abort, alloc: Global, row: &str) -> Result<(), Fail> {
-    let (kind, payload, want) = parsed(alloc, row)?;
-    judged(rt, alloc, kind, &payload, want)
+/// The payload of a row in words; scanned it is refused for the same.
+fn told(alloc: Global, asked: &str) -> Result<String, Fail> {
+    let (kind, payload) = named(alloc, asked)?;
+    let told = answer_told(alloc, &read(alloc, kind, &payload), &payload)?;
+    if !is_told(alloc, &scanned(kind, &payload), &told)? {
+        return Err("scanned otherwise".into());
+    }
+    Ok(told)
 }
 
 #[test]
 fn payloads(rt: HostRuntime) -> Result<(), Fail> {
-    for row in PAYLOADS.lines() {
-        row_judged(&rt, rt.alloc(), row)?;
-    }
-    Ok(())
+    keeps(&rt, rt.alloc(), PAYLOADS, told)
 }
 
 /// The xid of pings is a ping's, and the xid of events is no request's.
@@ -180,6 +161,7 @@ fn outlines(rt: HostRuntime) -> Result<(), Fail> {
     Ok(())
 }
 
+/// What a type says of a request, by the bound alone: one of the library, or one from outside of it.
 fn part_of<T: Asked>(asked: &T) -> (Op, u32, Option<PartOp>) {
     (asked.op(), asked.parts(), asked.part(0))
 }
@@ -187,6 +169,8 @@ fn part_of<T: Asked>(asked: &T) -> (Op, u32, Option<PartOp>) {
 #[test]
 fn what_was_asked(rt: HostRuntime) {
     assert!(rt; part_of(&Alone { op: Op::Sync }) == (Op::Sync, 0, None));
+    let delete = Some(PartOp::Delete);
+    assert!(rt; part_of(&Batch {}) == (Op::Multi, 2, delete));
 }
 
 /// What is kept of a scanned request: its xid, its operation, and its parts.
@@ -215,6 +199,7 @@ fn what_was_scanned(rt: HostRuntime) {
 #[test]
 fn laws(_rt: HostRuntime) {
     asked_laws::<Alone>();
+    asked_laws::<Batch>();
     first_laws();
     ask_laws();
     form_laws();

@@ -1,6 +1,6 @@
 //! Tests of `Awaited`, as of `Waiting`: lanes, order, parts and weight, of requests whose operations allow their xids.
 
-use crate::waiting::Batch;
+use super::waiting::Batch;
 use std::test::Fail;
 use zk_asks::{Alone, Asked, allowed};
 use zk_records::{Op, PartOp};
@@ -26,22 +26,15 @@ fn put_batch(waiting: &mut Awaited, xid: i32) -> Option<Result<(), PutFault>> {
 
 /// The lane's oldest request: its xid, its operation and the operations of its first three parts.
 fn oldest(waiting: &Awaited, lane: Lane) -> Option<(i32, Op, [Option<PartOp>; 3])> {
-    match waiting.oldest(lane) {
-        Some(slot) => {
-            let parts = [slot.part(0), slot.part(1), slot.part(2)];
-            Some((slot.xid(), slot.op(), parts))
-        }
-        None => None,
-    }
+    let slot = waiting.oldest(lane)?;
+    let parts = [slot.part(0), slot.part(1), slot.part(2)];
+    Some((slot.xid(), slot.op(), parts))
 }
 
 /// Drops the lane's oldest request, and returns its xid.
 #[tactic(auto, using(std::proofs::lemmas::Option::slice_get_within))]
 fn take_oldest(waiting: &mut Awaited, lane: Lane) -> Option<i32> {
-    let xid = match waiting.oldest(lane) {
-        Some(slot) => slot.xid(),
-        None => return None,
-    };
+    let xid = waiting.oldest(lane)?.xid();
     waiting.drop_oldest(lane);
     Some(xid)
 }

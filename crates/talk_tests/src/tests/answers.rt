@@ -1,6 +1,6 @@
 //! Tests of which of the client's frames a reply answers, by `Talk::answered`.
-use crate::calls::told;
-use crate::frames::{Has, keeps, usual};
+use super::calls::told;
+use super::frames::{Has, keeps, usual};
 use std::alloc::Global;
 use std::process::Abort;
 use std::test::Fail;
@@ -49,8 +49,8 @@ fn answered(alloc: Global, talk: &mut Talk, asked: &str) -> Result<String, Fail>
 fn answers_anew(rt: &impl Abort, alloc: Global, talk: &mut Talk) -> Result<(), Fail> {
     for _ in 0..2 {
         assert!(rt; talk.answered().is_none());
-        keeps(rt, ANSWERED, Has::All, |row| answered(alloc, talk, row))?;
-        keeps(rt, REFUSED, Has::All, |row| answered(alloc, talk, row))?;
+        keeps(rt, alloc, talk, ANSWERED, Has::All, answered)?;
+        keeps(rt, alloc, talk, REFUSED, Has::All, answered)?;
         talk.renew();
     }
     Ok(())
@@ -58,8 +58,5 @@ fn answers_anew(rt: &impl Abort, alloc: Global, talk: &mut Talk) -> Result<(), F
 
 #[test]
 fn replies_answer_frames(rt: HostRuntime) -> Result<(), Fail> {
-    let mut talk = Talk::new(rt.alloc(), usual()?)?;
-    let answered = answers_anew(&rt, rt.alloc(), &mut talk);
-    drop(talk);
-    answered
+    answers_anew(&rt, rt.alloc(), &mut Talk::new(rt.alloc(), usual()?)?)
 }

@@ -1,6 +1,6 @@
 //! Tests of runs of each command over a standard input, output and error that fail.
-use crate::memory::{MemorySink, MemorySource};
-use crate::samples::{MESSAGES, MIGRATED, RECORDING, WHOLE, hex, run, words};
+use super::memory::{MemorySink, MemorySource};
+use super::samples::{MESSAGES, MIGRATED, RECORDING, WHOLE, hex, run, same, words};
 use std::alloc::Global;
 use std::process::Abort;
 use std::test::Fail;
@@ -22,8 +22,8 @@ fn expect_single_bytes(rt: &impl Abort, alloc: Global, of: &Run<'_>) -> Result<(
     let mut reader = MemorySource::by_steps(of.input, 1);
     let mut writer = MemorySink::by_steps(alloc, 1);
     let (status, says) = run(alloc, of.line, &mut reader, &mut writer)?;
-    assert_eq!(rt; writer.bytes(), of.output, "of {}", of.line);
-    assert_eq!(rt; (status, says.as_str()), (of.status, ""), "of {}", of.line);
+    same(rt, &writer.bytes(), &of.output, &of.line);
+    same(rt, &(status, says.as_str()), &(of.status, ""), &of.line);
     Ok(())
 }
 
@@ -32,15 +32,11 @@ fn expect_read_failed(rt: &impl Abort, alloc: Global, of: &Run<'_>, call: u64) -
     let mut reader = MemorySource::failing_at(of.input, call);
     let mut writer = MemorySink::by_steps(alloc, 1);
     let (status, says) = run(alloc, of.line, &mut reader, &mut writer)?;
-    let want = (3, "zkdump: read failed\n");
-    assert_eq!(rt; (status, says.as_str()), want, "of {} at {call}", of.line);
-    assert!(rt;
-        of.output.starts_with(writer.bytes()),
-        "of {} at {call}",
-        of.line
-    );
+    let (want, at) = ((3, "zkdump: read failed\n"), (of.line, call));
+    same(rt, &(status, says.as_str()), &want, &at);
+    same(rt, &of.output.starts_with(writer.bytes()), &true, &at);
     if call > of.input.len() as u64 {
-        assert_eq!(rt; writer.bytes().len(), of.before_the_end, "of {}", of.line);
+        same(rt, &writer.bytes().len(), &of.before_the_end, &at);
     }
     Ok(())
 }
@@ -60,14 +56,10 @@ fn expect_write_failed(
         MemorySink::failing_at(alloc, call)
     };
     let (status, says) = run(alloc, of.line, &mut reader, &mut writer)?;
-    let want = (3, "zkdump: write failed\n");
-    assert_eq!(rt; (status, says.as_str()), want, "of {} at {call}", of.line);
-    assert_eq!(rt; writer.bytes().len(), before, "of {} at {call}", of.line);
-    assert!(rt;
-        of.output.starts_with(writer.bytes()),
-        "of {} at {call}",
-        of.line
-    );
+    let (want, at) = ((3, "zkdump: write failed\n"), (of.line, call));
+    same(rt, &(status, says.as_str()), &want, &at);
+    same(rt, &writer.bytes().len(), &before, &at);
+    same(rt, &of.output.starts_with(writer.bytes()), &true, &at);
     Ok(())
 }
 
@@ -142,8 +134,8 @@ fn fault_is_not_told(rt: HostRuntime) -> Result<(), Fail> {
         let mut faults = MemorySink::failing_at(rt.alloc(), 2);
         let words = words(rt.alloc(), line)?;
         let got = run_words(rt.alloc(), words, &mut reader, &mut writer, &mut faults);
-        assert_eq!(rt; (got, writer.bytes()), (*status, *out), "of {line}");
-        assert_eq!(rt; faults.bytes().len(), 1, "of {line}");
+        same(&rt, &(got, writer.bytes()), &(*status, *out), line);
+        same(&rt, &faults.bytes().len(), &1, line);
     }
     Ok(())
 }
@@ -184,8 +176,8 @@ fn no_read_behind_what_decides(rt: HostRuntime) -> Result<(), Fail> {
         let mut reader = MemorySource::failing_at(input, input.len() as u64 + 1);
         let mut writer = MemorySink::new(rt.alloc());
         let (status, says) = run(rt.alloc(), line, &mut reader, &mut writer)?;
-        assert_eq!(rt; (status, says.as_str()), (1, *wanted), "of {line}");
-        assert_eq!(rt; writer.bytes(), *output, "of {line}");
+        same(&rt, &(status, says.as_str()), &(1, *wanted), line);
+        same(&rt, &writer.bytes(), output, line);
     }
     Ok(())
 }

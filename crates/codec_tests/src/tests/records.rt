@@ -1,4 +1,5 @@
 //! Tests of the tables of operations, parts, errors, events and profiles.
+use super::shared::{same, same_of};
 use std::process::Abort;
 use std::test::Fail;
 use zk_records::{
@@ -56,8 +57,8 @@ fn operations(rt: HostRuntime) -> Result<(), Fail> {
             15 => None,
             _ => want,
         };
-        assert_eq!(rt; op_told(Profile::V35, number), want, "of {row}");
-        assert_eq!(rt; op_told(Profile::V34, number), older, "of {row}");
+        same_of(&rt, &op_told(Profile::V35, number), &want, row);
+        same_of(&rt, &op_told(Profile::V34, number), &older, row);
     }
     Ok(())
 }
@@ -84,7 +85,7 @@ fn part_told(number: i32) -> Option<(i32, &'static str)> {
 fn operations_of_parts(rt: HostRuntime) -> Result<(), Fail> {
     for row in PARTS.lines() {
         let (number, want) = parsed(row)?;
-        assert_eq!(rt; part_told(number), want, "of {row}");
+        same_of(&rt, &part_told(number), &want, row);
     }
     Ok(())
 }
@@ -139,7 +140,7 @@ fn names(rt: HostRuntime) -> Result<(), Fail> {
     for row in NAMES.lines() {
         let (kind, rest) = row.split_once(' ').ok_or("no row")?;
         let (digits, name) = rest.split_once(' ').ok_or("no number")?;
-        assert_eq!(rt; name_told(kind, digits.parse()?), name, "of {row}");
+        same_of(&rt, &name_told(kind, digits.parse()?), &name, row);
     }
     Ok(())
 }
@@ -148,10 +149,10 @@ fn names(rt: HostRuntime) -> Result<(), Fail> {
 fn profiles(rt: HostRuntime) {
     for (number, profile) in [(34, Profile::V34), (35, Profile::V35)] {
         let told = (Profile::of_number(number), profile.number());
-        assert_eq!(rt; told, (Some(profile), number));
+        same(&rt, &told, &(Some(profile), number));
     }
     for number in [0, 3, 33, 36, 340, u32::MAX] {
-        assert_eq!(rt; Profile::of_number(number), None);
+        same(&rt, &Profile::of_number(number), &None);
     }
 }
 

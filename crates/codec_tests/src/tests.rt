@@ -1,0 +1,12 @@
+//! The tests, and what they share.
+
+mod answers;
+mod asks;
+mod awaited;
+mod frames;
+mod jute;
+mod records;
+mod samples;
+mod shared;
+mod values;
+mod waiting;

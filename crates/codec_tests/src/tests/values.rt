@@ -1,0 +1,119 @@
+//! Tests of values of jute and of records: each is read, shown in words, and written again.
+use super::samples::{FLAGGED, VALUES, VECTORS};
+use super::shared::{hex, is_all, keeps};
+use std::alloc::{AllocError, Global};
+use std::fmt::Debug;
+use std::test::Fail;
+use zk_jute::{Blob, ItemFault, List, Spell, Text, Wire, laws, read_flagged, reason_name};
+use zk_records::{
+    Acl, AclBody, AuthAsk, CheckAsk, ChildrenBody, ConnectRequest, ConnectResponse, CreateAsk,
+    CreateBody, DataBody, DeleteAsk, Id, MultiHeader, PathAsk, ReplyHeader, RequestHeader,
+    SetAclAsk, SetDataAsk, SetWatchesAsk, Stat, WatchAsk, WatcherEvent,
+};
+
+/// The fault in words.
+pub(crate) fn fault_told(alloc: Global, fault: &ItemFault) -> Result<String, AllocError> {
+    format!(in alloc; "{} at {}", reason_name(&fault.reason), fault.place)
+}
+
+/// The words are those of the fault, if there is one.
+pub(crate) fn is_told(
+    alloc: Global,
+    fault: &Option<ItemFault>,
+    words: &str,
+) -> Result<bool, AllocError> {
+    match fault {
+        Some(fault) => Ok(fault_told(alloc, fault)?.as_str() == words),
+        None => Ok(true),
+    }
+}
+
+/// The value is written as these bytes, and needs them all.
+fn is_written<T: Spell>(alloc: Global, value: &T, bytes: &[u8]) -> Result<(), Fail> {
+    let Some(size) = value.size_within(i32::MAX as u32) else {
+        return Err("no size".into());
+    };
+    let less = value.size_within(size.saturating_sub(1));
+    let mut out = Vec::new(alloc);
+    value.write(&mut out)?;
+    is_all(&out, (size, less), bytes)
+}
+
+/// The value in words, once it is written again as its bytes.
+fn again<T: Spell + Debug>(alloc: Global, value: &T, bytes: &[u8]) -> Result<String, Fail> {
+    is_written(alloc, value, bytes)?;
+    Ok(format!(in alloc; "{value:?}")?)
+}
+
+/// The value of the bytes, which is written again as they are, or what is wrong with them, in words.
+fn told<T: Wire + Debug>(alloc: Global, bytes: &[u8]) -> Result<String, Fail> {
+    match &T::read(alloc, bytes, 0) {
+        Ok((value, _end)) => again(alloc, value, bytes),
+        Err(fault) => Ok(fault_told(alloc, fault)?),
+    }
+}
+
+/// The same of a value of the type of this name: a list of texts, or one of these types.
+macro_rules! told_of {
+    ($name:expr, $alloc:expr, $bytes:expr, $($type:ident)*) => {
+        match $name {
+            "List" => told::<List<Text>>($alloc, $bytes),
+            $(stringify!($type) => told::<$type>($alloc, $bytes),)*
+            _ => Err("no such type".into()),
+        }
+    };
+}
+
+fn value_told(alloc: Global, name: &str, bytes: &[u8]) -> Result<String, Fail> {
+    told_of!(name, alloc, bytes,
+        i32 i64 bool Text Blob Id Acl Stat RequestHeader ReplyHeader MultiHeader CreateBody DataBody AclBody
+        ChildrenBody WatcherEvent ConnectResponse ConnectRequest WatchAsk PathAsk AuthAsk SetWatchesAsk CreateAsk
+        DeleteAsk SetDataAsk SetAclAsk CheckAsk)
+}
+
+/// The value and the boolean of the bytes, or what is wrong with them, in words.
+fn flagged_told<T: Wire + Debug>(alloc: Global, bytes: &[u8]) -> Result<String, Fail> {
+    match &read_flagged::<T>(alloc, bytes) {
+        Ok(read) => again(alloc, read, bytes),
+        Err(fault) => Ok(fault_told(alloc, fault)?),
+    }
+}
+
+/// The name and the bytes of what a row asks for.
+pub(crate) fn named(alloc: Global, asked: &str) -> Result<(&str, Vec<u8>), Fail> {
+    let (name, digits) = asked.split_once(' ').ok_or("no name")?;
+    Ok((name, hex(alloc, digits)?))
+}
+
+fn row_told(alloc: Global, asked: &str) -> Result<String, Fail> {
+    let (name, bytes) = named(alloc, asked)?;
+    value_told(alloc, name, &bytes)
+}
+
+#[test]
+fn values(rt: HostRuntime) -> Result<(), Fail> {
+    keeps(&rt, rt.alloc(), VALUES, row_told)
+}
+
+#[test]
+fn vectors(rt: HostRuntime) -> Result<(), Fail> {
+    keeps(&rt, rt.alloc(), VECTORS, row_told)
+}
+
+fn flagged_row_told(alloc: Global, asked: &str) -> Result<String, Fail> {
+    let (name, bytes) = named(alloc, asked)?;
+    match name {
+        "Text" => flagged_told::<Text>(alloc, &bytes),
+        _ => flagged_told::<ConnectRequest>(alloc, &bytes),
+    }
+}
+
+#[test]
+fn flagged(rt: HostRuntime) -> Result<(), Fail> {
+    keeps(&rt, rt.alloc(), FLAGGED, flagged_row_told)
+}
+
+#[test]
+fn law(_rt: HostRuntime) {
+    laws::<Text>();
+}
