@@ -157,7 +157,7 @@ def compare_parts():
 
 def compare_bodies():
     """The layouts of which crates/talk_tests/make_bodies.py has written bodies; the results of multis have none."""
-    name = "crates/talk_tests/src/earliest/bodies.rt"
+    name = "crates/talk_tests/src/tests/earliest/bodies.rt"
     text = (TOP / name).read_text()
     yield from (f"{name}: no bodies of {what}(Op::{each.variant})" for each in source.operations()
                 for what in ("Asked", "Answered") if f"Layout::{what}(Op::{each.variant})," not in text
