@@ -2,7 +2,8 @@
 ghost use Rattle.std.specs.Prelude.{◌≡◌, true, IfSome, IfNone, MatchBool};
 ghost use Rattle.zk_frames.specs.Framing.{IsFrame};
 ghost use Rattle.zk_through.specs.Turns.{IsEarlier, matched_after};
-ghost use Rattle.zk_through.specs.Runs.{TellsReply, IsHeader};
+ghost use Rattle.zk_through.specs.LeftOut.{xid_of};
+ghost use Rattle.zk_through.specs.Runs.{IsAhead, IsHeader};
 
 use crate::ahead::header;
 use crate::turns::{Turns, has_matched};
@@ -33,7 +34,7 @@ pub fn unseen(
     ahead: Option<i32>,
 ) -> Option<(i32, i64, i32)>
     requires whole { IsFrame server.now.limit server.now.held }
-    requires ahead { TellsReply server.now ahead }
+    requires ahead { IfSome ahead (λ xid. IsAhead 16 server.now (λ q. xid ≡ xid_of q)) }
     ensures late { IfSome result (λ head. late ≡ true) }
     ensures some { IfSome result (λ head. IsEarlier matched.old turns.now ahead × IsHeader server.now head) }
     ensures none { IfNone result (late ≡ true → IsEarlier matched.old turns.now ahead → ⊥) }
