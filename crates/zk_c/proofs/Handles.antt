@@ -14,7 +14,7 @@ use Rattle.zk_c.specs.Saying.{TellsSay, TellsPayload}
 use Rattle.zk_c.specs.declared.payload.PayloadAnswer.{PayloadAnswer}
 use Rattle.zk_talk.specs.declared.message.Side.TheVariants.{Client, Server}
 use Rattle.zk_through.specs.Runs.{ThroughState}
-use Rattle.zk_c.specs.Passage.{PassageState, newest_on}
+use Rattle.zk_c.specs.Passage.{newest_on}
 
 pub same_value : {A : Type 0} {x y : A} → Some x ≡ Some y → x ≡ y
 same_value {x = x} e = ap (λ o. unwrap_or o x) e

@@ -14,7 +14,7 @@ use Rattle.zk_listings.specs.Outcome.{HasGrownIn}
 use Rattle.zk_listings.specs.Running.{HasBegunLines, HasFoundBy, HasReached}
 use Rattle.zk_listings.proofs.Bytes.{Consumes-none, Consumes-then}
 use Rattle.zk_listings.proofs.Feeding.{grown-more, grown-whole, told-more}
-use Rattle.zk_listings.proofs.Found.{found-decided, running}
+use Rattle.zk_listings.proofs.Found.{found-decided, reads, running}
 use Rattle.zk_listings.proofs.Gathering.{good-here-but}
 use Rattle.zk_listings.proofs.Opened.{opens-finished, opens-later, opens-whole}
 
@@ -37,6 +37,11 @@ opens-reached : (g : SideBytes) (limits : Limits) (x : List ℕ) (messages : Lis
 opens-reached g limits x messages p None size i = opens-whole limits x messages i.recording i.at.spells (good-here-but g limits x messages p i size)
 opens-reached g limits x messages p (Some summary) size i = opens-finished limits x messages p.talk summary i.finishes
 
+begun-by : (limits : Limits) (listing : Listing) (unread after contents later : Option (List ℕ)) (x : List ℕ) (messages : List Message) → Consumes unread after x → Opens limits x messages →
+    HasGrownIn contents later (text_of listing messages) → HasBegunLines limits listing unread after contents later
+begun-by limits listing unread after contents later x messages p o written =
+    record { messages = messages; bytes = x; opens = o; reads = reads unread after x o.recording p o.spells; written = written }
+
 -- it isn't
 module _ (g : SideBytes) (limits : Limits) (listing : Listing) (p : Progress) (unread unread_now contents contents_now : Option (List ℕ)) (most : ℕ)
     (r : HasRead g limits listing p None unread unread_now contents contents_now most) (small : most + 65536 < 2 ^ 62) where
@@ -58,13 +63,9 @@ module _ (g : SideBytes) (limits : Limits) (listing : Listing) (p : Progress) (u
 
   -- more bytes were read, and none of them counts
   pub begun-more : (after : Option (List ℕ)) (more : List ℕ) → Consumes unread_now after more → HasBegunLines limits listing unread after contents contents_now
-  begun-more after more consumed = record {
-    messages = r.messages;
-    bytes = r.bytes ++ more;
-    consumed = Consumes-then unread unread_now after r.bytes more r.consumed consumed;
-    opens = opens-but more;
-    written = grown-whole contents contents_now _ r.written;
-  }
+  begun-more after more consumed =
+      begun-by limits listing unread after contents contents_now (r.bytes ++ more) r.messages (Consumes-then unread unread_now after r.bytes more r.consumed consumed) (opens-but more)
+      (grown-whole contents contents_now _ r.written)
 
   pub begun-but : HasBegunLines limits listing unread unread_now contents contents_now
   begun-but = begun-more unread_now [] (Consumes-none unread_now)
@@ -80,13 +81,10 @@ module _ (g : SideBytes) (limits : Limits) (listing : Listing) (p : Progress) (u
 
     -- a front of its lines was written
     pub begun-further : HasGrownIn contents_now later slice → HasBegunLines limits listing unread after contents later
-    begun-further grown = record {
-      messages = r.messages ++ come.0;
-      bytes = r.bytes ++ bytes;
-      consumed = all-consumed;
-      opens = opens-reached now limits (r.bytes ++ bytes) (r.messages ++ come.0) new found (omega (arith, small, r.size, short, length-append r.bytes bytes)) come.1;
-      written = grown-more listing contents contents_now later r.messages come.0 slice lines_now lines is come.2 empty r.written grown;
-    }
+    begun-further grown =
+        begun-by limits listing unread after contents later (r.bytes ++ bytes) (r.messages ++ come.0) all-consumed
+        (opens-reached now limits (r.bytes ++ bytes) (r.messages ++ come.0) new found (omega (arith, small, r.size, short, length-append r.bytes bytes)) come.1)
+        (grown-more listing contents contents_now later r.messages come.0 slice lines_now lines is come.2 empty r.written grown)
 
     pub read-more : (limit : ℕ) → most + 65536 ≤ limit → Appends contents_now later slice → HasRead now limits listing new found unread after contents later limit
     read-more limit less told = record {

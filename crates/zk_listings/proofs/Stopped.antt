@@ -13,7 +13,7 @@ use Rattle.zk_listings.specs.Lines.{text_of, last_line}
 use Rattle.zk_listings.specs.Outcome.{IsOutcome, IsFound, HasGrownIn}
 use Rattle.zk_listings.specs.Running.{HasBegunLines, HasFoundBy, HasStopped, in_messages, in_last_line}
 use Rattle.zk_listings.proofs.Feeding.{text_of-append}
-use Rattle.zk_listings.proofs.Found.{grown-front, reads}
+use Rattle.zk_listings.proofs.Found.{grown-front}
 use Rattle.zk_listings.proofs.Outcomes.{outcome-first}
 
 -- a front of a text is a front of whatever begins with it
@@ -29,7 +29,7 @@ module _ (limits : Limits) (listing : Listing) (unread unread_now contents conte
   stopped-in_messages b = record {
     bytes = b.bytes;
     recording = b.opens.recording;
-    reads = reads unread unread_now b.bytes b.opens.recording b.consumed b.opens.spells;
+    reads = b.reads;
     fronts = fronts;
     written = in_messages b.messages b.opens.front b.opens.rest b.opens.splits b.opens.good b.written;
   }

@@ -1,6 +1,6 @@
 -- What a run has read and written when it returns.
 use Rattle.std.specs.Prelude.{◌≡◌, ℕ, ◌+◌, ◌^◌, ◌<◌, ◌≤◌, ◌⊎◌, List, ◌++◌, Bool, true, false, Option, Result, IfOk, IsErrOf}
-use Rattle.std.specs.Io.KnownBytes.{IsAtEnd, Appends, Consumes}
+use Rattle.std.specs.Io.KnownBytes.{IsAtEnd, Appends}
 use Rattle.zk_talk.specs.declared.limits.Limits.{Limits}
 use Rattle.zk_talk.specs.Held.{Message}
 use Rattle.zk_talk.specs.History.{History}
@@ -73,8 +73,8 @@ pub record HasReached (limits : Limits) (listing : Listing) (unread unread_now c
 pub record HasBegunLines (limits : Limits) (listing : Listing) (unread unread_now contents contents_now : Option (List ℕ)) : Type 0 where
   pub messages : List Message
   pub bytes : List ℕ
-  pub consumed : Consumes unread unread_now bytes
   pub opens : Opens limits bytes messages
+  pub reads : Reads unread unread_now bytes opens.recording
   pub written : HasGrownIn contents contents_now (text_of listing messages)
 
 -- a front was written of the lines of the first messages of a recording, or of its whole listing

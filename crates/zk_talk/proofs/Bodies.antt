@@ -5,7 +5,7 @@ use Rattle.std.proofs.lemmas.List.{length-drop, drop_at, take_rest}
 use Rattle.zk_jute.specs.Item.{Int, AnInt, bytes_of, HaveBytes}
 use Rattle.zk_jute.specs.Layout.{Layout, End, One}
 use Rattle.zk_jute.specs.Faults.{Opens}
-use Rattle.zk_jute.specs.Reading.{Fails, Tells, end_of, items_at}
+use Rattle.zk_jute.specs.Reading.{Tells}
 use Rattle.zk_jute.specs.Reading as reading
 use Rattle.zk_jute.proofs.Steps.{IsBytes}
 use Rattle.zk_jute.proofs.Fields.{int_gives}

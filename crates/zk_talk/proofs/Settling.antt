@@ -15,7 +15,7 @@ use Rattle.zk_asks.specs.Fronts.{IsOutlined, IsMultiOf, asking_of}
 use Rattle.zk_asks.specs.Parts.{op_of_part}
 use Rattle.zk_asks.proofs.Judged.{AsksFor, a_multi, judged_xid, outline_is}
 use Rattle.zk_asks.specs.Rows.{op_of_ask}
-use Rattle.zk_asks.specs.Frames.{IsFirst, ops_of_ask, others_have_none}
+use Rattle.zk_asks.specs.Frames.{IsFirst, ops_of_ask}
 use Rattle.zk_asks.specs.Frames as asks
 use Rattle.zk_answers.specs.Held.{Outcome, Reply, ServerFrame}
 use Rattle.zk_answers.specs.declared.frame.OutcomeOf.TheVariants as outcome

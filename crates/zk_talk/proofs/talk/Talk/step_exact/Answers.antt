@@ -1,4 +1,4 @@
-use Rattle.std.proofs.Common.{◌≡◌, ◌≢◌, Some, None, sym, ◌∙◌, ap, subst}
+use Rattle.std.proofs.Common.{◌≢◌, sym, ◌∙◌, ap, subst}
 use Rattle.zk_jute.specs.declared.fault.Reason.TheVariants.{NoMemory}
 use Rattle.zk_talk.specs.declared.message.Fault.{Fault}
 use Rattle.zk_talk.specs.Sound.{IsKnown}
