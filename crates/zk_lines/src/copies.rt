@@ -25,24 +25,13 @@ pub trait Copies: Item + Spell {
         ensures keeps { Keeps out.old.items out.new.items };
 }
 
-/// `read!(value = reading)` binds what was read; where that is an error, the function returns `None`.
-macro_rules! read {
-    ($value:tt = $reading:expr) => {
-        let Ok($value) = $reading else {
-            return None;
-        };
-    };
-}
-
-pub(crate) use read;
-
 /// Reads a field, `word` and then the value, and appends the value's bytes. `None`: undecided.
 #[inline(always)]
 pub fn copy_field<T: Copies>(line: &mut Reader<'_>, word: Word, out: &mut Vec<u8>) -> Option<()>
     ensures copied { OnSome result (Copied (field_at word T.form.at) T.items line.old line.new out.old.items out.new.items) }
     ensures keeps { Keeps out.old.items out.new.items }
 {
-    read!(() = read_word(line, word));
+    read_word(line, word).ok()?;
     T::copy(line, out)
 }
 
@@ -78,35 +67,35 @@ pub fn copy_multi<T: Copies>(line: &mut Reader<'_>, out: &mut Vec<u8>) -> Option
     ensures copied { OnSome result (Copied (multi_at T.form.at) (λ xs. flat_map T.items xs ++ marked end_header) line.old line.new out.old.items out.new.items) }
     ensures keeps { Keeps out.old.items out.new.items }
 {
-    read!(() = read_word(line, Word::Parts));
+    read_word(line, Word::Parts).ok()?;
     copy_series::<T>(line, PARTS, out)?;
     append_header(out, -1, true, -1)
 }
 
 impl Copies for i32 {
     fn copy(line: &mut Reader<'_>, out: &mut Vec<u8>) -> Option<()> {
-        read!(value = line.int());
+        let value = line.int().ok()?;
         append(out, &value)
     }
 }
 
 impl Copies for i64 {
     fn copy(line: &mut Reader<'_>, out: &mut Vec<u8>) -> Option<()> {
-        read!(value = line.long());
+        let value = line.long().ok()?;
         append(out, &value)
     }
 }
 
 impl Copies for bool {
     fn copy(line: &mut Reader<'_>, out: &mut Vec<u8>) -> Option<()> {
-        read!(value = line.bit());
+        let value = line.bit().ok()?;
         append(out, &value)
     }
 }
 
 impl Copies for Option<bool> {
     fn copy(line: &mut Reader<'_>, out: &mut Vec<u8>) -> Option<()> {
-        read!(value = line.read_only());
+        let value = line.read_only().ok()?;
         append(out, &value)
     }
 }
@@ -125,7 +114,7 @@ impl Copies for Blob {
 
 impl Copies for Stat {
     fn copy(line: &mut Reader<'_>, out: &mut Vec<u8>) -> Option<()> {
-        read!(value = Stat::read(line));
+        let value = Stat::read(line).ok()?;
         append(out, &value)
     }
 }

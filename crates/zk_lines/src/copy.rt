@@ -4,7 +4,6 @@ ghost use Rattle.zk_items.specs.Form.{Keeps};
 ghost use Rattle.zk_lines.specs.Copied.{CopiedMessage, IsCopied};
 ghost use Rattle.zk_lines.specs.Lines.{message_at};
 
-use crate::copies::read;
 use crate::copy_answer::copy_server;
 use crate::copy_ask::copy_client;
 use zk_items::Reader;
@@ -26,7 +25,7 @@ fn copy_message(line: &mut Reader<'_>, out: &mut Vec<u8>) -> Option<Kind>
         let kind = copy_client(line, out)?;
         return at_end(line, kind);
     }
-    read!(() = line.literal(b"S "));
+    line.literal(b"S ").ok()?;
     let kind = copy_server(line, out)?;
     at_end(line, kind)
 }

@@ -12,7 +12,7 @@ ghost use Rattle.zk_lines.specs.Lines.{server_at};
 
 use crate::answer::{after_first, event_fields, read_failure};
 use crate::body::copy_body;
-use crate::copies::{append, copy_field, copy_fields, read};
+use crate::copies::{append, copy_field, copy_fields};
 use crate::name::op_named;
 use crate::word::{Word, field_word, read_word, word_bytes};
 use zk_items::{Reader, read_event_code};
@@ -25,7 +25,7 @@ fn copy_outcome(line: &mut Reader<'_>, op: Op, out: &mut Vec<u8>) -> Option<()>
     ensures keeps { Keeps out.old.items out.new.items }
 {
     if line.passes(word_bytes(Word::Err)) {
-        read!(failure = read_failure(line));
+        let failure = read_failure(line).ok()?;
         return append(out, &failure.number());
     }
     append(out, &0_i32)?;
@@ -37,8 +37,8 @@ fn copy_reply(line: &mut Reader<'_>, out: &mut Vec<u8>) -> Option<Op>
     ensures copied { IfSome result (λ op. (c : Copied answers.reply.at reply_items line.old line.new out.old.items out.new.items) × (op_of_reply c.value ≡ op)) }
     ensures keeps { Keeps out.old.items out.new.items }
 {
-    read!(xid = line.int());
-    read!(() = read_word(line, Word::Blank));
+    let xid = line.int().ok()?;
+    read_word(line, Word::Blank).ok()?;
     let op = op_named(line.name())?;
     append(out, &xid)?;
     copy_field::<i64>(line, Word::Zxid, out)?;
@@ -64,8 +64,8 @@ fn copy_event(line: &mut Reader<'_>, out: &mut Vec<u8>) -> Option<()>
     append(out, &-1_i32)?;
     copy_field::<i64>(line, Word::Zxid, out)?;
     append(out, &0_i32)?;
-    read!(() = read_word(line, Word::Kind));
-    read!(kind = read_event_code(line));
+    read_word(line, Word::Kind).ok()?;
+    let kind = read_event_code(line).ok()?;
     append(out, &kind)?;
     event_fields!(copy_fields, line, out);
     Some(())
@@ -77,11 +77,11 @@ pub fn copy_server(line: &mut Reader<'_>, out: &mut Vec<u8>) -> Option<Kind>
     ensures keeps { Keeps out.old.items out.new.items }
 {
     if line.letters() == b"connect".as_slice() {
-        read!(() = line.literal(b"connect"));
+        line.literal(b"connect").ok()?;
         copy_connected(line, out)?;
         Some(Kind::Connected)
     } else if line.letters() == b"event".as_slice() {
-        read!(() = line.literal(b"event"));
+        line.literal(b"event").ok()?;
         copy_event(line, out)?;
         Some(Kind::Event)
     } else {

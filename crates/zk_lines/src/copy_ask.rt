@@ -12,7 +12,7 @@ ghost use Rattle.zk_lines.specs.Asks as asks;
 ghost use Rattle.zk_lines.specs.Lines.{client_at};
 ghost use Rattle.zk_lines.specs.Rows.{row_at};
 
-use crate::copies::{Copies, append, append_header, copy_field, copy_fields, copy_multi, read};
+use crate::copies::{Copies, append, append_header, copy_field, copy_fields, copy_multi};
 use crate::name::{op_named, part_named};
 use crate::word::{Word, field_word, read_word};
 use zk_asks::{Part, ask_rows, part_rows};
@@ -78,8 +78,8 @@ fn copy_request(line: &mut Reader<'_>, out: &mut Vec<u8>) -> Option<()>
     ensures copied { OnSome result (Copied asks.request.at (λ p. frame_items (client.Ask p.0 p.1)) line.old line.new out.old.items out.new.items) }
     ensures keeps { Keeps out.old.items out.new.items }
 {
-    read!(xid = line.int());
-    read!(() = read_word(line, Word::Blank));
+    let xid = line.int().ok()?;
+    read_word(line, Word::Blank).ok()?;
     let op = op_named(line.name())?;
     append(out, &xid)?;
     append(out, &op_number(op))?;
@@ -92,7 +92,7 @@ pub fn copy_client(line: &mut Reader<'_>, out: &mut Vec<u8>) -> Option<Kind>
     ensures keeps { Keeps out.old.items out.new.items }
 {
     if line.letters() == b"connect".as_slice() {
-        read!(() = line.literal(b"connect"));
+        line.literal(b"connect").ok()?;
         copy_connect(line, out)?;
         Some(Kind::Connect)
     } else {

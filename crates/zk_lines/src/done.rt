@@ -10,7 +10,7 @@ ghost use Rattle.zk_lines.specs.declared.done.DoneName.TheVariants.{Fail};
 ghost use Rattle.zk_lines.specs.Answers as answers;
 ghost use Rattle.zk_lines.specs.Rows.{row_at};
 
-use crate::copies::{Copies, append, append_header, copy_field, read};
+use crate::copies::{Copies, append, append_header, copy_field};
 use crate::item::{Item, read_field};
 use crate::name::{done_named, key};
 use crate::put::{Put, put_field};
@@ -153,8 +153,8 @@ fn copy_failed(line: &mut Reader<'_>, out: &mut Vec<u8>) -> Option<()>
     ensures copied { OnSome result (Copied (row_at (answers.done_line_of Fail)) results.done_items line.old line.new out.old.items out.new.items) }
     ensures keeps { Keeps out.old.items out.new.items }
 {
-    read!(() = read_word(line, Word::Err));
-    read!(number = read_error_code(line));
+    read_word(line, Word::Err).ok()?;
+    let number = read_error_code(line).ok()?;
     append_header(out, -1, false, number)?;
     append(out, &number)
 }

@@ -8,7 +8,7 @@ ghost use Rattle.zk_lines.specs.Copied.{CopiedOthers, CopiedSeries};
 ghost use Rattle.zk_lines.specs.Series.{element_at, series_at, full_at, list_of, multi_of, series_spell};
 ghost use Rattle.zk_items.specs.Many.{many_at, with_first};
 
-use crate::copies::{Copies, append, read};
+use crate::copies::{Copies, append};
 use crate::item::Item;
 use crate::put::Put;
 use crate::word::{Word, put_word, read_word};
@@ -87,7 +87,7 @@ fn copy_others<T: Copies>(line: &mut Reader<'_>, signs: Signs, out: &mut Vec<u8>
         if line.passes(&[signs.behind]) {
             return Some(turn + 1);
         }
-        read!(() = line.literal(&[signs.between]));
+        line.literal(&[signs.between]).ok()?;
         T::copy(line, out)?;
     }
     None
@@ -206,7 +206,7 @@ impl<T: Copies> Copies for List<T> {
         if line.passes(b"~") {
             return append(out, &-1_i32);
         }
-        read!(() = line.literal(b"["));
+        line.literal(b"[").ok()?;
         copy_counted::<T>(line, out)
     }
 }

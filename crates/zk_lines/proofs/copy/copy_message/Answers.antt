@@ -4,7 +4,7 @@ use Rattle.zk_items.specs.Form.{word_at}
 use Rattle.zk_talk.specs.declared.message.MessageOf.TheVariants as message
 use Rattle.zk_lines.specs.Copied.{CopiedMessage}
 use Rattle.zk_lines.specs.Lines.{client_at, server_at}
-use Rattle.zk_lines.proofs.Appended.{if_some}
+use Rattle.zk_lines.proofs.Appended.{if_some, ok_is}
 use Rattle.zk_lines.proofs.CopiedLines.{frame_whole, of_client, of_server}
 use Rattle.zk_lines.proofs.copy.copy_message.Goals as goal
 
@@ -21,7 +21,7 @@ pub returns-clause-copied : goal.returns-clause-copied
 returns-clause-copied c =
     let copied = c.in_ok-kind-2.ensures.copied in
     let other = rw c.if-passes.false at c.passes.ensures in
-    let word = ap (word_at (codes "S ")) (sym other.1) ∙ c.in-Ok.ensures.read in
+    let word = ap (word_at (codes "S ")) (sym other.1) ∙ (rw (ok_is c.ok.ensures.value c.in_ok-ok.was) at c.literal.ensures.read) in
     if_some c.at_end-2.result
     (λ k done. subst (λ m. CopiedMessage m k c.args.out.now.items c.copy_server.new.out.items) (sym (of_server c.args.line.now c.literal.new.self other.0 word))
     (frame_whole {at = server_at} message.Server copied.0 (copied.1 ∙ sym done.0) done.1))

@@ -6,7 +6,7 @@ use Rattle.zk_items.specs.Form.{word_at}
 use Rattle.zk_items.specs.Codes.{error_name}
 use Rattle.zk_items.proofs.Codes.{other_code_is}
 use Rattle.zk_items.proofs.Kept.{on_some}
-use Rattle.zk_lines.proofs.Appended.{as_int}
+use Rattle.zk_lines.proofs.Appended.{as_int, ok_is}
 use Rattle.zk_lines.specs.Answers as answers
 use Rattle.zk_lines.specs.Rows.{row_at}
 use Rattle.zk_lines.proofs.CopiedAnswers.{failure_copied, done_copied}
@@ -17,12 +17,14 @@ returns-then-passes-clause-copied c =
     let line = c.args.line.now in
     let old = c.args.out.now.items in
     let new = c.append.new.out.items in
+    let failure = c.in_ok-failure.failure in
+    let read = rw (ok_is c.ok.ensures.value c.in_ok-failure.was) at c.read_failure.ensures in
     let word = ap (λ (w : List ℕ). word_at w line) (sym c.word_bytes.ensures) ∙ rw c.if-passes.true at c.passes.ensures in
     on_some c.append.result
     (λ h. let One : ℤ → Type 0 = λ n. HaveBytes (AnInt n ∷ []) × (new ≡ old ++ bytes_of (AnInt n ∷ [])) in
-    let fit = (other_code_is error_name).sound c.passes.new.self c.in-Ok.failure c.read_failure.new.line c.in-Ok.ensures in
-    let n = as_int One c.in-Ok.failure fit.1.0 (subst (λ (n : ℤ). One (to_z w32 (of_z w32 n))) c.number.ensures.value h) in
-    failure_copied c.args.op line c.passes.new.self c.read_failure.new.line old new c.in-Ok.failure word c.in-Ok.ensures n.0 n.1)
+    let fit = (other_code_is error_name).sound c.passes.new.self failure c.read_failure.new.line read in
+    let n = as_int One failure fit.1.0 (subst (λ (n : ℤ). One (to_z w32 (of_z w32 n))) c.number.ensures.value h) in
+    failure_copied c.args.op line c.passes.new.self c.read_failure.new.line old new failure word read n.0 n.1)
     c.append.ensures.appended
 
 pub returns-clause-copied : goal.returns-clause-copied

@@ -2,7 +2,7 @@ use Rattle.std.proofs.Common.{◌≡◌, ◌∷◌, [], ◌++◌, ℤ, refl, sym
 use Rattle.zk_jute.specs.Item.{AnInt, bytes_of, HaveBytes}
 use Rattle.zk_items.proofs.Kept.{on_some}
 use Rattle.zk_items.proofs.Numbers.{int_is}
-use Rattle.zk_lines.proofs.Appended.{as_int, op_kind}
+use Rattle.zk_lines.proofs.Appended.{as_int, ok_is, op_kind}
 use Rattle.zk_lines.proofs.CopiedAsks.{request_copied}
 use Rattle.zk_lines.proofs.copy_ask.copy_request.Goals as goal
 
@@ -12,13 +12,15 @@ returns-clause-copied c =
     let old = c.args.out.now.items in
     let first = c.append.new.out.items in
     let second = c.append-2.new.out.items in
-    let xid = c.in-Ok.xid in
+    let xid = c.in_ok-xid.xid in
+    let int = rw (ok_is c.ok.ensures.value c.in_ok-xid.was) at c.int.ensures in
+    let blank = rw (ok_is c.ok-2.ensures.value c.in_ok-ok.was) at c.read_word.ensures in
     let op = c.in_ok-op.op in
     let Head : ℤ → Type 0 = λ n. HaveBytes (AnInt n ∷ []) × (first ≡ old ++ bytes_of (AnInt n ∷ [])) in
     let Next : ℤ → Type 0 = λ n. HaveBytes (AnInt n ∷ []) × (second ≡ first ++ bytes_of (AnInt n ∷ [])) in
-    let head = as_int Head xid (int_is.sound line xid c.int.new.self c.in-Ok.ensures).1 c.in_ok-append.ensures.appended in
+    let head = as_int Head xid (int_is.sound line xid c.int.new.self int).1 c.in_ok-append.ensures.appended in
     let next = subst Next (op_kind op) (subst (λ (n : ℤ). Next (to_z w32 (of_z w32 n))) c.op_number.ensures c.in_ok-append-2.ensures.appended) in
     on_some c.copy_body.result
     (λ k. request_copied line c.int.new.self c.read_word.new.line c.name.result.now c.name.new.self c.copy_body.new.line old first second c.copy_body.new.out.items
-    xid _ op c.in-Ok.ensures c.in-Ok-read_word.ensures c.name.ensures.name c.name.ensures.rest (sym c.op_named.ensures ∙ c.in_ok-op.was) refl head next k)
+    xid _ op int blank c.name.ensures.name c.name.ensures.rest (sym c.op_named.ensures ∙ c.in_ok-op.was) refl head next k)
     c.copy_body.ensures.copied

@@ -8,18 +8,20 @@ use Rattle.zk_asks.specs.Parts.{marked}
 use Rattle.zk_answers.specs.Results.{done_items, error_header, result_of}
 use Rattle.zk_items.proofs.Kept.{on_some}
 use Rattle.zk_lines.specs.declared.word.Word.TheVariants as words
-use Rattle.zk_lines.proofs.Appended.{as_int, value_copied, field_copied, headed, made, retold}
+use Rattle.zk_lines.proofs.Appended.{as_int, field_copied, headed, made, ok_is, retold, value_copied}
 use Rattle.zk_lines.proofs.done.copy_failed.Goals as goal
 
 pub returns-clause-copied : goal.returns-clause-copied
 returns-clause-copied c =
-    let e = c.in-Ok-read_error_code.number in
+    let e = c.in_ok-number.number in
+    let word = rw (ok_is c.ok.ensures.value c.in_ok-ok.was) at c.read_word.ensures in
+    let code = rw (ok_is c.ok-2.ensures.value c.in_ok-number.was) at c.read_error_code.ensures in
     let old = c.args.out.now.items in
     let mid = c.append_header.new.out.items in
     let new = c.append.new.out.items in
-    let fit = (code_is error_name).sound c.read_word.new.line e c.read_error_code.new.line c.in-Ok-read_error_code.ensures in
+    let fit = (code_is error_name).sound c.read_word.new.line e c.read_error_code.new.line code in
     let head = as_int (λ n. HaveBytes (marked (error_header n)) × (mid ≡ old ++ bytes_of (marked (error_header n)))) e fit.1 c.in_ok-append_header.ensures.appended in
     on_some c.append.result
     (λ r. let h = as_int (λ n. HaveBytes (AnInt n ∷ []) × (new ≡ mid ++ bytes_of (AnInt n ∷ []))) e fit.1 r in retold done_items
-    (made (λ d. marked (error_header e) ++ result_of d) _ (λ _ _. (_, refl, refl)) (headed (marked (error_header e)) head.0 head.1 (field_copied words.Err c.in-Ok.ensures (value_copied {items = wired.int.items} e c.in-Ok-read_error_code.ensures h.0 h.1)))) refl)
+    (made (λ d. marked (error_header e) ++ result_of d) _ (λ _ _. (_, refl, refl)) (headed (marked (error_header e)) head.0 head.1 (field_copied words.Err word (value_copied {items = wired.int.items} e code h.0 h.1)))) refl)
     c.append.ensures.appended

@@ -2,6 +2,7 @@ use Rattle.std.proofs.Common.{◌∷◌, [], sym, ap, ◌∙◌, arith}
 use Rattle.zk_items.specs.Form.{word_at}
 use Rattle.zk_lines.specs.Series.{element_at}
 use Rattle.zk_lines.proofs.Counted.{none_yet, one_more, all_read, element_some, element_none}
+use Rattle.zk_lines.proofs.Appended.{ok_is}
 use Rattle.zk_lines.proofs.list.copy_others.Goals as goal
 
 pub loop-turn-init : goal.loop-turn-init
@@ -18,7 +19,7 @@ loop-turn-preserved g c =
     let close = c.args.signs.behind in
     let other = rw c.if-passes.false at c.passes.ensures in
     let read = c.in_ok-copy.ensures.copied in
-    let word = ap (word_at (sep ∷ [])) (sym other.1) ∙ c.in-Ok.ensures.read in
+    let word = ap (word_at (sep ∷ [])) (sym other.1) ∙ (rw (ok_is c.ok.ensures.value c.in_ok-ok.was) at c.literal.ensures.read) in
     let element = element_some sep close at l.line c.literal.new.self c.copy.new.line read.value other.0 word read.read in
     record {
       begun = one_more (element_at sep close at) g.T.Spell.items c.args.line.now l.line c.literal.new.self c.copy.new.line c.args.out.now.items l.out.items c.copy.new.out.items c.left-turns.result l.turn (omega arith) l.invariant.begun read element;
