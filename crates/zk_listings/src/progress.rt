@@ -115,8 +115,10 @@ fn take_piece(
 {
     match listing {
         Listing::All => {
-            let refused = list(talk, side, bytes, lines)?;
-            *found = ended_by(refused);
+            let Some(fault) = list(talk, side, bytes, lines)? else {
+                return Ok(());
+            };
+            *found = ended_by(Some(fault));
             Ok(())
         }
         Listing::Last => match talk.pass(side, bytes) {

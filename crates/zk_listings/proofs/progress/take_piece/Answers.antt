@@ -3,8 +3,11 @@ use Rattle.zk_listings.specs.declared.listing.Listing.TheVariants.{Last}
 use Rattle.zk_listings.proofs.Feeding.{takes-all, takes-rest, rejected, passed}
 use Rattle.zk_listings.proofs.progress.take_piece.Goals as goal
 
-pub returns-in_ok-refused-in-All-clause-taken : goal.returns-in_ok-refused-in-All-clause-taken
-returns-in_ok-refused-in-All-clause-taken c = rw c.in-All.is (c.in_ok-refused-in-All.refused, c.ended_by.ensures, c.in_ok-refused-in-All.ensures.taken)
+pub returns-in_default-clause-taken : goal.returns-in_default-clause-taken
+returns-in_default-clause-taken c = rw c.in-All.is (None, c.requires, rw c.in_default.is at c.in_ok-fault-in-All.ensures.taken)
+
+pub returns-in-Some-clause-taken : goal.returns-in-Some-clause-taken
+returns-in-Some-clause-taken c = rw c.in-All.is (Some c.in-Some.fault, c.ended_by.ensures, rw c.in-Some.is at c.in_ok-fault-in-All.ensures.taken)
 
 pub returns-then-stepped-bytes-clause-taken : goal.returns-then-stepped-bytes-clause-taken
 returns-then-stepped-bytes-clause-taken c =
