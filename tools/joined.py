@@ -128,7 +128,7 @@ class Known:
 
     def __init__(self, name):
         self.connection, self.last, self.requests = listing.Connection(name), 0, {}
-        self.waiting, self.lost, self.is_part = None, (), False
+        self.waiting, self.lost = None, ()
 
     def message(self, made):
         """The message of an object."""
@@ -152,9 +152,8 @@ class Known:
         if op == listing.CONNECT:
             message.made_up = all(made.get(name) == found for name, found in MADE_UP[side].items())
             connection.connect(message, session_of(made))
-        # The session of a part comes with the ending.
-        self.is_part |= message.made_up
-        connection.known = (connection.known or side == "S") and not self.is_part
+            # Of a part the session comes with the ending, as where the connect messages were left out.
+            connection.known &= not message.made_up
         if at is not None:
             message.moment = at
             connection.timed(at)

@@ -1,0 +1,38 @@
+"""The lines of zkjson as input: what is said of them is what is said of their recording."""
+
+import json
+
+from support import ToolCase
+
+SESSION = "0x100000000000001"
+MESSAGES = [{"n": 3, "side": "C", "xid": 1, "op": "exists", "path": "/a", "watch": False},
+            {"n": 4, "side": "S", "xid": 1, "op": "exists", "zxid": "0x5", "err": -101, "errName": "NONODE", "of": 3,
+             "asked": "/a"},
+            {"n": 5, "side": "C", "xid": 2, "op": "exists", "path": "/b", "watch": False}]
+ENDING = {"ending": "whole", "unanswered": 1, "waiting": [5]}
+
+
+class Joined(ToolCase):
+    run_tool = ToolCase.run_inside
+
+    def said(self, tool, *words, lines):
+        text = "".join(json.dumps({"connection": "a.zkr", **each}) + "\n" for each in lines)
+        path = self.folder / "a.json"
+        path.write_text(text)
+        status, out, err = self.run_tool(tool, *words, path)
+        self.assertEqual((status, err), (0, ""))
+        return out
+
+    def test_a_session_that_the_facts_alone_say(self):
+        """zkjson --op exists has left out the connect messages."""
+        lines = [*MESSAGES, {**ENDING, "facts": {"session": SESSION}}]
+        for session, asked in ((SESSION, 2), ("0x7", None)):
+            found = json.loads(self.said("zkstat.py", "--json", "--session", session, lines=lines))
+            self.assertEqual([(each["asked"], each["answered"], each["failed"]) for each in found["connections"]],
+                             [(2, 1, 1)] if asked else [])
+            self.assertEqual(found["operations"].get("exists", {}).get("asked"), asked)
+            self.assertEqual([each["n"] for each in found["unanswered"]], [5] if asked else [])
+        found = self.said("zkreport.py", "--text", "--session", SESSION, lines=lines)
+        self.assertIn("1 connections, 1 sessions, 3 messages, 2 requests, 1 failed, 1 unanswered, 0 events\n", found)
+        self.assertIn('        5  exists     "/b"\n', found)
+
