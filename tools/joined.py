@@ -173,6 +173,8 @@ class Known:
             asked = listing.Message(self.connection, of, "C", message.xid, message.op, path_of(made, "asked"), None)
             if message.moment is not None and message.microseconds is not None:
                 asked.moment = message.moment - message.microseconds / 1000
+        elif message.microseconds is None and None not in (message.moment, asked.moment):
+            self.connection.backwards += message.moment < asked.moment
         return asked
 
     def end(self, made):

@@ -36,3 +36,17 @@ class Joined(ToolCase):
         self.assertIn("1 connections, 1 sessions, 3 messages, 2 requests, 1 failed, 1 unanswered, 0 events\n", found)
         self.assertIn('        5  exists     "/b"\n', found)
 
+
+    def test_replies_with_a_time_before_their_request(self):
+        """A reply has no ms where its time is before that of its request, or where one of them has no time."""
+        request, reply, other = MESSAGES
+        for at, replied, ms, backwards in ((10, 9.5, {}, 1), (10, 10, {"ms": 0}, 0), (10, 9.9999, {"ms": 0}, 0),
+                                           (None, 9, {}, 0), (10, None, {}, 0)):
+            times = [{} if each is None else {"at": each} for each in (at, replied)]
+            lines = [{**request, **times[0]}, {**reply, **times[1], **ms}, other, ENDING]
+            with self.subTest(at=at, replied=replied):
+                found = json.loads(self.said("zkstat.py", "--json", lines=lines))
+                self.assertEqual(found["connections"][0]["backwards"], backwards)
+                self.assertEqual("1 replies have a time before" in self.said("zkstat.py", lines=lines), backwards > 0)
+                self.assertEqual("1 replies have a time before" in self.said("zkreport.py", "--text", lines=lines),
+                                 backwards > 0)
