@@ -30,15 +30,16 @@ def moment(text):
 
 
 def latency(text):
-    """A number of milliseconds."""
+    """A number of milliseconds, as whole microseconds: what takes more of either takes more of the other."""
     if not LATENCY.fullmatch(text):
         raise argparse.ArgumentTypeError(f"{text!r} is not a number of milliseconds: write it as 250 or 0.5")
-    return float(text)
+    whole, _, part = text.partition(".")
+    return int(whole + part[:3].ljust(3, "0"))
 
 
 def session(text):
     """A session's number in hexadecimal or decimal, as a listing.Connection has it."""
-    if not SESSION.fullmatch(text):
+    if not SESSION.fullmatch(text) or int(text, 0) >= 1 << 64:
         raise argparse.ArgumentTypeError(f"{text!r} is not a session: write it as 0x100003780a6001f, or in decimal")
     return listing.hexadecimal(int(text, 0))
 
@@ -76,7 +77,7 @@ class Selection:
 
     def __init__(self, words):
         self.paths, self.sessions, self.operations = words.path, words.session, words.op
-        self.slower, self.begin, self.end = words.slower and words.slower * 1000, words.begin, words.end
+        self.slower, self.begin, self.end = words.slower, words.begin, words.end
         self.needs_times = (self.slower, self.begin, self.end) != (None,) * 3
         self.by_message = bool(self.needs_times or self.paths or self.operations)
         self.all = not self.by_message and not self.sessions
