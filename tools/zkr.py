@@ -33,7 +33,7 @@ MARKS = (b"ZKR1", b"ZKR2")
 CAPTURES = (b"\xa1\xb2\xc3\xd4", b"\xd4\xc3\xb2\xa1", b"\xa1\xb2\x3c\x4d", b"\x4d\x3c\xb2\xa1", b"\x0a\x0d\x0d\x0a",
             b"\x1f\x8b")
 LARGEST_PIECE = 16_777_220
-TIME = re.compile(r"\d{1,19}(?:\.\d{1,9})?\n?", re.ASCII)
+TIME = re.compile(r"(?:0|[1-9]\d{0,18})(?:\.\d{1,9})?\n?", re.ASCII)      # a number of JSON
 LONGEST_TIME = 32
 LIMITS, USUAL_LIMIT = range(64, 16_777_217), 4_194_304
 WAITINGS, USUAL_WAITING = range(1, 1_048_577), 65_536

@@ -111,7 +111,8 @@ static bool next_time(struct source *times, char *spelled) {
     spelled[length] = 0;
     const char *whole = digits(spelled, 19), *end = whole;
     if (*whole == '.') end = digits(whole + 1, 9);
-    if (whole == spelled || end != spelled + length || (*whole == '.' && end == whole + 1))
+    if (whole == spelled || end != spelled + length || (*whole == '.' && end == whole + 1) ||
+        (*spelled == '0' && whole > spelled + 1))
         stop(STATUS_NOT_READ, "a line is not a time");
     if (length < got) length += times->at[length] == '\r' && length + 1 < got && times->at[length + 1] == '\n' ? 2 : 1;
     use(times, length);

@@ -75,11 +75,11 @@ class Program(ColumnsCase):
         recording, times = self.folder / "a.zkr", self.folder / "a.zkr.times"
         recording.write_bytes(b"ZKR1" + b"C\0\0\0\1a" + b"S\0\0\0\1b")
         for text in ("1\n", "1\n2\n3\n", "1\nx\n", "1\n2.\n", "1\n\n", "1\n2.1234567890\n", f"1\n{'2' * 20}\n",
-                     f"1\n{'2' * 99}\n"):
+                     f"1\n{'2' * 99}\n", "1\n02\n"):
             times.write_text(text)
             done = self.columns("--times", times, recording)
             self.assertEqual((done.returncode, done.stdout), (4, b""), text)
-        for text in ("1\n2\n", "1\n2", "1\r\n2\r\n", "1\r2", "1.5\n2.123456789"):
+        for text in ("1\n2\n", "1\n2", "1\r\n2\r\n", "1\r2", "1.5\n2.123456789", "0\n0.5\n"):
             times.write_bytes(text.encode())
             self.assertEqual(self.columns("--times", times, recording).returncode, 0, text)
 

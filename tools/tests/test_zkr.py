@@ -98,7 +98,8 @@ class Writing(ToolCase):
 
     def test_what_is_no_file_of_times(self):
         path = self.folder / "times"
-        for line in ("", "-1", "1e3", "nan", "1.", ".5", "1 ", "9" * 20, "1." + "0" * 10, "9" * 400, "\xb2"):
+        for line in ("", "-1", "1e3", "nan", "1.", ".5", "1 ", "9" * 20, "1." + "0" * 10, "9" * 400, "\xb2",
+                     "01", "00", "00.5"):       # zkjson writes times as they are, and JSON has no such number
             path.write_bytes(f"1\n2.5\n{line}\n".encode("latin-1"))
             with self.subTest(line=line), self.assertRaisesRegex(ValueError, "line 3 is not a time: "):
                 list(zkr.read_times(path))
