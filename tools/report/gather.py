@@ -208,8 +208,9 @@ class Reading:
         if op in WATCHING:
             made.is_watching = is_watching(line)
         elif op == "multi":
-            for spelled in talk.paths(line, made):
-                self.name_path(paths.path_of(spelled), made)
+            for path in map(paths.path_of, talk.paths(line, made)):
+                if path is not None:
+                    self.name_path(path, made)
         elif op == "setWatches":
             for path in watched_paths(line):
                 self.set_again(path, made)
@@ -327,5 +328,6 @@ def watched_paths(line):
     """The paths of a setWatches: it has no other texts."""
     if line.startswith("{"):
         made = json.loads(line)
-        return [paths.path_of(listing.spelled(path)) for name in WATCH_LISTS for path in made.get(name) or ()]
+        return [paths.path_of(listing.spelled(path)) for name in WATCH_LISTS for path in made.get(name) or ()
+                if path is not None]
     return [paths.path_of(found) for found in listing.QUOTED.findall(line)]

@@ -286,3 +286,17 @@ class Zkreport(ToolCase):
             path = self.listing("there", "words")
             status, out, err = self.run_tool("zkreport.py", option, path, self.one)
             self.assertEqual((status, out, err.count("\n"), path.read_text()), (3, "", 1, "words"))
+
+    def test_null_paths(self):
+        """They are no paths, in a multi and among the watches of setWatches as elsewhere; of lines of zkjson, too."""
+        listing = self.listing("null.show", "\n".join((
+            *LISTING.format(**HERE).splitlines()[:2],
+            'C 1 multi {check path=~ version=1;check path="/a" version=1}', "S 1 multi zxid=5 {check;check}",
+            "C 2 sync path=~", "S 2 sync zxid=5 path=~",
+            'C -8 setWatches zxid=5 dataWatches=[~,"/b"] existWatches=[] childWatches=~', "S -8 setWatches zxid=5")))
+        lines = self.folder / "null.json"
+        lines.write_text(self.run_tool("zkjson.py", listing)[1])
+        for path in (listing, lines):
+            found = self.report("--text", path)
+            self.assertEqual(self.rows(found, "Busiest paths"), [["1", "0", "-", '"/a"']], path)
+            self.assertEqual(self.rows(found, "Watches"), [["1", "1", "0", "-", "#1", '"/b"']], path)
