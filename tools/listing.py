@@ -99,8 +99,8 @@ class Connection:
             self.session = hexadecimal(session)
 
     def has_hole(self):
-        """Whether bytes of it are known not to be in its recording."""
-        return bool(self.facts) and self.facts.has_hole()
+        """Whether bytes of it are known not to be in its recording, or that couldn't be read."""
+        return bool(self.ending) and self.ending["ending"] == UNREAD or bool(self.facts) and self.facts.has_hole()
 
     def loses_replies(self):
         """Whether replies to the requests that wait at its end may have been lost."""

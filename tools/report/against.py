@@ -81,7 +81,10 @@ class Side:
                 by_request[made] = exchange = Exchange(plain(line, made, self.as_objects), made.n)
                 waiting.append(exchange)
             elif asked:
-                exchange = by_request.pop(asked)
+                exchange = by_request.pop(asked, None)
+                if exchange is None:        # the request itself isn't there
+                    exchange = Exchange(json.dumps({"op": asked.op, "path": asked.path}), asked.n)
+                    waiting.append(exchange)
                 exchange.reply, exchange.answer = made.n, plain(line, made, self.as_objects)
                 while waiting and waiting[0].answer is not None:
                     yield waiting.popleft()

@@ -50,3 +50,25 @@ class Joined(ToolCase):
                 self.assertEqual("1 replies have a time before" in self.said("zkstat.py", lines=lines), backwards > 0)
                 self.assertEqual("1 replies have a time before" in self.said("zkreport.py", "--text", lines=lines),
                                  backwards > 0)
+
+    def test_comparison_of_replies_without_their_requests(self):
+        """As zkjson --slower leaves them."""
+        paths = []
+        for name, code in (("a", -101), ("b", -101), ("c", -4)):
+            paths.append(self.folder / f"{name}.json")
+            reply = {**MESSAGES[1], "err": code, "errName": "NONODE" if code == -101 else "CONNECTIONLOSS"}
+            paths[-1].write_text("".join(json.dumps(each) + "\n" for each in (reply, {**ENDING, "waiting": []})))
+        for other, status, said in ((1, 0, "no difference: 1 exchanges and events are the same\n"),
+                                    (2, 1, "the first difference is a reply of connection #1, after 0 exchanges")):
+            found, out, err = self.run_tool("zkreport.py", "--text", paths[0], "--against", paths[other])
+            self.assertEqual((found, err), (status, ""))
+            self.assertIn(said, out)
+
+    def test_a_recording_that_could_not_be_read(self):
+        """Of zkjson --jobs it has one line; that it is missing is the status, as where the tool itself read it."""
+        path = self.folder / "a.json"
+        path.write_text(json.dumps({"connection": "bad.zkr", "ending": "unread", "reason": "Permission denied"}) + "\n")
+        for tool, words in (("zkstat.py", []), ("zkstat.py", ["--jobs", "1"]), ("zkreport.py", ["--text"])):
+            status, out, err = self.run_tool(tool, *words, path)
+            self.assertEqual((status, err), (1, ""), (tool, words))
+            self.assertRegex(out, "unread(: | reason=)Permission denied")
