@@ -250,9 +250,13 @@ class Listing(Conversations):
             if not found or connection.ending:
                 self.end(line, n)
                 continue
-            if not self.proved:
-                check_values(line, n)
             side, xid, op, path, number, name = found.groups()
+            if not self.proved:
+                if (xid is None) != (op == CONNECT or op == EVENT and side == "S"):
+                    raise no_line(n, found.start(3))
+                if number == "0" and op != EVENT:
+                    raise no_line(n, found.start(5))
+                check_values(line, n)
             made = Message(connection, n, side, xid, op, path, name or number, found.end(3))
             if frames:
                 of_side, of_xid, at = next(frames, NO_FRAME)
