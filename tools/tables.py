@@ -18,9 +18,14 @@ def plain(value):
     return value if PLAIN.fullmatch(value) else json.dumps(value)
 
 
+def exact(ms):
+    """Milliseconds to the microsecond, without zeros at the end."""
+    return f"{ms:.3f}".rstrip("0").rstrip(".")
+
+
 def cells(counts):
     """The cells of what is counted of an operation or a connection."""
-    times = [f"{counts['ms'][each]:.10g}" if counts["ms"] else "-" for each in TIMES]
+    times = [exact(counts["ms"][each]) if counts["ms"] else "-" for each in TIMES]
     return [str(counts[each]) for each in COUNTS] + times
 
 
@@ -95,6 +100,6 @@ def ending(found, known):
 def slowest(found):
     rows = [["slowest: asked at", "ms", "connection", "line", "operation", "error", "zxid", "path"]]
     for each in found:
-        rows.append([each["time"] or "-", f"{each['ms']:.10g}", plain(each["connection"]), str(each["n"]), each["op"],
+        rows.append([each["time"] or "-", exact(each["ms"]), plain(each["connection"]), str(each["n"]), each["op"],
                      each["error"] or "-", each["zxid"] or "-", each["path"] or "-"])
     return aligned(rows, {0, 2, 4, 5, 6, 7})
