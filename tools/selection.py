@@ -113,6 +113,8 @@ class Selection:
             made.chosen = self.takes(made, talk.paths(line, made) if self.paths else ())
             if made.chosen and self.slower is None:
                 yield line, made, asked
+            elif made.chosen and made.op == "multi":
+                made.parts = talk.paths(line, made)     # for its reply, which comes alone
 
     def of_sessions(self, found):
         """Holds messages back until the session of their connection is known."""

@@ -108,7 +108,7 @@ def parts(line, at, made, asked):
     while (found := PART.match(line, at)) and found[1] == sign and found[2] in known:
         name, form, comma = found[2], known[found[2]], ", " if sign == ";" else ""
         path = next(paths, None) if name == "fail" else next(paths, None) and None
-        end = f', "asked": {path}}}' if path else "}"
+        end = f', "asked": {forms.text(path)}}}' if path else "}"
         try:
             if len(line) > listing.BLOCK:
                 raise ValueError("a long line")
@@ -122,7 +122,7 @@ def parts(line, at, made, asked):
     if not line.startswith("{}" if sign == "{" else "}", at):
         raise forms.NoField(at)
     if made.side == "C":
-        made.parts = [forms.text(path) for path in listing.PATHS.findall(line, made.end) if path]
+        made.parts = [path for path in listing.PATHS.findall(line, made.end) if path]
     yield "]"
     return at + (2 if sign == "{" else 1)
 
@@ -170,7 +170,7 @@ def write_all(parser, words, progress, out):
     chosen, has_hole, untimed = selection.Selection(words), False, 0
 
     def fast(name):
-        return [*chosen.options(name), "--json", head_of(name), *["--no-part-paths"] * (chosen.slower is not None)]
+        return [*chosen.options(name), "--json", head_of(name)]
     for talk in inputs.conversations(parser, words, False, progress, before_read=out.flush, fast=fast):
         head = talk.connection.json = head_of(talk.name)
         with talk.complaints():

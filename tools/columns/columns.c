@@ -1,6 +1,6 @@
 /* The messages of a recording as columns, for the tools in Python beside it.
  *
- *     zkcolumns [--json HEAD] [--lines] [--no-part-paths] [--times FILE] [--limit N] [--profile RELEASE]
+ *     zkcolumns [--json HEAD] [--lines] [--times FILE] [--limit N] [--profile RELEASE]
  *         [--path PATH ..] RECORDING
  *
  * Standard output gets blocks, each a `struct head`, then its records, patches, paths and text. The first block has
@@ -138,7 +138,6 @@ static const char *words_of(struct state *state, int count, char **words, const 
     for (; at < count - 1 && strncmp(words[at], "--", 2) == 0; at++) {
         const char *word = words[at];
         if (strcmp(word, "--lines") == 0) state->lines = true;
-        else if (strcmp(word, "--no-part-paths") == 0) state->part_paths = false;
         else if (strcmp(word, "--json") == 0) state->json = words[++at];
         else if (strcmp(word, "--times") == 0) *times = words[++at];
         else if (strcmp(word, "--limit") == 0) limit = (uint32_t)strtoul(words[++at], NULL, 10);
@@ -154,7 +153,7 @@ static const char *words_of(struct state *state, int count, char **words, const 
 }
 
 int main(int count, char **words) {
-    struct state state = {.part_paths = true, .fields_room = 64};
+    struct state state = {.fields_room = 64};
     struct recording *recording = &state.recording;
     state.head.begun = state.head.ended = (double)NAN;
     state.chosen = calloc((size_t)count + 1, sizeof *state.chosen);

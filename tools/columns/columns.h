@@ -119,8 +119,7 @@ struct message {
 };
 
 /* Writes a message as zkjson.py does (short and pieces there), after `head`, which names the connection. */
-void put_json(struct bytes *out, struct bytes *patches, const char *head, const struct message *message,
-              bool part_paths);
+void put_json(struct bytes *out, struct bytes *patches, const char *head, const struct message *message);
 
 /* The length of a field's content; -1 for null. */
 int32_t length_of(const struct zk_field *field);

@@ -270,10 +270,10 @@ static void put_field(struct walk *walk) {
 }
 
 /* The parts of a multi, or their results; a failed one has its request's path. */
-static void put_parts(struct walk *walk, bool part_paths) {
+static void put_parts(struct walk *walk) {
     const struct message *message = walk->message;
     const uint8_t *paths = message->paths;
-    uint32_t left = part_paths && message->asked != NULL ? message->asked->count : 0;
+    uint32_t left = message->asked != NULL ? message->asked->count : 0;
     put_text(walk->out, ", \"parts\": [");
     for (bool first = true; walk->next < message->count; first = false) {
         const struct zk_field *part = message->fields + walk->next++;
@@ -319,8 +319,7 @@ static void put_asked(struct bytes *out, struct bytes *patches, const struct mes
     put_string(out, patches, path, length, PATCH_TEXT);
 }
 
-void put_json(struct bytes *out, struct bytes *patches, const char *head, const struct message *message,
-              bool part_paths) {
+void put_json(struct bytes *out, struct bytes *patches, const char *head, const struct message *message) {
     const struct zk_message *view = &message->view;
     struct walk walk = {out, patches, message, 0};
     bool ordinary = view->kind == ZK_REQUEST || view->kind == ZK_REPLY;
@@ -340,7 +339,7 @@ void put_json(struct bytes *out, struct bytes *patches, const char *head, const 
         put_hexadecimal(out, view->zxid);
     }
     if (view->kind == ZK_REPLY && view->err != 0) put_code(out, "err", view->err, zk_error_name(view->err));
-    else if (ordinary && view->operation == MULTI) put_parts(&walk, part_paths);
+    else if (ordinary && view->operation == MULTI) put_parts(&walk);
     bool has_ro = message->count > 0 && message->fields[message->count - 1].name == ZK_NAME_READ_ONLY;
     while (walk.next < message->count) put_field(&walk);
     if ((view->kind == ZK_CONNECT || view->kind == ZK_CONNECTED) && !has_ro) put_text(out, ", \"ro\": null");

@@ -165,7 +165,7 @@ static void take_request(struct state *state, const struct zk_message *view, con
 static void put_message(struct state *state, const struct message *message, struct record *record) {
     record->text = state->text.end;
     if (state->json != NULL) {
-        put_json(&state->text, &state->patches, state->json, message, state->part_paths);
+        put_json(&state->text, &state->patches, state->json, message);
     } else if (state->lines) {
         put_text(&state->text, message->at);
         record->at_length = (uint32_t)strlen(message->at);

@@ -40,7 +40,7 @@ struct state {
     struct zk_talk talk;
     struct recording recording;
     const char *json, **chosen;
-    bool lines, part_paths;
+    bool lines;
     size_t chosen_count, fields_room;
     struct zk_field *fields;
     struct bytes records, patches, paths, text, payload, line, of_message;

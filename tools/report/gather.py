@@ -208,9 +208,7 @@ class Reading:
         if op in WATCHING:
             made.is_watching = is_watching(line)
         elif op == "multi":
-            for path in map(paths.path_of, talk.paths(line, made)):
-                if path is not None:
-                    self.name_path(path, made)
+            self.name_parts(talk.paths(line, made), made)
         elif op == "setWatches":
             for path in watched_paths(line):
                 self.set_again(path, made)
@@ -222,6 +220,12 @@ class Reading:
         made.path = path = paths.path_of(made.path)
         if path is not None:
             self.name_path(path, made)
+
+    def name_parts(self, spelled, made):
+        """Counts the paths of a multi's parts."""
+        for path in map(paths.path_of, spelled):
+            if path is not None:
+                self.name_path(path, made)
 
     def name_path(self, path, made):
         entry = self.run.paths.entry(path)
@@ -245,6 +249,7 @@ class Reading:
         run, connection, error, microseconds = self.run, self.connection, made.error, made.microseconds
         if not hasattr(asked, "seen"):      # the request itself isn't there, or not chosen
             self.name(asked)
+            self.name_parts(asked.parts, asked)
         ms = None if microseconds is None else microseconds / 1000
         operation = connection.operations[made.op]
         operation.asked += 1

@@ -1,8 +1,9 @@
 """The choices that zkjson, zkstat and zkreport have in common."""
 
 import json
+import struct
 
-from support import ToolCase
+from support import PROGRAM, ToolCase, zkr
 
 ASKED = 1_795_332_633_000
 
@@ -35,3 +36,25 @@ class Choices(ToolCase):
             self.assert_bad_words("zkstat.py", "--session", session, self.lines(1))
         for session in (str(2 ** 64 - 1), "0xffffffffffffffff"):
             self.assertEqual(self.run_tool("zkstat.py", "--session", session, self.lines(1))[0], 0)
+
+    def test_the_paths_of_a_slow_multi(self):
+        """Its request isn't among the replies, but its parts' paths go with its reply."""
+        head, pieces = zkr.Head("zkr2"), []
+        for at, side, payload in ((1, b"C", struct.pack(">iqiqi", 0, 0, 9, 0, -1)),
+                                  (2, b"S", struct.pack(">iiqi", 0, 9, 7, -1)),
+                                  (10, b"C", struct.pack(">ii", 1, 14) + b"".join(
+                                      struct.pack(">i?ii2si", 13, False, -1, 2, path, 3) for path in (b"/a", b"/b"))
+                                   + struct.pack(">i?i", -1, True, -1)),
+                                  (30, b"S", struct.pack(">iqi", 1, 5, 0) + b"".join(
+                                      struct.pack(">i?ii", -1, False, code, code) for code in (0, -103))
+                                   + struct.pack(">i?i", -1, True, -1))):
+            pieces.append(head.piece(side, at, struct.pack(">i", len(payload)) + payload))
+        path = self.folder / "a.zkr"
+        path.write_bytes(head.to_bytes() + b"".join(pieces))
+        if not PROGRAM.exists():
+            self.skipTest("the program zkdump is not built")
+        reply, _ = map(json.loads, self.run_tool("zkjson.py", "--slower", "5", path)[1].splitlines())
+        self.assertEqual(reply["parts"], [{"op": "fail", "err": 0, "errName": "OK", "asked": "/a"},
+                                          {"op": "fail", "err": -103, "errName": "BADVERSION", "asked": "/b"}])
+        _, out, _ = self.run_tool("zkreport.py", "--text", "--slower", "5", path)
+        self.assertIn("".join(f'       1       0       -  "{each}"\n' for each in ("/a", "/b")), out)
