@@ -114,6 +114,9 @@ def lines_of_show(parser, words, path, profile, before_read):
         show = subprocess.Popen([words.zkdump, "show", *options], stdin=recording, stdout=subprocess.PIPE)
     try:
         yield from listing.lines_of(show.stdout, before_read)
+    except GeneratorExit:       # whoever reads has enough, or has found a fault
+        show.kill()
+        raise
     finally:
         show.stdout.close()
         status = show.wait()

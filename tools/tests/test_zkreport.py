@@ -2,9 +2,10 @@
 
 import json
 import os
+import subprocess
 
 import report_lines
-from support import CAPTURES, ToolCase
+from support import CAPTURES, PROGRAM, ToolCase
 
 TABLES = r"""2 connections, 1 sessions, 20 messages, 10 requests, 3 failed, 1 unanswered, 1 events
 from 2023-11-14T22:13:20.000Z to 2023-11-14T22:13:25.201Z
@@ -286,6 +287,16 @@ class Zkreport(ToolCase):
             path = self.listing("there", "words")
             status, out, err = self.run_tool("zkreport.py", option, path, self.one)
             self.assertEqual((status, out, err.count("\n"), path.read_text()), (3, "", 1, "words"))
+
+    def test_a_page_of_the_first_messages_of_many(self):
+        """Once it has them zkdump show is not read on, which is no trouble to report."""
+        if not PROGRAM.exists():
+            self.skipTest("the program zkdump is not built")
+        lines = "\n".join((*LISTING.format(**HERE).splitlines()[:2], *('C 1 sync path="/a"' for _ in range(9_000))))
+        path = self.folder / "many.zkr"
+        path.write_bytes(subprocess.run([PROGRAM, "build"], input=lines.encode(), capture_output=True,
+                                        check=True).stdout)
+        self.report("-o", self.folder / "many.html", "--op", "connect", path)
 
     def test_null_paths(self):
         """They are no paths, in a multi and among the watches of setWatches as elsewhere; of lines of zkjson, too."""
