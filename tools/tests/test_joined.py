@@ -36,7 +36,6 @@ class Joined(ToolCase):
         self.assertIn("1 connections, 1 sessions, 3 messages, 2 requests, 1 failed, 1 unanswered, 0 events\n", found)
         self.assertIn('        5  exists     "/b"\n', found)
 
-
     def test_replies_with_a_time_before_their_request(self):
         """A reply has no ms where its time is before that of its request, or where one of them has no time."""
         request, reply, other = MESSAGES
