@@ -139,8 +139,9 @@ def packets_of_pcapng(source):
             interfaces.append((struct.unpack_from(order + "H", body)[0], *clock_of(order, body[8:])))
         elif kind == PACKET:
             interface, high, low, length = struct.unpack_from(order + "IIII", body)
-            link, unit, offset = interfaces[interface]
-            yield ((high << 32) + low) * unit + offset, link, body, 20, min(20 + length, len(body))
+            link, rate, offset = interfaces[interface]
+            seconds, part = divmod((high << 32) + low, rate)    # a float has no room for all digits
+            yield (seconds + offset) * 1000 + part * 1000 / rate, link, body, 20, min(20 + length, len(body))
         elif kind in OLD_PACKETS:
             raise NotRead("this is a pcapng of an old form: convert it with editcap -F pcapng OLD NEW")
         if source.at == len(source.data) and not source.more(source.at):
@@ -161,19 +162,19 @@ def block_body(source, order, head, least):
 
 
 def clock_of(order, options):
-    """The unit of an interface's times, and what is added to them, in milliseconds, out of its options."""
-    unit, offset = 1e-3, 0
+    """How many units of an interface's times are a second, and what is added to them, in seconds, out of its options."""
+    rate, offset = 10**6, 0
     while len(options) >= 4:
         code, size = struct.unpack(order + "HH", options[:4])
         value = options[4:4 + size]
         if code == 9:
-            unit = 1000 * (2.0 ** -(value[0] & 127) if value[0] & 128 else 10.0 ** -value[0])
+            rate = 2 ** (value[0] & 127) if value[0] & 128 else 10 ** value[0]
         elif code == 14:
-            offset = struct.unpack(order + "q", value)[0] * 1000
+            offset = struct.unpack(order + "q", value)[0]
         elif code == 0:
             break
         options = options[4 + (size + 3 & ~3):]
-    return unit, offset
+    return rate, offset
 
 
 def network_place(link, packet, at):

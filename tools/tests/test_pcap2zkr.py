@@ -43,6 +43,16 @@ class Forms(PcapCase):
         status, _, _ = self.run_tool("pcap2zkr.py", "-", self.folder / "s", stdin=gzip.compress(files[0]))
         self.assertEqual((status, (self.folder / "s-1.zkr").read_bytes()), (0, made))
 
+    def test_nanoseconds_since_1970_are_more_than_a_float_tells_apart(self):
+        """Each time is right to its last decimal, as is the millisecond in a recording of the second format."""
+        times = ["1700000004661.509", "1700000004662.000", "1795332633004.999", "1795332633005.001"]
+        sent = [each._replace(milliseconds=float(time)) for each, time in zip(wire.conversation(
+            [zkr.Piece(zkr.CLIENT, None, b"x")] * 4, close=False), [times[0]] * 3 + times)]
+        status, _, made = self.convert(wire.pcapng(packed(sent)), "--times", "--format", "zkr2")
+        self.assertEqual((status, (self.folder / "r-1.zkr.times").read_text().split()), (0, times))
+        self.assertEqual([piece.milliseconds for piece in pieces(made[0])],
+                         [1700000004661, 1700000004662, 1795332633004, 1795332633005])
+
     def test_the_second_format(self):
         source = SMALL[0].read_bytes()
         made = self.assert_whole(capture_of(wire.conversation(pieces(source))), source, "--format", "zkr2", "--limit",
