@@ -252,10 +252,12 @@ class Conversation:
         if closer := stream.closer():
             how, ended = {"closed": closer.side.decode(), **how}, closer.fin.milliseconds
         *others, last = self.stretches or [Stretch(self.put, self.first, self.began, not self.late)]
-        for stretch in others:
+        for stretch, after in zip(others, [*others[1:], last]):
             stretch.end(True)
             if stretch.recording:
                 self.report(stretch, *stretch.recording.last())
+            else:
+                after.join(stretch)
         last.end(True)
         for side in SIDES if self.stretches else ():
             last.skipped[side] += self.waits(side)

@@ -221,6 +221,14 @@ class AfterLoss(JoinedCase):
         self.assertRegex(ends[1], r" lost=C:0,S:40 skipped=C:19,S:0 unasked=0$")
         self.assert_parts(made, said[:3], said[6:])
 
+    def test_what_is_lost_before_a_second_loss_counts_though_nothing_is_kept_between(self):
+        """Also where the connection ends with a request from before both that may still be answered."""
+        cut = [ask(3)._replace(data=ask(3).data[:7]), ask(3)._replace(data=ask(3).data[7:])]
+        said = [ask(1), reply(1), ask(2), reply(2), *cut, ask(4)]
+        _, ends, made = self.parts(said, 3, 5)
+        self.assertRegex(ends[1], r" lost=C:12,S:20 skipped=C:7,S:0 unasked=0$")
+        self.assert_parts(made, said[:3], said[6:])
+
     def test_a_number_that_is_taken_is_passed_over(self):
         sent = list(wire.conversation([*CONNECT, ask(1), reply(1), ask(2), reply(2)]))
         capture = self.folder / "c"
