@@ -155,8 +155,10 @@ class Half:
         return self.written + (self.end == self.written)
 
     def lacks(self):
-        """Whether bytes are known to be missing at the end: the other side acknowledged them."""
-        return (self.end or 0) > self.place or self.acknowledged > self.place + 1
+        """Whether bytes are known to be missing at the end: the other side acknowledged them, or this side's reset has
+        a number after them."""
+        reset_at = self.stream.reset_at if self.stream.reset == self.side else 0
+        return (self.end or 0) > self.place or max(self.acknowledged, reset_at) > self.place + 1
 
 
 class Stream:

@@ -83,6 +83,19 @@ class Ends(PcapCase):
                 self.assertEqual((status, len(told), sides(made[0])), (0, 1, sides_of([ASK, REPLY, late])))
                 self.assertIn(f" reset={side.decode()}", told[0])
 
+    def test_bytes_before_a_reset_that_were_not_captured(self):
+        """The number of the reset says that its side had sent them; an end that wasn't captured counts as one."""
+        for side, size, hole in ((zkr.CLIENT, 5, "C"), (zkr.SERVER, 5, "S"), (zkr.CLIENT, 1, None)):
+            for fin in (0, wire.FIN):
+                with self.subTest(side=side, size=size, fin=fin):
+                    sent = opened([ASK, REPLY, zkr.Piece(side, None, bytes(size - bool(fin)))])
+                    if fin:
+                        sent = then(sent, (side, fin | wire.ACK))
+                    status, told, made = self.convert(capture_of([*sent[:5], then(sent, (side, wire.RST))[-1]]))
+                    self.assertEqual((status, told[0].split()[12:]),
+                                     (int(bool(hole)), [f"reset={side.decode()}"] + [f"hole={hole}"] * bool(hole)))
+                    self.assertEqual(sides(made[0]), (b"ask", b"reply"))
+
     def test_a_reset_of_something_else_ends_nothing(self):
         sent = opened([ASK, REPLY, ASK, REPLY])
         for number in (sent[4].number + 5, sent[4].number + (1 << 30)):
