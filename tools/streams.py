@@ -36,18 +36,18 @@ class Part(NamedTuple):
 class Half:
     """One side of a connection: puts what was captured in order.
 
-    `next` is the sequence number after the bytes that are in order, or -1, and `place` its place. `apart` has what came
-    out of order. `ready` has what is in order and waits for the other side's bytes that it follows. `written` is the
-    place up to which bytes were passed on, `end` that of the side's end, and `fin` what is known of the first segment
-    with a FIN.
+    `opened` says whether its SYN was captured. `first` and `next` are the sequence numbers of its first byte and after
+    the bytes that are in order, or -1; `place` is the place of the latter. `apart` has what came out of order. `ready`
+    has what is in order and waits for the other side's bytes that it follows. `written` is the place up to which bytes
+    were passed on, `end` that of the side's end, and `fin` what is known of the first segment with a FIN.
     """
 
-    __slots__ = ("stream", "side", "other", "first", "next", "place", "written", "end", "fin", "acknowledged", "apart",
-                 "ready")
+    __slots__ = ("stream", "side", "other", "opened", "first", "next", "place", "written", "end", "fin", "acknowledged",
+                 "apart", "ready")
 
     def __init__(self, stream, side):
         self.stream, self.side, self.other, self.first, self.next, self.end = stream, side, None, -1, -1, None
-        self.fin = None
+        self.opened, self.fin = False, None
         self.place = self.written = self.acknowledged = 0
         self.apart = self.ready = ()
 
@@ -73,7 +73,8 @@ class Half:
         stream, other = self.stream, self.other
         if flags & SYN:
             sequence = sequence + 1 & MASK
-            stream.resent += self.first == sequence
+            stream.resent += self.opened
+            self.opened = True
         self.begin(sequence)
         stream.snapped |= snapped
         follows = 0

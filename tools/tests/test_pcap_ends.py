@@ -70,6 +70,14 @@ class Ends(PcapCase):
                 self.assertIn(f" resent={count} ", told[0])
                 self.assertEqual(sides(made[0]), (b"askask", b"reply"))
 
+    def test_handshakes_that_were_captured_out_of_order(self):
+        """No segment of them was captured again."""
+        sent = opened()
+        for mixed in ([1, 0, 2], [1, 2, 0]):
+            _, told, made = self.convert(capture_of([*[sent[at] for at in mixed], *sent[3:]]))
+            self.assertIn(" resent=0 ", told[0])
+            self.assertEqual(sides(made[0]), (b"ask", b"reply"))
+
     def test_what_the_other_side_said_before_a_reset_is_kept(self):
         """Also where it was captured after the reset, as was what the side itself had said."""
         for side, late in ((zkr.SERVER, ASK), (zkr.CLIENT, ASK), (zkr.SERVER, REPLY), (zkr.CLIENT, REPLY)):
