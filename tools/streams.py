@@ -94,8 +94,7 @@ class Half:
             if stream.reset and place >= stream.reset_at and stream.reset == self.side:
                 stream.reset = ""  # that reset was not one of this connection
             self.put(Part(place, follows, number, milliseconds, data))
-        if other.next >= 0:
-            stream.write()
+        stream.write()
         return bool(self.fin or other.fin or stream.reset or stream.budget.held > stream.budget.most)
 
     def begin(self, sequence):

@@ -78,6 +78,14 @@ class Ends(PcapCase):
             self.assertIn(" resent=0 ", told[0])
             self.assertEqual(sides(made[0]), (b"ask", b"reply"))
 
+    def test_bytes_that_come_with_the_first_packet(self):
+        """Also where none of the server was captured."""
+        first, server = opened([])[0]._replace(data=b"ask"), opened()[1:2]
+        for more in ((), [each._replace(acknowledged=each.acknowledged + 3) for each in server]):
+            status, told, made = self.convert(capture_of([first, *more]))
+            self.assertEqual((status, told[0].split()[8], [sides(each) for each in made]),
+                             (0, "client=3", [(b"ask", b"")]))
+
     def test_what_the_other_side_said_before_a_reset_is_kept(self):
         """Also where it was captured after the reset, as was what the side itself had said."""
         for side, late in ((zkr.SERVER, ASK), (zkr.CLIENT, ASK), (zkr.SERVER, REPLY), (zkr.CLIENT, REPLY)):
