@@ -69,13 +69,16 @@ class Play:
 
     def run(self):
         """Plays the recording, to its end or to the fault that ends it."""
-        is_end = False
+        is_end, begun = False, b""
         with self.open_recording() as recording:
             for piece in zkr.Reader(recording):
                 if piece.side == self.peer:
-                    self.hear(piece.data)
-                elif is_end := self.say(piece.data):
+                    begun = self.hear(begun + piece.data)
+                    continue
+                begun = self.hear(begun, True)
+                if is_end := self.say(piece.data):
                     break
+            self.hear(begun, True)
         for frame, place in [*([self.end] if self.end and not is_end else []), *self.flips]:
             raise Refused(f"the {NAMES[self.own]}'s bytes ended before frame={frame} place={max(0, place)}, "
                           "so no fault was made there: choose an earlier place")
@@ -183,10 +186,15 @@ class Play:
             self.ended = self.ended or {"closed": self.peer.decode()}
         return None if got else "it has closed its side"
 
-    def hear(self, due):
-        """Takes these bytes from the peer."""
-        for part in self.at[self.peer].parts(due):
+    def hear(self, due, are_all=False):
+        """Takes these bytes from the peer. Unless they `are_all` that come before the next ones of this side, it leaves
+        those at their end that may be a ping's beginning, and returns them."""
+        at = self.at[self.peer]
+        for part in at.parts(due):
+            if not are_all and at.begins() and len(part) < len(PING) and PING.startswith(part):
+                return part
             self.hear_part(part)
+        return b""
 
     def hear_part(self, due):
         """Takes a part of one frame, before which a ping may come; a recorded ping may be missing."""
@@ -226,6 +234,8 @@ class Play:
             elif not PING.startswith(head):
                 return True
             elif reason := self.take(until):
+                if due == PING and not head and (self.has_ended or time.monotonic() >= until):
+                    return False
                 if not head:
                     # (what comes from now on comes too late)
                     raise self.refused(f"expected byte 0x{due[0]:02x}: {reason}", 0)

@@ -10,6 +10,8 @@ from support import CAPTURES, TOOLS, TOP, ToolCase, pieces, receive, sides, zkr
 RUN = TOP / "crates" / "zkdump" / "stdin"       # connect, exists, and their replies: 68 and 61 bytes
 CONNECT, EXISTS = 49, 19                        # the bytes of the client's two frames
 SECONDS = 20
+PING, PONG = bytes.fromhex("00000008fffffffe0000000b"), bytes.fromhex("00000010fffffffe")     # PONG has 12 bytes more
+CLOSE = bytes.fromhex("0000000800000002fffffff5")
 
 
 class Zkplay(ToolCase):
@@ -91,6 +93,34 @@ class Zkplay(ToolCase):
                          "closed its side")
         self.assertEqual(self.refusal(said, "--wait", "0.5"),
                          "client frame=1 offset=68 place=14: expected byte 0x01: nothing came for 0.5 s")
+
+    def assert_played(self, said, heard, *played, words=()):
+        """That a client that says this, and ends once it has heard that, fits the stored run's connect messages with
+        these pieces after them."""
+        path, connect = self.folder / "pings.zkr", pieces(RUN.read_bytes())[:2]
+        path.write_bytes(b"ZKR1" + b"".join(zkr.Head().piece(side, 0, data) for side, data in
+                                            [*[piece[::2] for piece in connect], *played]))
+        player, address = self.play(path, *words)
+        with socket.create_connection(address, SECONDS) as client:
+            client.sendall(connect[0].data + said)
+            self.assertEqual(receive(client, 41 + len(heard)), connect[1].data + heard)
+            client.shutdown(socket.SHUT_WR)
+            self.assertEqual(receive(client, 1), b"")
+        status, out, err = self.ended(player)
+        self.assertEqual((status, out[:7], err), (0, "played:", ""))
+
+    def test_recorded_pings_that_do_not_come(self):
+        """Also the last one, and those after which the client waits for the server."""
+        pong, event = PONG + bytes(12), b"\0\0\0\4some"
+        ping, both = (zkr.CLIENT, PING), [(zkr.CLIENT, PING), (zkr.SERVER, pong)]
+        for played in ([ping], both, [(zkr.CLIENT, PING[:4]), (zkr.CLIENT, PING[4:]), both[1]]):
+            self.assert_played(b"", b"", *played)
+            self.assert_played(PING, pong, *both)
+        self.assert_played(b"", event, *both, (zkr.SERVER, event), words=("--wait", "0.5"))
+
+    def test_pings_before_a_frame_that_was_recorded_in_parts(self):
+        for size in (1, 3, 4):
+            self.assert_played(PING + CLOSE, PONG + bytes(12), (zkr.CLIENT, CLOSE[:size]), (zkr.CLIENT, CLOSE[size:]))
 
     def test_a_damaged_recording(self):
         path = self.folder / "damaged.zkr"
