@@ -79,6 +79,8 @@ class Way:
             self.piece(self.side, data)
             self.unsent = data
             self.send()
+        elif self.side in self.connection.gone:
+            self.ended = True
         else:
             self.connection.ends.append((self.side, "FIN"))
             self.ended = True
@@ -101,13 +103,13 @@ class Way:
 
 class Connection:
     """A client's connection and the one to the server that it is passed on to. `ends` lists how its sides have ended,
-    in order: FIN, RST, or the system's name of an error; `ended` is when both had, in seconds since 1970. `room` holds
-    descriptors for its observer."""
+    in order: FIN, RST, or the system's name of an error; `gone` has those that broke without a FIN before; `ended` is
+    when both had, in seconds since 1970. `room` holds descriptors for its observer."""
 
     def __init__(self, proxy, number, client, peer, room):
         self.proxy, self.number, self.client, self.peer, self.room = proxy, number, client, address_text(peer), room
         self.addresses, self.server, self.ways, self.observer = iter(proxy.server), None, (), None
-        self.ends, self.ended = [], None
+        self.ends, self.gone, self.ended = [], set(), None
         client.setblocking(False)
 
     def connect(self, reason):
@@ -165,7 +167,9 @@ class Connection:
                                 (WRITE if way.back.unsent else 0), way)
 
     def broke(self, side, error):
-        """Notes that a side's connection broke, and did not end."""
+        """Notes that a side's connection broke, and did not end. EPIPE says that it had sent a FIN before."""
+        if error.errno != errno.EPIPE:
+            self.gone.add(side)
         is_reset = error.errno in (errno.ECONNRESET, errno.EPIPE)
         how = side, "RST" if is_reset else errno.errorcode.get(error.errno, "lost")
         if how not in self.ends:

@@ -1,6 +1,7 @@
 """Tests of record.py against a server of our own on loopback."""
 
 import contextlib
+import errno
 import queue
 import re
 import signal
@@ -142,6 +143,27 @@ class Passing(RecordCase):
             client.recv(1)
         self.ended()
         self.assertEqual(sides(self.recording()), (b"hi", b"last words"))
+
+    def test_a_reset_while_bytes_wait_is_no_end(self):
+        """Of a client that doesn't read; the server gets a reset, and no FIN before it."""
+        heard, waits = queue.Queue(), threading.Event()
+
+        def talk(connection):
+            connection.settimeout(0.5)
+            with contextlib.suppress(socket.timeout):
+                while True:
+                    connection.sendall(bytes(1 << 20))
+            connection.settimeout(SECONDS)
+            waits.set()
+            try:
+                heard.put(connection.recv(1))
+            except OSError as error:
+                heard.put(error.errno)
+        client = self.client(self.record(self.server(talk)))
+        self.assertTrue(waits.wait(SECONDS))
+        client.setsockopt(socket.SOL_SOCKET, socket.SO_LINGER, struct.pack("ii", 1, 0))
+        client.close()
+        self.assertEqual((self.ended()[6:], heard.get(timeout=SECONDS)), (["reset=C"], errno.ECONNRESET))
 
     def test_small_writes_are_not_held_back(self):
         client = self.client(self.record(self.server()))
