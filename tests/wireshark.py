@@ -28,6 +28,7 @@ import dissected
 from dissected import SOURCES, TOP, capture_of, joined, mutated, pieces_of, wire, zkr
 import invented
 from listed import listings_of
+from odd import Odd
 import placed
 import resync
 import wanted
@@ -36,7 +37,7 @@ PACKAGES = ("tshark", "wireshark-dev", "gcc", "pkg-config", "cmake")
 MUTANTS_A_RUN = 250
 
 
-class Tests(Connections):
+class Tests(Connections, Odd):
     """Each test_ gives pairs: whether it is as it should be, and what to print otherwise."""
 
     def __init__(self, plugin, folder, words):

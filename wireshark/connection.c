@@ -247,7 +247,7 @@ static struct kept *look(struct connection *connection, packet_info *pinfo, cons
         return look_at_stub(connection, pinfo, piece, way, place, filling);
     }
     guint32 length = (guint32)int_at(piece->bytes);
-    if (length > pref_limit) {
+    if (length > MIN(pref_limit, (guint)G_MAXINT32)) { /* no length is negative, whatever the limit */
         return look_at_length(connection, pinfo, piece, way, place, filling);
     }
     return look_at_frame(connection, pinfo, piece, way, FRAME_HEAD + length, place, filling);
