@@ -2,7 +2,7 @@
 
 import struct
 
-from dissected import capture_of, wire, zkr
+from dissected import capture_of, packed, wire, zkr
 import wanted
 
 HEADS = [zkr.Piece(side.encode(), 0, len(data := bytes.fromhex(digits)).to_bytes(4, "big") + data)
@@ -28,3 +28,22 @@ class Odd:
                 trouble = self.plugin.trouble()
                 shown = [(each["length"], each["kind"]) for each in found[2:3]]
                 yield not trouble and shown == [([str(length)], [])], f"{length}, limit {limit}: {shown}, {trouble}"
+
+    def test_letters_within_a_message(self):
+        """Where a capture begins within a data of letters, the messages after it are shown."""
+        text = "00000001 00000005 00000002 2f61 00001000" + "61" * 4096 + "ffffffff"
+        pieces = [*HEADS, piece(zkr.CLIENT, text), piece(zkr.SERVER, "00000001 0000000000000005 ffffff9b")]
+        for xid in range(2, 6):
+            pieces += (piece(zkr.CLIENT, f"{xid:08x} 00000003 00000002 2f61 01"),
+                       piece(zkr.SERVER, f"{xid:08x} 0000000000000005 ffffff9b"))
+        sent = list(wire.conversation(pieces))
+        first = next(at for at, each in enumerate(sent) if each.data[:4] == b"aaaa")
+        for begin in (sent[first:], sent[:3] + sent[first:]):  # without its SYNs, and with these
+            found = self.plugin.frames(wire.pcap(packed(begin)), "-2")
+            lost = {2, 3, 4, 5} - {int(each["xid"][0]) for each in found if each["kind"] == ["2"]}
+            words = sum(1 for each in found if each["four_letters"])
+            yield not lost and not words, f"requests {sorted(lost)} are not shown, {words} words of four letters"
+        word = list(wire.conversation([zkr.Piece(zkr.CLIENT, 0, b"ruok\n"), zkr.Piece(zkr.SERVER, 0, b"imok")]))
+        for begin in (word, word[3:]):
+            found = [each["four_letters"][0].strip() for each in self.plugin.frames(wire.pcap(packed(begin)))]
+            yield found == ["ruok", "imok"], f"{found}"

@@ -84,6 +84,21 @@ static gboolean is_connect(const struct piece *piece) {
     return judged.status == ZK_WELL;
 }
 
+/* Whether a client's first bytes are a word of four letters. Where the client may have said more before them, four letters
+ * and more are within a message. */
+static gboolean is_word(const struct way *way, const struct piece *piece) {
+    enum { WORD = 4, WITH_LINE_END = 6 };
+    if (piece->side != ZK_CLIENT || piece->there < WORD || !(is_first(way, piece) || piece->size <= WITH_LINE_END)) {
+        return FALSE;
+    }
+    for (int k = 0; k < WORD; k++) {
+        if (!g_ascii_isalpha(piece->bytes[k])) {
+            return FALSE;
+        }
+    }
+    return TRUE;
+}
+
 /* A side's first bytes. */
 static void begin(struct connection *connection, packet_info *pinfo, struct way *way, const struct piece *piece) {
     const struct tcp_analysis *tcp = (const struct tcp_analysis *)conversation_get_proto_data(
@@ -98,8 +113,7 @@ static void begin(struct connection *connection, packet_info *pinfo, struct way 
         way->first = piece->number - way->first;
     }
     way->next = way->end = way->first;
-    if (piece->side == ZK_CLIENT && piece->there >= 4 && g_ascii_isalpha(piece->bytes[0]) &&
-        g_ascii_isalpha(piece->bytes[1]) && g_ascii_isalpha(piece->bytes[2]) && g_ascii_isalpha(piece->bytes[3])) {
+    if (is_word(way, piece)) {
         connection->words = TRUE;
         judge_end(&connection->judge);
         return;
