@@ -231,6 +231,23 @@ static void read_fields(struct shown *shown) {
     shown->op = call ? call->op : shown->frame->kind == ZK_REQUEST ? shown->message.read.operation : 0;
 }
 
+/* Whether the bytes that weren't read may have a password or a credential. */
+static gboolean has_unread_secret(const struct shown *shown) {
+    if (shown->frame->kind == ZK_CONNECT || shown->frame->kind == ZK_CONNECTED) {
+        return !shown_field(shown, ZK_NAME_PASSWD);
+    }
+    return shown->frame->kind == ZK_REQUEST && shown->op == OP_AUTH && !shown_field(shown, ZK_NAME_AUTH);
+}
+
+static void show_unread(const struct shown *shown, int at, int size) {
+    if (pref_hide && has_unread_secret(shown)) {
+        proto_item_set_text(proto_tree_add_bytes_with_length(shown->tree, hf_unread, shown->tvb, at, size,
+                                                             (const guint8 *)"", 0), "Not read: (hidden)");
+    } else {
+        proto_tree_add_item(shown->tree, hf_unread, shown->tvb, at, size, ENC_NA);
+    }
+}
+
 static void show_fields(const struct shown *shown) {
     const struct message *message = &shown->message;
     guint32 length = shown->there - FRAME_HEAD;
@@ -246,8 +263,7 @@ static void show_fields(const struct shown *shown) {
         tree_last_header(shown->tvb, shown->tree, last);
     }
     if (message->end < length) {
-        proto_tree_add_item(shown->tree, hf_unread, shown->tvb, (int)(FRAME_HEAD + message->end),
-                            (int)(length - message->end), ENC_NA);
+        show_unread(shown, (int)(FRAME_HEAD + message->end), (int)(length - message->end));
     }
 }
 
