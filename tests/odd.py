@@ -62,3 +62,18 @@ class Odd:
                          for name, values in each.items() if name not in ("packet", "frame") for value in values]
                 leaks = [value for value in found if secret in value or password[:24] in value]
                 yield bool(leaks) != hide, f"hidden: {hide}, of packets of {snap} bytes: {leaks}"
+
+    def test_times_before_1970(self):
+        """A node's times are longs, which may be negative."""
+        stat = "0000000000000001 0000000000000002 {:016x} {:016x}" + "00000000" * 9
+        for created, changed in ((-1, -86_400_000), (-1001, 1999), (0, 1_000), (-2**63, 2**63 - 1)):
+            times = stat.format(created % 2**64, changed % 2**64)
+            capture = capture_of([*HEADS, piece(zkr.CLIENT, "00000001 00000003 00000002 2f61 01"),
+                                  piece(zkr.SERVER, f"00000001 0000000000000005 00000000 {times}")])
+            for name, number in (("ctime", created), ("mtime", changed)):
+                found = self.plugin.read(capture, "-T", "fields", "-e", f"zookeeper.stat.{name}", "-Y",
+                                         f"zookeeper.stat.{name}").strip()
+                seconds, part = divmod(number, 1000)
+                year = "1969" if number < 0 else "1970"
+                good = found and (abs(number) > 2**60 or year in found and f"{seconds % 60:02}.{part:03}" in found)
+                yield good, f"{name} {number}: {found}"

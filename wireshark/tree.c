@@ -147,8 +147,14 @@ static proto_item *add_field(proto_tree *tree, tvbuff_t *tvb, const struct zk_fi
         }
         return proto_tree_add_item(tree, hf, tvb, at, size, field->kind == ZK_KIND_TEXT ? ENC_UTF_8 : ENC_NA);
     }
-    gboolean is_time = name == FIELD_CTIME || name == FIELD_MTIME;
-    return proto_tree_add_item(tree, hf, tvb, at, size, (is_time ? ENC_TIME_MSECS : 0) | ENC_BIG_ENDIAN);
+    if (name == FIELD_CTIME || name == FIELD_MTIME) {
+        /* Milliseconds, which ENC_TIME_MSECS reads without their sign. */
+        int rest = (int)(field->number % 1000);
+        int part = rest < 0 ? rest + 1000 : rest;
+        nstime_t time = NSTIME_INIT_SECS_NSECS((time_t)((field->number - rest) / 1000 - (rest < 0)), part * 1000000);
+        return proto_tree_add_time(tree, hf, tvb, at, size, &time);
+    }
+    return proto_tree_add_item(tree, hf, tvb, at, size, ENC_BIG_ENDIAN);
 }
 
 void tree_head(tvbuff_t *tvb, proto_tree *tree, guint32 kind, guint32 length) {
