@@ -1,5 +1,6 @@
 """Tests of the plugin for Wireshark over captures that are legal but odd: lengths, packets that were cut, numbers."""
 
+import re
 import struct
 
 from dissected import capture_of, packed, wire, zkr
@@ -77,3 +78,29 @@ class Odd:
                 year = "1969" if number < 0 else "1970"
                 good = found and (abs(number) > 2**60 or year in found and f"{seconds % 60:02}.{part:03}" in found)
                 yield good, f"{name} {number}: {found}"
+
+    def test_headers_that_were_cut(self):
+        """What isn't there of a header is named and counted as unknown, and not as 0."""
+        sent = list(wire.conversation([*HEADS, piece(zkr.CLIENT, "00000001 00000003 00000002 2f61 01"),
+                                       piece(zkr.SERVER, "00000001 0000000000000005 ffffff9b"),
+                                       piece(zkr.SERVER, "ffffffff ffffffffffffffff 00000000 00000003 00000003 "
+                                                         "00000002 2f61")]))
+        asked, answer = ("request #1", "reply #1 ?"), {"Requests by operation": "?", "Replies by error": "?"}
+        for there, infos, counts in (
+                (4, ("request #?", "reply #? ?", "reply #? ?"), answer),
+                (8, (*asked, "event ?"), {**answer, "Events by kind": "?"}),
+                (12, ("exists #1", "exists #1 ?", "event ?"),
+                 {"Requests by operation": "exists", "Replies by error": "?", "Events by kind": "?"}),
+                (20, ("exists #1 /a", "exists #1 NONODE /a", "event ?"),
+                 {"Requests by operation": "exists", "Replies by error": "NONODE", "Events by kind": "?"})):
+            capture = wire.pcap(packed(sent), snap=54 + there)  # 54 bytes before TCP's data
+            found = tuple(self.plugin.read(capture, "-Y", "zookeeper.side && frame.number > 5", "-T", "fields", "-e",
+                                           "_ws.col.Info").splitlines())
+            yield found == infos, f"{there} bytes: {found}"
+            welcome = self.plugin.read(capture, "-Y", "frame.number == 5", "-T", "fields", "-e", "_ws.col.Info").strip()
+            good = ("connected session" in welcome) if there == 20 else welcome == "connect response"
+            yield good, f"{there} bytes: {welcome}"
+            tree = self.plugin.read(capture, "-q", "-z", "zookeeper,tree")
+            for name, row in counts.items():
+                below = re.search(rf"^ {name} .*\n  (\S+) ", tree, re.M)
+                yield below and below[1] == row, f"{there} bytes, {name}: {below and below[1]}"

@@ -63,6 +63,11 @@ static const char *line_of(const struct shown *shown) {
     return wmem_strdup_printf(shown->pinfo->pool, "%.*s(hidden)%s", before, line, behind ? behind : "");
 }
 
+/* Whether all of the header is there, of a message that has one. */
+static gboolean has_head(const struct shown *shown) {
+    return shown->there >= FRAME_HEAD + (shown->frame->kind == ZK_REQUEST ? REQUEST_HEAD : REPLY_HEAD);
+}
+
 /* Divides the words of a packet's messages, in the packet list. */
 static void begin_words(packet_info *pinfo) {
     if (p_get_proto_data(pinfo->pool, pinfo, proto_zookeeper, KEY_WORDS)) {
@@ -78,6 +83,7 @@ static void show_info(const struct shown *shown, const char *path) {
     packet_info *pinfo = shown->pinfo;
     const struct zk_read *read = &shown->message.read;
     const struct zk_field *session = shown_field(shown, ZK_NAME_SESSION_ID), *event = shown_field(shown, ZK_NAME_TYPE);
+    const char *xid = shown->there < FRAME_HEAD + 4 ? "?" : wmem_strdup_printf(pinfo->pool, "%d", read->xid);
     guint64 number = session ? (guint64)session->number : 0;
     begin_words(pinfo);
     switch (shown->frame->kind) {
@@ -88,17 +94,18 @@ static void show_info(const struct shown *shown, const char *path) {
         }
         break;
     case ZK_CONNECTED:
-        col_append_fstr(cinfo, COL_INFO, number ? "connected session 0x%" PRIx64 : "not connected", number);
+        col_append_fstr(cinfo, COL_INFO, number ? "connected session 0x%" PRIx64
+                                         : session ? "not connected" : "connect response", number);
         break;
     case ZK_EVENT:
         col_append_fstr(cinfo, COL_INFO, "event %s", event ? name_of((gint32)event->number, event_kind_names) : "?");
         break;
     case ZK_REQUEST:
-        col_append_fstr(cinfo, COL_INFO, "%s #%d", op_text(pinfo, shown->op), read->xid);
+        col_append_fstr(cinfo, COL_INFO, "%s #%s", has_head(shown) ? op_text(pinfo, shown->op) : "request", xid);
         break;
     case ZK_REPLY:
-        col_append_fstr(cinfo, COL_INFO, "%s #%d %s", shown->frame->call ? op_text(pinfo, shown->op) : "reply",
-                        read->xid, shown->there < FRAME_HEAD + REPLY_HEAD ? "?" : error_text(pinfo, read->err));
+        col_append_fstr(cinfo, COL_INFO, "%s #%s %s", shown->frame->call ? op_text(pinfo, shown->op) : "reply", xid,
+                        has_head(shown) ? error_text(pinfo, read->err) : "?");
         break;
     default:
         col_append_str(cinfo, COL_INFO, "no frame");
@@ -209,6 +216,7 @@ static void tell(const struct shown *shown) {
     told->op = shown->op;
     told->err = shown->message.read.err;
     told->event = event ? (gint32)event->number : 0;
+    told->is_known = told->kind == ZK_EVENT ? event != NULL : has_head(shown);
     told->call = told->kind == ZK_REPLY ? shown->frame->call : NULL;
     tap_queue_packet(tap_zookeeper, shown->pinfo, told);
 }

@@ -40,8 +40,9 @@ static void counts_init(stats_tree *tree) {
     events = stats_tree_create_pivot(tree, "Events by kind", messages);
 }
 
-static void count(stats_tree *tree, int pivot, gint32 number, const value_string *names, packet_info *pinfo) {
-    const char *name = try_val_to_str((guint32)number, names);
+static void count(stats_tree *tree, int pivot, const struct told *told, gint32 number, const value_string *names,
+                  packet_info *pinfo) {
+    const char *name = told->is_known ? try_val_to_str((guint32)number, names) : "?";
     stats_tree_tick_pivot(tree, pivot, name ? name : wmem_strdup_printf(pinfo->pool, "%d", number));
 }
 
@@ -50,11 +51,11 @@ static tap_packet_status counts_packet(stats_tree *tree, packet_info *pinfo, epa
     const struct told *told = (const struct told *)of;
     tick_stat_node(tree, all, 0, TRUE);
     if (told->kind == ZK_REQUEST) {
-        count(tree, requests, told->op, op_names, pinfo);
+        count(tree, requests, told, told->op, op_names, pinfo);
     } else if (told->kind == ZK_REPLY) {
-        count(tree, replies, told->err, error_names, pinfo);
+        count(tree, replies, told, told->err, error_names, pinfo);
     } else if (told->kind == ZK_EVENT) {
-        count(tree, events, told->event, event_kind_names, pinfo);
+        count(tree, events, told, told->event, event_kind_names, pinfo);
     }
     return TAP_PACKET_REDRAW;
 }

@@ -206,6 +206,7 @@ flag dissect_heuristic(tvbuff_t *tvb, packet_info *pinfo, proto_tree *tree, void
 struct told {
     guint32 kind;
     gint32 op, err, event;
+    gboolean is_known;       /* its bytes have the op, the err or the event */
     const struct call *call; /* of a reply */
 };
 
