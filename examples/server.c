@@ -5,7 +5,7 @@
  * It listens at 127.0.0.1 (0, or no PORT: any free port), prints the port, and answers one client until that ends the
  * connection. Its frames are written from fields. One talk judges both sides: it refuses what the client may not send,
  * and what this server may not answer. The status is 0 if the client has ended between two messages, 1 if one was
- * refused, 2 if there is no connection. */
+ * refused or the connection broke, 2 if there is no connection. */
 #define _POSIX_C_SOURCE 200809L
 #include "zk.h"
 
@@ -47,7 +47,7 @@ static struct zk_written answer(struct zk_message asked, uint8_t *out, size_t ro
 
 static bool sent(int client, const uint8_t *bytes, size_t length) {
     while (length > 0) {
-        ssize_t count = send(client, bytes, length, 0);
+        ssize_t count = send(client, bytes, length, MSG_NOSIGNAL);
         if (count <= 0) return false;
         bytes += count;
         length -= (size_t)count;
@@ -103,11 +103,13 @@ int main(int count, char **words) {
     ssize_t came = 0;
     bool good = true;
     while (good && (came = recv(client, bytes, sizeof bytes, 0)) > 0) good = serve(&talk, client, bytes, (size_t)came);
+    const char *broke = came < 0 ? strerror(errno) : NULL;
     struct zk_ending ending = zk_talk_finish(&talk);
     struct zk_line line = zk_talk_ending_line(&talk, text, sizeof text);
     if (ending.kind != ZK_WHOLE) fprintf(stderr, "server: %.*s\n", (int)line.length, (const char *)text);
+    else if (broke != NULL) failed(broke);
     else if (!good) failed("the client has ended the connection before its answer");
     zk_talk_free(&talk);
     close(client);
-    return good && ending.kind == ZK_WHOLE ? 0 : 1;
+    return good && broke == NULL && ending.kind == ZK_WHOLE ? 0 : 1;
 }

@@ -3,7 +3,9 @@
 tests/examples.py calls it.
 """
 
+import signal
 import socket
+import struct
 import subprocess
 
 PATIENCE = 20  # seconds
@@ -35,8 +37,29 @@ def answered(port, digits):
         return answers.read(len(bytes.fromhex(ANSWERS))).hex()
 
 
+def gone(program, reset):
+    """The server's status, and its line on standard error, where the client is gone before its answers, or resets the
+    connection between two messages."""
+    with subprocess.Popen([program], stdout=subprocess.PIPE, stderr=subprocess.PIPE, text=True) as process:
+        port = int(process.stdout.readline())
+        with socket.create_connection(("127.0.0.1", port), PATIENCE) as end, end.makefile("rb") as answers:
+            end.sendall(bytes.fromhex(HELLO))
+            answers.read(40)
+            process.send_signal(signal.SIGSTOP)
+            if reset:
+                end.setsockopt(socket.SOL_SOCKET, socket.SO_LINGER, struct.pack("ii", 1, 0))
+            else:
+                end.sendall(bytes.fromhex(EXISTS) * 50)
+        process.send_signal(signal.SIGCONT)
+        return process.wait(PATIENCE), process.stderr.read()
+
+
 def check(program, client):
     """Whether it answers what it should, and refuses what a client may not send."""
+    for name, reset, told in (("a client that is gone", False, "the client has ended the connection before its answer"),
+                              ("a reset", True, "Connection reset by peer")):
+        found = gone(program, reset)
+        yield name, found == (1, f"server: {told}\n"), f"server, {name}: {found}"
     for name, speak, wanted in (
         ("answers", lambda port: answered(port, HELLO + EXISTS + ENDS), (bytes.fromhex(ANSWERS).hex(), 0, "")),
         ("another first message", lambda port: answered(port, EXISTS),
