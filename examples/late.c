@@ -6,7 +6,7 @@
  * It passes over the recording's first COUNT pieces; the next of each side has to begin with a frame. Replies to requests
  * in what it passed over have their xid, zxid and err; requests whose operation the profile lacks, and their replies, xid
  * and operation. The recording has the format ZKR1 (docs/FORMATS.md, section 12). The status is 0 if it was read to its
- * end. */
+ * end, or up to a refusal, and all is written; else 2. */
 #include "zk.h"
 
 #include <errno.h>
@@ -31,11 +31,12 @@ static void put_message(struct zk_through *through, uint32_t side) {
     free(text);
 }
 
-/* Prints what these bytes of a side complete. False at a fault, or where more would wait than may. */
+/* Prints what these bytes of a side complete. False at a fault. */
 static bool put_frames(struct zk_through *through, uint32_t side, const uint8_t *bytes, size_t length) {
     while (length > 0) {
         struct zk_passed step = zk_through_step(through, side, bytes, length);
-        if (step.status != ZK_WELL || step.went == ZK_FULL) return false;
+        if (step.status != ZK_WELL) return false;
+        if (step.went == ZK_FULL) fail("more requests wait than may");
         if (step.went == ZK_MESSAGE) put_message(through, side);
         else if (step.went == ZK_UNSEEN)
             printf("S %" PRId32 " zxid=%" PRId64 " err=%" PRId32 ", not seen asked\n", step.xid, step.zxid, step.err);
@@ -51,8 +52,10 @@ static bool put_frames(struct zk_through *through, uint32_t side, const uint8_t 
 static void list(struct zk_through *through, FILE *recording, unsigned long first) {
     uint8_t head[5], *piece = NULL;
     bool good = true;
+    size_t got;
     if (fread(head, 1, 4, recording) != 4 || memcmp(head, "ZKR1", 4) != 0) fail("the file is no recording of format ZKR1");
-    for (unsigned long i = 0; good && fread(head, 1, 5, recording) == 5; i++) {
+    for (unsigned long i = 0; good && (got = fread(head, 1, 5, recording)) > 0; i++) {
+        if (got != 5 || (head[0] != 'C' && head[0] != 'S')) fail("the recording is damaged");
         size_t length = (size_t)head[1] << 24 | (size_t)head[2] << 16 | (size_t)head[3] << 8 | head[4];
         uint8_t *larger = realloc(piece, length + 1);
         if (larger == NULL) fail("out of memory");
@@ -85,5 +88,6 @@ int main(int count, char **words) {
     put_ending(&through);
     zk_through_free(&through);
     fclose(recording);
+    if (ferror(stdout) || fflush(stdout) != 0) fail("standard output can't be written");
     return 0;
 }

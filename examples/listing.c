@@ -2,7 +2,8 @@
  *
  *     listing RECORDING
  *
- * The recording has the format ZKR1 (docs/FORMATS.md, section 12). The status is 0 if it was read to its end. */
+ * The recording has the format ZKR1 (docs/FORMATS.md, section 12). The status is 0 if it was read to its end, or up to
+ * a refusal, and all is written; else 2. */
 #include "zk.h"
 
 #include <errno.h>
@@ -55,8 +56,10 @@ static bool put_messages(struct zk_talk *talk, uint32_t side, const uint8_t *byt
 static void list(struct zk_talk *talk, FILE *recording, struct text *text) {
     uint8_t head[5], *piece = NULL;
     bool good = true;
+    size_t got;
     if (fread(head, 1, 4, recording) != 4 || memcmp(head, "ZKR1", 4) != 0) fail("the file is no recording of format ZKR1");
-    while (good && fread(head, 1, 5, recording) == 5) {
+    while (good && (got = fread(head, 1, 5, recording)) > 0) {
+        if (got != 5 || (head[0] != 'C' && head[0] != 'S')) fail("the recording is damaged");
         size_t length = (size_t)head[1] << 24 | (size_t)head[2] << 16 | (size_t)head[3] << 8 | head[4];
         uint8_t *larger = realloc(piece, length + 1);
         if (larger == NULL) fail("out of memory");
@@ -85,5 +88,6 @@ int main(int count, char **words) {
     zk_talk_free(&talk);
     free(text.bytes);
     fclose(recording);
+    if (ferror(stdout) || fflush(stdout) != 0) fail("standard output can't be written");
     return 0;
 }

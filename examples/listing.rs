@@ -109,8 +109,13 @@ mod zk {
 fn pieces(recording: &[u8]) -> Option<Vec<(zk::Side, &[u8])>> {
     let mut rest = recording.strip_prefix(b"ZKR1")?;
     let mut pieces = Vec::new();
-    while let Some((head, behind)) = rest.split_first_chunk::<5>() {
-        let side = if head[0] == b'C' { zk::Side::Client } else { zk::Side::Server };
+    while !rest.is_empty() {
+        let (head, behind) = rest.split_first_chunk::<5>()?;
+        let side = match head[0] {
+            b'C' => zk::Side::Client,
+            b'S' => zk::Side::Server,
+            _ => return None,
+        };
         let length = u32::from_be_bytes([head[1], head[2], head[3], head[4]]) as usize;
         let (piece, next) = behind.split_at_checked(length)?;
         pieces.push((side, piece));

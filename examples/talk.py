@@ -192,8 +192,10 @@ def pieces(recording):
         raise ValueError("the file is no recording of format ZKR1")
     at = 4
     while at < len(recording):
-        length = int.from_bytes(recording[at + 1:at + 5], "big")
-        yield CLIENT if recording[at:at + 1] == b"C" else SERVER, recording[at + 5:at + 5 + length]
+        side, length = b"CS".find(recording[at:at + 1]), int.from_bytes(recording[at + 1:at + 5], "big")
+        if side < 0 or len(recording) < at + 5 + length:
+            raise ValueError("the recording is damaged")
+        yield (CLIENT, SERVER)[side], recording[at + 5:at + 5 + length]
         at += 5 + length
 
 

@@ -12,6 +12,7 @@ import platform
 import re
 import shutil
 import socket
+import struct
 import subprocess
 import sys
 import threading
@@ -127,6 +128,31 @@ def list_recordings(name, *words):
             yield path.stem, good, f"{name} --say {path.stem}: status {found.returncode}, {told}"
 
 
+def list_damaged(folder, name, words, *more):
+    """Whether an example reports a recording that is damaged, and an output that can't be written."""
+    for what, tail in (("whole", b""), ("a part of a head", b"C\0\0"), ("a part of a piece", b"C\0\0\0\5abcd"),
+                       ("no side", b"X\0\0\0\1a")):
+        path = pathlib.Path(folder, "damaged.zkr")
+        path.write_bytes((CAPTURES / "kazoo_basic.zkr").read_bytes() + tail)
+        found = subprocess.run([*words, path, *more], capture_output=True, text=True)
+        good = (found.returncode == 0) != bool(tail) and bool(found.stderr) == bool(tail)
+        yield what, good, f"{name}, {what}: status {found.returncode}, {found.stderr}"
+        if not tail and os.path.exists("/dev/full"):
+            with open("/dev/full", "wb") as full:
+                found = subprocess.run([*words, path, *more], stdout=full, stderr=subprocess.PIPE, text=True)
+            yield "full", found.returncode != 0, f"{name}, a full disk: status {found.returncode}, {found.stderr}"
+
+
+def wait_late(folder, program):
+    """Whether a reader that comes late reports that more requests wait than may, and that it reads no further."""
+    path = pathlib.Path(folder, "waiting.zkr")
+    frames = b"".join(struct.pack(">IiiI2sB", 15, xid, 3, 2, b"/a", 0) for xid in range(1, 65538))
+    path.write_bytes(b"ZKR1C" + len(frames).to_bytes(4, "big") + frames)
+    found = subprocess.run([program, path, "0"], capture_output=True, text=True)
+    good = (found.returncode, found.stderr) == (2, "late: more requests wait than may\n")
+    yield "late, waiting", good, f"late: status {found.returncode}, {found.stderr}{found.stdout[-100:]}"
+
+
 def unseen(line):
     """What a reader that didn't see its request has of a reply's line."""
     words = dict(re.findall(r" (zxid|err)=(-?\d+)", line))
@@ -237,7 +263,10 @@ def check(folder, archive, shared, cc):
     programs = compiled(folder, archive, cc)
     for name, *words in listers(folder, programs, archive, shared):
         yield from list_recordings(name, *words)
+        yield from list_damaged(folder, name, words)
     yield from come_late(programs["late"])
+    yield from list_damaged(folder, "late.c", [programs["late"]], "2")
+    yield from wait_late(folder, programs["late"])
     yield from show_fields(programs["fields"])
     yield from complain(programs)
     found = subprocess.run([programs["first"]], capture_output=True, text=True)
