@@ -8,7 +8,8 @@ from typing import Callable, NamedTuple, Optional, Sequence, Tuple, Union
 from . import _calls
 from ._names import FIELDS, OPERATIONS, STATUSES
 
-ROOM, RANGE, XID_ORDER, LAST_REASON = 68, 67, 14, 15
+ROOM, RANGE, XID_ORDER, LAST_REASON, TOO_LONG = 68, 67, 14, 15, 83
+LONGEST = (1 << 31) - 1  # payload
 
 
 class Side(enum.IntEnum):

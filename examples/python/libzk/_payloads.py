@@ -6,8 +6,8 @@ from typing import Callable, List, Sequence, Tuple, Union
 
 from . import _calls
 from ._calls import library
-from ._messages import (RANGE, ROOM, Field, FieldKind, Kind, Message, Refused, Side, Value, fields_of,
-                        number_of, written)
+from ._messages import (LONGEST, RANGE, ROOM, TOO_LONG, Field, FieldKind, Kind, Message, Refused, Side, Value,
+                        fields_of, number_of, written)
 from ._names import OPERATIONS, Profile
 
 Item = Union[Field, Tuple[FieldKind, Value]]
@@ -99,9 +99,11 @@ def _item(index: int, kind: FieldKind, value: Value, content: bytearray) -> _cal
     if kind == FieldKind.TEXT and isinstance(value, str):
         value = value.encode()
     if isinstance(value, (bytes, bytearray, memoryview)) and kind in (FieldKind.TEXT, FieldKind.BLOB):
-        place = len(content)
+        place, length = len(content), memoryview(value).nbytes
+        if place + length > LONGEST:  # which a field couldn't say
+            raise Refused(TOO_LONG, index)
         content += value
-        return _calls.Field(kind=kind, place=place, length=len(value))
+        return _calls.Field(kind=kind, place=place, length=length)
     if not isinstance(value, int) or kind in (FieldKind.TEXT, FieldKind.BLOB):
         raise TypeError(f"{value!r} is no value of the kind {kind.name}")
     if not -1 << 63 <= value < 1 << 63:

@@ -3,8 +3,10 @@
     python3 -m unittest discover examples/python/tests
 """
 
+import array
 import copy
 import gc
+import mmap
 import pickle
 import time
 import unittest
@@ -163,6 +165,16 @@ class Writing(unittest.TestCase):
         for item in ((FieldKind.INT, "1"), (FieldKind.TEXT, 1), (FieldKind.BLOB, "a")):
             with self.assertRaises(TypeError):
                 libzk.write_request(1, "exists", [item])
+
+    def test_bytes_of_any_buffer_are_written(self):
+        words = memoryview(array.array("i", [1, 2]))
+        data = [(FieldKind.TEXT, "/a"), (FieldKind.BLOB, words), (FieldKind.INT, -1)]
+        payload = libzk.write_request(1, "setData", data)[4:]
+        self.assertEqual(libzk.read_request(Profile.V34, payload)["data"], words.tobytes())
+        with mmap.mmap(-1, (1 << 32) + 1, flags=mmap.MAP_PRIVATE | mmap.MAP_ANONYMOUS, prot=mmap.PROT_READ) as zeros:
+            with memoryview(zeros) as longer, self.assertRaises(Refused) as caught:
+                libzk.write_request(1, "setData", [data[0], (FieldKind.BLOB, longer), data[2]])
+        self.assertEqual((caught.exception.name, caught.exception.place), ("TOO_LONG", 1))
 
     def test_a_client_judges_what_it_writes(self):
         with Talk() as talk:
