@@ -50,7 +50,7 @@ class Odd:
             yield found == ["ruok", "imok"], f"{found}"
 
     def test_secrets_that_are_not_read_are_hidden(self):
-        """A credential after a fault, as of an auth under another xid, and the front of one in a packet that was cut."""
+        """A credential after a fault, as of an auth under another xid, and the front of one that was cut."""
         secret, password = "736563726574", "000102030405060708090a0b0c0d0e0f"
         auth = f"00000064 00000000 00000006 646967657374 0000000c {secret * 2}"
         welcome = "00000000 00007530 0100000000000001 00000010" + password
@@ -97,7 +97,8 @@ class Odd:
             found = tuple(self.plugin.read(capture, "-Y", "zookeeper.side && frame.number > 5", "-T", "fields", "-e",
                                            "_ws.col.Info").splitlines())
             yield found == infos, f"{there} bytes: {found}"
-            welcome = self.plugin.read(capture, "-Y", "frame.number == 5", "-T", "fields", "-e", "_ws.col.Info").strip()
+            welcome = self.plugin.read(capture, "-Y", "frame.number == 5", "-T", "fields", "-e",
+                                       "_ws.col.Info").strip()
             good = ("connected session" in welcome) if there == 20 else welcome == "connect response"
             yield good, f"{there} bytes: {welcome}"
             tree = self.plugin.read(capture, "-q", "-z", "zookeeper,tree")

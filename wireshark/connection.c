@@ -84,7 +84,7 @@ static gboolean is_connect(const struct piece *piece) {
     return judged.status == ZK_WELL;
 }
 
-/* Whether a client's first bytes are a word of four letters. Where the client may have said more before them, four letters
+/* Whether a client's first bytes are a word of four letters. Where the client may have said more before them, letters
  * and more are within a message. */
 static gboolean is_word(const struct way *way, const struct piece *piece) {
     enum { WORD = 4, WITH_LINE_END = 6 };
