@@ -416,10 +416,11 @@ struct zk_payload zk_judge_request(uint32_t profile, const uint8_t *bytes, size_
 struct zk_payload zk_judge_connected(const uint8_t *bytes, size_t length);
 
 /* Whether the payload is that of a reply to a request of this operation; for a multi, parts are the operations of its
- * count parts. ZK_RANGE if a number is unknown or another operation has parts; ZK_MISFIT if the xid is an event's, -1. */
+ * count parts. ZK_RANGE if a number is unknown or another operation has parts; ZK_MISFIT if all of the header is there and
+ * its xid is an event's, -1. */
 struct zk_payload zk_judge_reply(int32_t operation, const int32_t *parts, size_t count, const uint8_t *bytes, size_t length);
 
-/* Whether the payload is that of an event. ZK_MISFIT if the xid isn't -1: a reply's. */
+/* Whether the payload is that of an event. ZK_MISFIT if all of the header is there and its xid isn't -1: a reply's. */
 struct zk_payload zk_judge_event(const uint8_t *bytes, size_t length);
 
 /* Writes the fields of a connect request's payload into `out`, which has room for `room` fields and doesn't overlap it.
