@@ -177,11 +177,16 @@ static void show(const struct zk_read *read, uint16_t content, uint16_t number) 
 
 static int connection(const char *host, const char *port) {
     struct addrinfo wanted = {0}, *found = NULL;
+    int to = -1, yes = 1;
     wanted.ai_socktype = SOCK_STREAM;
     int failed = getaddrinfo(host, port, &wanted, &found);
     if (failed != 0) fail(2, gai_strerror(failed));
-    int to = socket(found->ai_family, found->ai_socktype, found->ai_protocol), yes = 1;
-    if (to < 0 || connect(to, found->ai_addr, found->ai_addrlen) != 0) fail(2, strerror(errno));
+    for (struct addrinfo *each = found; each != NULL; each = each->ai_next) { /* the first address that answers */
+        to = socket(each->ai_family, each->ai_socktype, each->ai_protocol);
+        if (to >= 0 && connect(to, each->ai_addr, each->ai_addrlen) == 0) break;
+        if (each->ai_next == NULL) fail(2, strerror(errno));
+        if (to >= 0) close(to);
+    }
     if (setsockopt(to, IPPROTO_TCP, TCP_NODELAY, &yes, sizeof yes) != 0) fail(2, strerror(errno));
     freeaddrinfo(found);
     return to;

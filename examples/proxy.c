@@ -10,8 +10,8 @@
  *
  * One thread serves all connections, and no call blocks. Of each direction at most PIECE bytes are kept; while the
  * receiver takes none of them, nothing more is read from the sender, whose own sending then waits. A client of which
- * WAITING requests wait is held up likewise, until the server replies. If one end has sent all, the other end learns
- * so, and its own direction goes on. */
+ * WAITING requests wait is held up likewise, until the server replies; its next is refused if no reply can come. If
+ * one end has sent all, the other end learns so, and its own direction goes on. */
 #define _POSIX_C_SOURCE 200809L
 #include "zk.h"
 
@@ -37,8 +37,9 @@ enum { MOST = 1000, PIECE = 65536, WAITING = 1024, LIMIT = 1 << 22, LANES = 4, S
 /* What came from one end, and isn't yet passed on to the other; of that, what was seen. */
 struct way {
     size_t from, seen, to;
-    bool ended; /* nothing more comes */
-    bool shut;  /* and the other end knows it */
+    uint64_t frames, offset; /* how many frames and bytes were seen, of all that came */
+    bool ended;              /* nothing more comes */
+    bool shut;               /* and the other end knows it */
     uint8_t bytes[PIECE];
 };
 
@@ -58,15 +59,15 @@ struct reader {
 struct connection {
     unsigned long number;
     int ends[2];
-    bool connected;        /* to the server */
-    struct reader *reader; /* NULL: what comes is passed on unseen */
+    const struct addrinfo *next; /* the server's address that is tried next */
+    bool connected;              /* to the server */
+    struct reader *reader;       /* NULL: what comes is passed on unseen */
     struct way ways[2];
 };
 
 static struct connection *all[MOST];
 static size_t count;
-/* Readers that are over: the next connections begin them anew, which is sooner done than to make one. What was touched
- * of their memory stays with them, so more aren't kept. */
+/* Readers that are over, which the next connections begin anew. What was touched of their memory stays with them. */
 static struct reader *spares[SPARES];
 static size_t spare_count;
 static struct addrinfo *server;
@@ -101,8 +102,7 @@ static void free_reader(struct reader *reader) {
 static struct reader *new_reader(void) {
     if (spare_count > 0) return spares[--spare_count];
     struct reader *reader = calloc(1, sizeof *reader);
-    if (reader == NULL) return NULL;
-    if (zk_through_new(&reader->through, LIMIT, LIMIT, WAITING, ZK_PROFILE_35) == ZK_WELL) return reader;
+    if (reader == NULL || zk_through_new(&reader->through, LIMIT, LIMIT, WAITING, ZK_PROFILE_35) == ZK_WELL) return reader;
     free(reader);
     return NULL;
 }
@@ -111,23 +111,15 @@ static struct reader *new_reader(void) {
 static void end_reader(struct connection *it) {
     struct reader *reader = it->reader;
     it->reader = NULL;
-    if (spare_count == SPARES) {
-        free_reader(reader);
-        return;
-    }
     zk_through_renew(&reader->through);
     memset(reader->lanes, 0, sizeof reader->lanes);
-    spares[spare_count++] = reader;
+    if (spare_count < SPARES) spares[spare_count++] = reader;
+    else free_reader(reader);
 }
 
 /* The replies of a lane come in the order of its requests. */
 static struct lane *lane_of(struct reader *reader, int32_t xid) {
-    switch (xid) {
-    case -2: return &reader->lanes[1]; /* pings */
-    case -4: return &reader->lanes[2]; /* auths */
-    case -8: return &reader->lanes[3]; /* setWatches */
-    default: return &reader->lanes[0];
-    }
+    return &reader->lanes[xid == -2 ? 1 : xid == -4 ? 2 : xid == -8 ? 3 : 0]; /* pings, auths, setWatches, all else */
 }
 
 /* Notes a request's time, or returns how long ago the request of a reply came; else -1. */
@@ -161,9 +153,8 @@ static void begin_line(const struct connection *it, int64_t waited) {
 /* Makes room for a text that was too long. */
 static bool longer(struct zk_line line) {
     if (line.status != ZK_ROOM) return false;
-    uint8_t *bytes = realloc(text, line.length);
-    if (bytes == NULL) fail("memory", strerror(errno));
-    text = bytes;
+    text = realloc(text, line.length);
+    if (text == NULL) fail("memory", strerror(errno));
     room = line.length;
     return true;
 }
@@ -193,8 +184,7 @@ static void put_reason(uint32_t reason) {
 }
 
 /* Prints how the conversation ended, by a fault if there was one, and reads it no more. */
-static void put_ending(struct connection *it) {
-    struct zk_ending ending = zk_through_finish(&it->reader->through);
+static void put_ending(struct connection *it, struct zk_ending ending) {
     const struct zk_fault *fault = &ending.fault;
     begin_line(it, -1);
     if (ending.kind == ZK_REFUSED) {
@@ -211,22 +201,32 @@ static void put_ending(struct connection *it) {
     end_reader(it);
 }
 
+/* The ending by the client's next frame, for which there is no place: the rest of it is what wasn't seen. */
+static struct zk_ending full(struct zk_through *through, struct way *way) {
+    do way->offset++;
+    while (zk_through_step(through, ZK_CLIENT, way->bytes + way->seen++, 1).went != ZK_FULL && way->seen < way->to);
+    return (struct zk_ending){.kind = ZK_REFUSED,
+                              .fault = {way->frames, way->offset, ZK_CLIENT, 0, ZK_QUEUE_FULL, 0, 0}};
+}
+
 /* Prints what came from a side and wasn't seen. While as many requests wait as may, the client's next stays unseen. */
 static void see(struct connection *it, uint32_t side) {
     struct way *way = &it->ways[side];
     while (it->reader != NULL && way->seen < way->to) {
-        const uint8_t *bytes = way->bytes + way->seen;
-        struct zk_passed passed = zk_through_step(&it->reader->through, side, bytes, way->to - way->seen);
+        struct zk_through *through = &it->reader->through;
+        struct zk_passed passed = zk_through_step(through, side, way->bytes + way->seen, way->to - way->seen);
         if (passed.status != ZK_WELL) {
-            put_ending(it);
+            put_ending(it, zk_through_finish(through));
         } else if (passed.went != ZK_FULL) {
             if (passed.went == ZK_MESSAGE) put_message(it, side);
             else if (passed.went != ZK_WITHIN) put_left_out(it, side, &passed);
             way->seen += passed.used;
+            way->offset += passed.used;
+            way->frames += passed.went != ZK_WITHIN;
         } else if (!it->ways[ZK_SERVER].ended && unanswered(it->reader) > 0) {
             return;
         } else { /* no reply comes */
-            put_ending(it);
+            put_ending(it, full(through, way));
         }
     }
     way->seen = way->to;
@@ -268,13 +268,31 @@ static bool take(struct connection *it, uint32_t side) {
     return pass(it, side);
 }
 
+/* No call blocks, and a small piece is passed on at once, though an earlier one isn't acknowledged yet. */
+static bool ready(int socket) {
+    int flags = fcntl(socket, F_GETFL), yes = 1;
+    if (flags < 0 || fcntl(socket, F_SETFL, flags | O_NONBLOCK) != 0) return false;
+    return setsockopt(socket, IPPROTO_TCP, TCP_NODELAY, &yes, sizeof yes) == 0;
+}
+
+/* Begins to connect to the next of the server's addresses; false if there is none. */
+static bool reach(struct connection *it) {
+    int *end = &it->ends[ZK_SERVER];
+    for (const struct addrinfo *to; (to = it->next) != NULL;) {
+        it->next = to->ai_next;
+        if (*end >= 0) close(*end);
+        *end = socket(to->ai_family, to->ai_socktype, to->ai_protocol);
+        if (ready(*end) && (connect(*end, to->ai_addr, to->ai_addrlen) == 0 || errno == EINPROGRESS)) return true;
+    }
+    return false;
+}
+
 /* The server has accepted the connection, or hasn't. */
 static bool connected(struct connection *it) {
     int fault = 0;
     socklen_t size = sizeof fault;
-    if (getsockopt(it->ends[ZK_SERVER], SOL_SOCKET, SO_ERROR, &fault, &size) != 0 || fault != 0) return false;
-    it->connected = true;
-    return pass(it, ZK_CLIENT);
+    it->connected = getsockopt(it->ends[ZK_SERVER], SOL_SOCKET, SO_ERROR, &fault, &size) == 0 && fault == 0;
+    return it->connected ? pass(it, ZK_CLIENT) : reach(it);
 }
 
 /* What is to be waited for at an end. */
@@ -296,21 +314,9 @@ static bool serve(struct connection *it, uint32_t side, short asked, short happe
 
 /* ---- Connections */
 
-static bool without_blocking(int socket) {
-    int flags = fcntl(socket, F_GETFL);
-    return flags >= 0 && fcntl(socket, F_SETFL, flags | O_NONBLOCK) == 0;
-}
-
-/* A small piece is passed on at once, though an earlier one isn't acknowledged yet. */
-static bool ready(int socket) {
-    int yes = 1;
-    if (socket < 0 || !without_blocking(socket)) return false;
-    return setsockopt(socket, IPPROTO_TCP, TCP_NODELAY, &yes, sizeof yes) == 0;
-}
-
 static void give_up(size_t at) {
     struct connection *it = all[at];
-    if (it->reader != NULL) put_ending(it);
+    if (it->reader != NULL) put_ending(it, zk_through_finish(&it->reader->through));
     for (uint32_t side = ZK_CLIENT; side <= ZK_SERVER; side++)
         if (it->ends[side] >= 0) close(it->ends[side]);
     free(it);
@@ -327,27 +333,24 @@ static void begin(int client) {
     }
     it->number = ++number;
     it->ends[ZK_CLIENT] = client;
-    it->ends[ZK_SERVER] = socket(server->ai_family, server->ai_socktype, server->ai_protocol);
+    it->ends[ZK_SERVER] = -1;
+    it->next = server;
     it->reader = new_reader();
     all[count++] = it;
-    int to = it->ends[ZK_SERVER];
-    if (!ready(client) || !ready(to)) give_up(count - 1);
-    else if (connect(to, server->ai_addr, server->ai_addrlen) == 0) it->connected = true;
-    else if (errno != EINPROGRESS) give_up(count - 1);
+    if (!ready(client) || !reach(it)) give_up(count - 1);
 }
 
 /* Waits until something happens, and does what is then to do. */
 static void turn(int listener) {
     static struct pollfd waited[1 + 2 * MOST];
+    static int64_t resumes; /* when clients are taken again, as none could be */
     size_t served = count;
-    waited[0] = (struct pollfd){count < MOST ? listener : -1, POLLIN, 0};
-    for (size_t i = 0; i < served; i++) {
-        for (uint32_t side = ZK_CLIENT; side <= ZK_SERVER; side++) {
-            short events = awaited(all[i], side);
-            waited[1 + 2 * i + side] = (struct pollfd){events ? all[i]->ends[side] : -1, events, 0};
-        }
+    waited[0] = (struct pollfd){count < MOST && now() >= resumes ? listener : -1, POLLIN, 0};
+    for (size_t i = 0; i < 2 * served; i++) {
+        short events = awaited(all[i / 2], i % 2);
+        waited[1 + i] = (struct pollfd){events ? all[i / 2]->ends[i % 2] : -1, events, 0};
     }
-    if (poll(waited, 1 + 2 * served, 1000) <= 0) return;
+    if (poll(waited, 1 + 2 * served, 100) <= 0) return;
     for (size_t i = served; i-- > 0;) { /* backwards, as giving up moves the last one */
         struct connection *it = all[i];
         const struct pollfd *end = &waited[1 + 2 * i];
@@ -358,35 +361,32 @@ static void turn(int listener) {
     if (waited[0].revents & POLLIN) {
         int client = accept(listener, NULL, NULL);
         if (client >= 0) begin(client);
+        else if (!later()) resumes = now() + 100000;
     }
 }
 
 static int listening(const char *port) {
-    struct sockaddr_in at = {0};
+    struct sockaddr_in at = {.sin_family = AF_INET, .sin_port = htons((uint16_t)atoi(port)),
+                             .sin_addr.s_addr = htonl(INADDR_LOOPBACK)};
     socklen_t size = sizeof at;
     int listener = socket(AF_INET, SOCK_STREAM, 0), yes = 1;
-    at.sin_family = AF_INET;
-    at.sin_port = htons((uint16_t)atoi(port));
-    at.sin_addr.s_addr = htonl(INADDR_LOOPBACK);
     bool good = listener >= 0 && setsockopt(listener, SOL_SOCKET, SO_REUSEADDR, &yes, sizeof yes) == 0;
     good = good && bind(listener, (struct sockaddr *)&at, sizeof at) == 0 && listen(listener, 128) == 0;
-    good = good && without_blocking(listener) && getsockname(listener, (struct sockaddr *)&at, &size) == 0;
+    good = good && ready(listener) && getsockname(listener, (struct sockaddr *)&at, &size) == 0;
     if (!good) fail(port, strerror(errno));
     printf("listening on 127.0.0.1:%u\n", (unsigned)ntohs(at.sin_port));
     return listener;
 }
 
 int main(int given, char **words) {
-    struct addrinfo wanted = {0};
-    struct sigaction ending = {0};
+    struct addrinfo wanted = {.ai_socktype = SOCK_STREAM};
+    struct sigaction ending = {.sa_handler = stop};
     if (given != 4) {
         fputs("usage: proxy PORT SERVER SERVERPORT\n", stderr);
         return 2;
     }
-    wanted.ai_socktype = SOCK_STREAM;
     int failed = getaddrinfo(words[2], words[3], &wanted, &server);
     if (failed != 0) fail(words[2], gai_strerror(failed));
-    ending.sa_handler = stop;
     if (sigaction(SIGINT, &ending, NULL) != 0 || sigaction(SIGTERM, &ending, NULL) != 0) fail("sigaction", strerror(errno));
     setvbuf(stdout, NULL, _IOLBF, BUFSIZ);
     int listener = listening(words[1]);

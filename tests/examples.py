@@ -103,6 +103,27 @@ def run_client(program):
     yield "client, refused", good, f"client: {found.returncode}, {told}"
 
 
+def try_addresses(folder, archive, cc):
+    """Whether the client and the proxy find a server at a name's second address, where the first one refuses."""
+    first = TOP / "tests" / "refused_first.h"
+    programs = {name: os.path.join(folder, f"{name}_second") for name in ("client", "proxy")}
+    for name, program in programs.items():
+        subprocess.run([cc, *STRICT, "-include", first, f"-I{TOP / 'include'}", "-o", program, EXAMPLES / f"{name}.c",
+                        archive, "-pthread"], check=True)
+    with answering.Server() as server:
+        threading.Thread(target=server.serve_forever, daemon=True).start()
+        words = ["127.0.0.1", str(server.port), "/a", '"hü"']
+        found = subprocess.run([programs["client"], *words], capture_output=True, text=True)
+        yield "client, addresses", found.stdout == SAID, f"client, addresses: {found.stdout}{found.stderr}"
+        proxy = passing.Proxy(programs["proxy"], server.port)
+        with proxy.connect() as client:
+            client.sendall(passing.HELLO)
+            got = len(came(client, 41))
+        status = proxy.end()
+        server.shutdown()
+    yield "proxy, addresses", (got, status) == (41, (0, "")), f"proxy, addresses: {got} bytes, {status}"
+
+
 # ---- Listings and fields
 
 
@@ -274,6 +295,7 @@ def check(folder, archive, shared, cc):
     yield "first", good, f"first: status {found.returncode}, {found.stdout}{found.stderr}"
     yield from passing.check(programs["proxy"])
     yield from run_client(programs["client"])
+    yield from try_addresses(folder, archive, cc)
     yield ends_well("client frames", programs["client_frames"])
     yield from served.check(programs["server"], programs["client"])
     yield ends_well("null pointers", programs["nulls"])

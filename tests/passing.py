@@ -5,8 +5,10 @@ tests/examples.py calls it.
 
 import pathlib
 import re
+import resource
 import signal
 import socket
+import struct
 import subprocess
 import threading
 import time
@@ -51,9 +53,9 @@ ENDINGS = (
 class Proxy:
     """The proxy between here and a server's port; `lines` are what it has printed when it has ended."""
 
-    def __init__(self, program, port):
+    def __init__(self, program, port, **options):
         self.process = subprocess.Popen([program, "0", "127.0.0.1", str(port)], stdout=subprocess.PIPE,
-                                        stderr=subprocess.PIPE, text=True)
+                                        stderr=subprocess.PIPE, text=True, **options)
         self.port = int(self.process.stdout.readline().rpartition(":")[2])
         self.lines, self.reader = [], threading.Thread(target=self.read)
         self.reader.start()
@@ -215,13 +217,58 @@ def is_silent(end):
         end.settimeout(PATIENCE)
 
 
+def full(frame, offset):
+    """The last line of a client whose frame with this number, and its last byte there, has no place."""
+    return f". refused side=C frame={frame} offset={offset} place=0 reason=QueueFull"
+
+
+def heavy(program):
+    """Whether a multi of too many parts is reported, though nothing else waits, and all goes on unseen."""
+    part, ends = bytes.fromhex("0000000d 00 ffffffff 00000002 2f61 00000000"), bytes.fromhex("ffffffff 01 ffffffff")
+    multi = answering.framed(struct.pack(">ii", 1, 14) + part * WAITING + ends)
+    with socket.create_server(("127.0.0.1", 0)) as listener:
+        proxy = Proxy(program, listener.getsockname()[1])
+        with proxy.connect() as client, undelayed(listener.accept()[0]) as server:
+            good = passes(client, server, HELLO) and passes(server, client, answering.framed(answering.CONNECTED))
+            good = good and all(passes(client, server, piece) for piece in (multi[:1000], multi[1000:] + EXISTS, EXISTS))
+        status = proxy.end()
+    good &= status == (0, "") and proxy.of(1)[2:] == [full(1, len(HELLO + multi))]
+    yield "a heavy multi", good, f"proxy: {status}, {proxy.of(1)[2:]}"
+
+
+def spent():
+    """The processors' seconds of all programs that have ended."""
+    used = resource.getrusage(resource.RUSAGE_CHILDREN)
+    return used.ru_utime + used.ru_stime
+
+
+def few_descriptors(program):
+    """Whether the proxy rests while it can't take a client, and then takes it."""
+    def limit():
+        resource.setrlimit(resource.RLIMIT_NOFILE, (12, 12))
+    with answering.Server() as server:
+        threading.Thread(target=server.serve_forever, daemon=True).start()
+        begun, proxy = spent(), Proxy(program, server.port, preexec_fn=limit)
+        clients = [proxy.connect() for _ in range(8)]
+        time.sleep(2)
+        for client in clients:
+            client.close()
+        with proxy.connect() as client:
+            client.sendall(HELLO)
+            got = len(came(client, 41))
+        status = proxy.end()
+        server.shutdown()
+    good = status == (0, "") and got == 41 and spent() - begun < 0.3
+    yield "few descriptors", good, f"proxy: {status}, {got} bytes, {spent() - begun:.2f} s"
+
+
 def held_up(program):
     """Whether a client of which as many requests wait as may is held up, until the server replies or has sent all."""
     first, rest = HELLO + EXISTS * WAITING, EXISTS * 500
     reply = answering.framed(answering.reply(EXISTS[4:], 5))
     answers = answering.framed(answering.CONNECTED) + reply * WAITING, reply * 500
     for name, answers, told in (("replies", answers, ". whole unanswered=0"),
-                                ("no replies", (b"", b""), f". whole unanswered={WAITING + 1}")):
+                                ("no replies", (b"", b""), full(WAITING + 1, len(first + EXISTS)))):
         with socket.create_server(("127.0.0.1", 0)) as listener:
             proxy = Proxy(program, listener.getsockname()[1])
             with proxy.connect() as client, undelayed(listener.accept()[0]) as server:
@@ -262,4 +309,6 @@ def check(program):
     yield from half_closed(program)
     yield from backpressure(program)
     yield from held_up(program)
+    yield from heavy(program)
+    yield from few_descriptors(program)
     yield from endings(program)
