@@ -6,7 +6,7 @@
  * sides: it refuses a request that may not come next, before that is sent. Then the client reads the node ROUNDS times,
  * and opens and closes ROUNDS sessions, for each of which the talk is begun anew; it prints how many microseconds one
  * takes. The status is 0 if the server answered each request, with an error or without, 1 if a request or a reply was
- * refused, 2 if there is no connection. */
+ * refused, 2 if there is no connection or not all is written. */
 #define _POSIX_C_SOURCE 200809L
 #include "zk.h"
 
@@ -305,5 +305,6 @@ int main(int given, char **words) {
     show(&read, ZK_NAME_NONE, ZK_NAME_NONE);
     if (rounds > 0) measure_sessions(words[1], words[2], rounds);
     zk_talk_free(&talk);
+    if (ferror(stdout) || fflush(stdout) != 0) fail(2, "standard output can't be written");
     return 0;
 }

@@ -3,7 +3,7 @@
  *     client_frames
  *
  * Prints a line for each message: what the client says, and what a server would send. The status is 0 if all may be
- * said, nothing waits at the end, and a request with the xid of an event is refused. */
+ * said, nothing waits at the end, a request with the xid of an event is refused, and all is written. */
 #include "zk.h"
 
 #include <inttypes.h>
@@ -79,6 +79,10 @@ int main(void) {
     struct zk_ending ending = zk_talk_finish(&talk);
     uint32_t refused = say(&talk, zk_write_request(-1, 3, exists, 2, path, 13, frame, sizeof frame), frame);
     zk_talk_free(&talk);
+    if (ferror(stdout) || fflush(stdout) != 0) {
+        fputs("client_frames: standard output can't be written\n", stderr);
+        return 1;
+    }
     int good = first == ZK_WELL && second == ZK_WELL && third == ZK_WELL && ending.kind == ZK_WHOLE;
     return good && ending.unanswered == 0 && refused == ZK_XID_OP ? 0 : 1;
 }

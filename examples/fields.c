@@ -5,10 +5,12 @@
  *     fields reply OPERATION HEX
  *
  * A line for the message, or for what is wrong and where, and then a line a field. Of a payload that is no message's the
- * fields before the fault are shown. The status is 0 for a message's payload, else 1, and 2 for other arguments. */
+ * fields before the fault are shown. The status is 0 for a message's payload, else 1, and 2 for other arguments or if not
+ * all is written. */
 #include "zk.h"
 
 #include <ctype.h>
+#include <errno.h>
 #include <inttypes.h>
 #include <stdio.h>
 #include <stdlib.h>
@@ -22,6 +24,15 @@ static const char USAGE[] = "usage: fields first|connected|event HEX, fields req
 static _Noreturn void fail(const char *what) {
     fprintf(stderr, "fields: %s\n", what);
     exit(2);
+}
+
+/* The number of a word that is one. */
+static int32_t number_of(const char *word) {
+    char *end = NULL;
+    errno = 0;
+    long number = strtol(word, &end, 10);
+    if (end == word || *end != 0 || errno != 0 || number < INT32_MIN || number > INT32_MAX) fail(USAGE);
+    return (int32_t)number;
 }
 
 /* The payload of hexadecimal digits; its length, or SIZE_MAX if they are no whole bytes. */
@@ -73,8 +84,8 @@ static struct zk_read read_fields(int count, char **words, const uint8_t *payloa
     if (count == 3 && strcmp(name, "first") == 0) return zk_read_first(payload, length, out, room);
     if (count == 3 && strcmp(name, "connected") == 0) return zk_read_connected(payload, length, out, room);
     if (count == 3 && strcmp(name, "event") == 0) return zk_read_event(payload, length, out, room);
-    if (count == 4 && strcmp(name, "request") == 0) return zk_read_request((uint32_t)atoi(words[2]), payload, length, out, room);
-    if (count == 4 && strcmp(name, "reply") == 0) return zk_read_reply(atoi(words[2]), NULL, 0, payload, length, out, room);
+    if (count == 4 && strcmp(name, "request") == 0) return zk_read_request((uint32_t)number_of(words[2]), payload, length, out, room);
+    if (count == 4 && strcmp(name, "reply") == 0) return zk_read_reply(number_of(words[2]), NULL, 0, payload, length, out, room);
     fail(USAGE);
 }
 
@@ -97,6 +108,7 @@ int main(int count, char **words) {
         if (fields == NULL) fail("out of memory");
         read = read_fields(count, words, payload, length, fields, room);
     }
+    if (read.status == ZK_RANGE) fail(USAGE); /* no profile has this number */
     printf("%s %s xid=%" PRId32, messages[read.kind], zk_operation_name(read.operation), read.xid);
     if (read.kind == ZK_REPLY) printf(" zxid=%" PRId64 " err=%" PRId32 " %s", read.zxid, read.err, zk_error_name(read.err));
     if (read.kind == 0) printf(" %s at %" PRIu32, zk_status_name(read.status), read.place);
@@ -104,5 +116,6 @@ int main(int count, char **words) {
     for (uint32_t i = 0; i < read.count; i++) put_field(payload, &fields[i]);
     free(fields);
     free(payload);
+    if (ferror(stdout) || fflush(stdout) != 0) fail("standard output can't be written");
     return read.kind == 0;
 }

@@ -206,10 +206,26 @@ def show_fields(program):
         ("request 34 0000000100000003000000022f6102", 1, 'fault exists xid=1 BAD_BOOL at 14\n12+2 path "/a"\n'),
         ("request 34 0000000100000003000000011b01", 0, 'request exists xid=1\n12+1 path "\\x1b"\n13+1 watch 1\n'),
         ("request 34 0", 2, ""), ("request 34 0g", 2, ""), ("request 00", 2, ""), ("another 00", 2, ""),
+        ("request abc 00", 2, ""), ("request 34x 00", 2, ""), ("request 36 00", 2, ""), ("reply exists 00", 2, ""),
+        ("reply 4294967299 00", 2, ""),
     ):
         found = subprocess.run([program, *given.split()], capture_output=True, text=True)
         good = (found.returncode, found.stdout) == (status, shown)
         yield given, good, f"fields {given}: status {found.returncode}, {found.stdout}"
+
+
+def print_in_vain(programs):
+    """Whether each program that prints what it found says that it can't, and has another status."""
+    if not os.path.exists("/dev/full"):
+        return
+    with answering.Server() as server, open("/dev/full", "wb") as full:
+        threading.Thread(target=server.serve_forever, daemon=True).start()
+        for name, *given in (("fields", "request", "34", "0000000100000003000000022f6101"), ("client_frames",),
+                             ("client", "127.0.0.1", str(server.port), "/a", "")):
+            found = subprocess.run([programs[name], *given], stdout=full, stderr=subprocess.PIPE, text=True)
+            good = found.returncode > 0 and found.stderr == f"{name}: standard output can't be written\n"
+            yield f"{name}, a full disk", good, f"{name}, a full disk: status {found.returncode}, {found.stderr}"
+        server.shutdown()
 
 
 def complain(programs):
@@ -289,6 +305,7 @@ def check(folder, archive, shared, cc):
     yield from list_damaged(folder, "late.c", [programs["late"]], "2")
     yield from wait_late(folder, programs["late"])
     yield from show_fields(programs["fields"])
+    yield from print_in_vain(programs)
     yield from complain(programs)
     found = subprocess.run([programs["first"]], capture_output=True, text=True)
     good = (found.returncode, found.stdout) == (0, "WELL: exists, 2 fields\npath at 12+2\nwatch at 14+1\n")
