@@ -204,8 +204,9 @@ def listing(library, recording):
         try:
             for side, piece in pieces(recording):
                 yield from talk.lines(side, piece)
-        except Refused:
-            pass
+        except Refused as refused:
+            if len(refused.args) == 1:  # no byte is refused, but a call has failed
+                raise
         yield talk.ending_line()
 
 

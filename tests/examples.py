@@ -164,6 +164,19 @@ def list_damaged(folder, name, words, *more):
             yield "full", found.returncode != 0, f"{name}, a full disk: status {found.returncode}, {found.stderr}"
 
 
+def fail_within(shared):
+    """Whether talk.py reports a line that can't be made, and doesn't end the listing there as if all were read."""
+    sys.path.insert(0, str(EXAMPLES))
+    import talk
+    library, status = talk.Library(str(shared)), None
+    library.zk_talk_line = lambda *_: talk.Line(5, 0)  # NO_MEMORY
+    try:
+        lines = list(talk.listing(library, (CAPTURES / "kazoo_basic.zkr").read_bytes()))
+    except talk.Refused as refused:
+        lines, status = [], refused.args[0]
+    yield "talk.py, no memory", status == 5, f"talk.py, no memory: {lines}"
+
+
 def wait_late(folder, program):
     """Whether a reader that comes late reports that more requests wait than may, and that it reads no further."""
     path = pathlib.Path(folder, "waiting.zkr")
@@ -301,6 +314,7 @@ def check(folder, archive, shared, cc):
     for name, *words in listers(folder, programs, archive, shared):
         yield from list_recordings(name, *words)
         yield from list_damaged(folder, name, words)
+    yield from fail_within(shared)
     yield from come_late(programs["late"])
     yield from list_damaged(folder, "late.c", [programs["late"]], "2")
     yield from wait_late(folder, programs["late"])
