@@ -64,6 +64,7 @@ class Play:
         self.at = {zkr.CLIENT: Position(), zkr.SERVER: Position()}
         self.heard, self.has_ended, self.zxid = bytearray(), False, bytes(8)
         self.pings = self.spare = self.missed = 0
+        self.unsaid = b""                       # the beginning of a frame that may be left out
         self.writer, self.ended = writer, {}    # a recording of what is said, and the facts of the connection's end
         connection.setsockopt(socket.IPPROTO_TCP, socket.TCP_NODELAY, 1)
 
@@ -98,8 +99,12 @@ class Play:
         said, at, is_end = bytearray(), self.at[self.own], False
         if self.delay:
             self.pause(self.delay)
+        data, self.unsaid = self.unsaid + data, b""
         for part in at.parts(data):
-            if self.missed and at.begins() and part.startswith(PING_REPLY) and len(part) == WHOLE_REPLY:
+            if self.missed and at.begins() and PING_REPLY.startswith(part[:len(PING_REPLY)]):
+                if len(part) < WHOLE_REPLY:
+                    self.unsaid = part
+                    break
                 self.missed -= 1
                 continue
             if at.begins() and at.frame and len(part) >= 16 and part[8] < 0x80:
@@ -121,6 +126,8 @@ class Play:
         try:
             self.connection.sendall(data)
         except OSError as error:
+            if isinstance(error, (BrokenPipeError, ConnectionResetError)):
+                self.ended = self.ended or {"reset": self.peer.decode()}
             raise self.refused(f"nothing more can be sent to it: {error.strerror or error}") from None
 
     def record(self, side, data):
@@ -152,6 +159,15 @@ class Play:
             until = time.monotonic() + self.wait
             while not self.take(until):
                 self.heard.clear()
+
+    def close(self):
+        """Ends the own side, where the connection hasn't ended."""
+        if not self.ended:
+            try:
+                self.connection.shutdown(socket.SHUT_WR)
+                self.ended = {"closed": self.own.decode()}
+            except OSError:
+                self.ended = {"reset": self.peer.decode()}
 
     def pause(self, seconds):
         """Waits, and answers pings meanwhile."""

@@ -106,6 +106,7 @@ class Bench:
                 try:
                     play.run()
                 finally:
+                    play.close()
                     if writer:
                         self.end(writer, play, begun, *(ends if self.own == zkr.SERVER else reversed(ends)))
             self.print(sys.stdout, f"{head}played: {play.counts()}")
@@ -119,7 +120,7 @@ class Bench:
         writer.close()
         writer.write_facts(facts.Facts(
             tool="zkplay", client=client, server=server, connected=begun, begun=begun, ended=time.time() * 1000,
-            session=contents.session_of(writer.path), **(play.ended or {"open": True})))
+            session=contents.session_of(writer.path), **play.ended))
 
     def print(self, stream, line):
         """Prints a line, if the stream is open."""

@@ -1,7 +1,9 @@
 """Tests of zkplay: it plays to a client that says what was recorded, and refuses any other."""
 
+import json
 import select
 import socket
+import struct
 import subprocess
 import sys
 
@@ -117,6 +119,34 @@ class Zkplay(ToolCase):
             self.assert_played(b"", b"", *played)
             self.assert_played(PING, pong, *both)
         self.assert_played(b"", event, *both, (zkr.SERVER, event), words=("--wait", "0.5"))
+
+    def test_a_reply_in_two_pieces_to_a_ping_that_does_not_come(self):
+        pong, other = PONG + bytes(12), PONG[:4] + bytes(16)
+        for size in (3, 4, 7, 8, 19):
+            for after in ((), ((zkr.SERVER, other),)):
+                heard = b"".join(piece[1] for piece in after)
+                cut = (zkr.SERVER, pong[:size]), (zkr.SERVER, pong[size:])
+                self.assert_played(b"", heard, (zkr.CLIENT, PING), *cut, *after, words=("--wait", "0.5"))
+                self.assert_played(PING, pong + heard, (zkr.CLIENT, PING), *cut, *after)
+            self.assert_played(b"", other, (zkr.CLIENT, PING), (zkr.SERVER, other[:size]), (zkr.SERVER, other[size:]),
+                               words=("--wait", "0.5"))
+
+    def test_the_end_in_the_facts(self):
+        """Its own, where it refuses the client or waits no longer; and the client's reset."""
+        said, way = sides(RUN.read_bytes())[0], ("--record", self.folder / "r", "--wait", "0.5")
+        for number, (bytes_said, linger, status, end) in enumerate((
+                (said[:67] + b"\0", 0, 1, {"closed": "S"}), (said[:60], 0, 1, {"closed": "S"}),
+                (said, 0, 0, {"closed": "S"}), (said[:60], 1, 1, {"reset": "C"})), 1):
+            player, address = self.play(RUN, *way)
+            with socket.create_connection(address, SECONDS) as client:
+                client.sendall(bytes_said)
+                receive(client, 41)
+                if linger:
+                    client.setsockopt(socket.SOL_SOCKET, socket.SO_LINGER, struct.pack("ii", 1, 0))
+                    client.close()
+                self.assertEqual(self.ended(player)[0], status)
+            found = json.loads((self.folder / f"r-{number}.facts.json").read_text())
+            self.assertEqual({name: found[name] for name in ("closed", "reset", "open") if name in found}, end)
 
     def test_pings_before_a_frame_that_was_recorded_in_parts(self):
         for size in (1, 3, 4):
