@@ -1,7 +1,8 @@
 """TCP segments out of capture files, as tcpdump and Wireshark write them: pcap and pcapng, also packed with gzip.
 
-Links: Ethernet with any number of VLAN tags, the cooked captures of Linux (SLL and SLL2), raw IP, and the loopback of
-BSD and macOS. Networks: IPv4 and IPv6. A packet that was sent in fragments is passed over, and so is what isn't TCP.
+Links: Ethernet and the cooked captures of Linux (SLL), both with any number of VLAN tags, its later ones (SLL2), raw IP,
+and the loopback of BSD and macOS. Networks: IPv4 and IPv6. A packet that was sent in fragments is passed over, and so
+is what isn't TCP.
 
 A segment is a plain tuple, since there are many of them:
 
@@ -18,9 +19,11 @@ import struct
 FIN, SYN, RST, ACK = 1, 2, 4, 16
 LARGEST_PACKET, LATEST = 1 << 24, 253_402_300_800_000
 BLOCK = 1 << 18
-# The bytes of the link's header before the IP header, by the number of the link type.
-LINKS = {0: 4, 108: 4, 113: 16, 276: 20, 12: 0, 14: 0, 101: 0, 228: 0, 229: 0}
-ETHERNET, VLANS, IP_KINDS = 1, (b"\x81\x00", b"\x88\xa8", b"\x91\x00"), (b"\x08\x00", b"\x86\xdd")
+# The bytes of the link's header before the IP header, by the number of the link type; and those before the kind of what
+# follows, where tags of VLANs may be before it.
+LINKS = {0: 4, 108: 4, 276: 20, 12: 0, 14: 0, 101: 0, 228: 0, 229: 0}
+ETHERNET, TAGGED = 1, {1: 12, 113: 14}
+VLANS, IP_KINDS = (b"\x81\x00", b"\x88\xa8", b"\x91\x00"), (b"\x08\x00", b"\x86\xdd")
 FRAGMENTED, EXTENSIONS, TCP = 0x3FFF, (0, 43, 60), 6
 IPV4, TCP_HEAD = struct.Struct(">2xH2xHxB"), struct.Struct(">HHIIBB")
 # Ethernet, IPv4 without options, and TCP: the heads of nearly all packets.
@@ -179,8 +182,8 @@ def clock_of(order, options):
 
 def network_place(link, packet, at):
     """Where the IP header begins, of a packet that begins at this place; past its end if it has none."""
-    if link == ETHERNET:
-        at += 12
+    if link in TAGGED:
+        at += TAGGED[link]
         while packet[at:at + 2] in VLANS:
             at += 4
         return at + 2 if packet[at:at + 2] in IP_KINDS else len(packet)

@@ -30,6 +30,7 @@ LINKS = {
     "ethernet": (1, {4: bytes(12) + b"\x08\x00", 6: bytes(12) + b"\x86\xdd"}),
     "vlans": (1, {4: bytes(12) + b"\x88\xa8\0\1\x81\0\0\2\x08\x00", 6: bytes(12) + b"\x81\0\0\1\x86\xdd"}),
     "sll": (113, {4: bytes(14) + b"\x08\x00", 6: bytes(14) + b"\x86\xdd"}),
+    "sll with a vlan": (113, {4: bytes(14) + b"\x81\0\0\1\x08\x00", 6: bytes(14) + b"\x81\0\0\1\x86\xdd"}),
     "sll2": (276, {4: b"\x08\x00" + bytes(18), 6: b"\x86\xdd" + bytes(18)}),
     "raw": (101, {4: b"", 6: b""}),
     "null": (0, {4: b"\2\0\0\0", 6: b"\x1e\0\0\0"}),
