@@ -11,13 +11,13 @@ GATHERING = 0.005           # the seconds in which lines are gathered: each time
 
 class Printer(threading.Thread):
     """Writes lines to the file of this number, each after `head`, in a thread of its own. It holds MOST_HELD bytes that
-    nobody reads; what comes after them is lost, and so is what can't be written, for which `failed(error)` is
-    called."""
+    nobody reads, and its longest line; what comes after them is lost, and so is what can't be written, for which
+    `failed(error)` is called."""
 
     def __init__(self, number, head="", failed=lambda error: None):
         super().__init__(daemon=True)
         self.number, self.head, self.failed = number, head, failed
-        self.lines, self.held, self.ends, self.change = [], 0, False, threading.Condition()
+        self.lines, self.held, self.longest, self.ends, self.change = [], 0, 0, False, threading.Condition()
         self.printed = {}
         self.start()
 
@@ -25,10 +25,11 @@ class Printer(threading.Thread):
         """Writes a line, and returns whether it was taken."""
         line = f"{self.head}{text}\n".encode(errors="backslashreplace")
         with self.change:
-            if self.is_full():
+            if self.held - self.longest >= MOST_HELD:
                 return False
             self.lines.append(line)
             self.held += len(line)
+            self.longest = max(self.longest, len(line))
             self.change.notify_all()
         return True
 
@@ -40,6 +41,7 @@ class Printer(threading.Thread):
             self.print(text)
 
     def is_full(self):
+        """Whether no more should come until some is read."""
         return self.held >= MOST_HELD
 
     def run(self):
@@ -56,6 +58,7 @@ class Printer(threading.Thread):
                 self.failed(error)
             with self.change:
                 self.held -= len(data)
+                self.longest = max(map(len, self.lines), default=0)
                 self.change.notify_all()
             time.sleep(GATHERING)
 

@@ -62,12 +62,13 @@ class LeftOut:
 
 
 class Show:
-    """The process `zkdump show` of a connection: what waits to be written to it, and the beginning of a line of it;
-    `shown` is how many messages it has shown."""
+    """The process `zkdump show` of a connection: what waits to be written to it, its lines that wait to be printed, and
+    the beginning of one; `shown` is how many messages it has shown."""
 
     def __init__(self, watch, number):
         self.watch, self.number, self.waiting, self.line = watch, number, bytearray(HEAD.to_bytes()), bytearray()
         self.last, self.unread, self.is_over, self.shown, self.left = b"", "", False, 0, LeftOut()
+        self.lines, self.is_read = collections.deque(), False
         self.skipping = zkskip.Skipping(zkskip.OF_PROFILE[watch.profile], watch.head, self.left_out)
         try:
             self.process = subprocess.Popen(watch.command, stdin=subprocess.PIPE, stdout=subprocess.PIPE, bufsize=0,
@@ -145,36 +146,43 @@ class Show:
 
     def read(self):
         """Prints the lines that are there; it waits where they can't be printed."""
-        stdout = self.process.stdout
-        if self.watch.lines.is_full():
+        stdout, printer = self.process.stdout, self.watch.lines
+        if not self.lines and not printer.is_full():
+            data = stdout.read(BLOCK)
+            if data is None:
+                return
+            *lines, rest = data.split(b"\n")
+            self.is_read = not data
+            if self.is_read and self.line:
+                lines = [b""]
+            for line in lines:
+                self.lines.append(bytes(self.line + line))
+                self.line = bytearray()
+            self.line += rest
+        while self.lines and not printer.is_full():
+            self.print_line(self.lines.popleft())
+        if self.lines or not self.is_read and printer.is_full():
             self.watch.wait_for(stdout, 0)
             self.watch.after(0.05, self.read_on)
-            return
-        data = stdout.read(BLOCK)
-        if data is None:
-            return
-        *lines, rest = data.split(b"\n")
-        if not data and self.line:
-            lines = [b""]
-        for line in lines:
-            self.last, self.line = bytes(self.line + line), bytearray()
-            text = self.last.decode(errors="backslashreplace")
-            if text.startswith("."):
-                self.watch.say_of(self.number, self.left.as_it_came(text))
-                continue
-            self.watch.say_of(self.number, text)
-            self.shown += 1
-            self.say_left_out()
-        self.line += rest
-        if not data:
+        elif self.is_read:
             for file in (stdout, self.process.stdin):
                 self.watch.wait_for(file, 0)
                 file.close()
             self.reap()
 
+    def print_line(self, line):
+        self.last, text = line, line.decode(errors="backslashreplace")
+        if text.startswith("."):
+            self.watch.say_of(self.number, self.left.as_it_came(text))
+            return
+        self.watch.say_of(self.number, text)
+        self.shown += 1
+        self.say_left_out()
+
     def read_on(self):
         if self.process:
             self.watch.wait_for(self.process.stdout, READ, self)
+            self.read()
 
     def reap(self):
         """Waits for the end of the process, which has written all its lines."""

@@ -252,9 +252,27 @@ class Zkwatch(ToolCase):
             with socket.create_connection(address, SECONDS) as client, listener.accept()[0] as server:
                 for side, data in said:
                     end, other = (client, server) if side == zkr.CLIENT else (server, client)
-                    end.sendall(data)
-                    self.assertEqual(receive(other, len(data)), data)
+                    sender = threading.Thread(target=end.sendall, args=(data,))
+                    sender.start()
+                    self.assertTrue(receive(other, len(data)) == data)
+                    sender.join()
         return [line for _, line in self.lines(watcher)[1:] if line != UNREAD]
+
+    def test_lines_after_a_long_one(self):
+        """One of 1.2 million characters leaves no room for others until it is read, and none is lost."""
+        if not PROGRAM.exists():
+            self.skipTest("the program zkdump is not built")
+        zeros = "00" * 600_000
+        said = [(zkr.CLIENT, bytes.fromhex(HELLO)), (zkr.SERVER, bytes.fromhex(WELCOME)),
+                (zkr.CLIENT, bytes.fromhex(f"000927d6 00000001 00000005 00000002 2f61 000927c0 {zeros} ffffffff"
+                                           "0000000f 00000002 00000003 00000002 2f61 00")),
+                (zkr.SERVER, bytes.fromhex("00000010 00000001 0000000000000005 ffffff9b"
+                                           "00000010 00000002 0000000000000005 ffffff9b"))]
+        told = self.watched(said)[2:]
+        wanted = [f'C 1 setData path="/a" blob=#{zeros} version=-1', 'C 2 exists path="/a" watch=0',
+                  "S 1 setData zxid=5 err=-101/NONODE", "S 2 exists zxid=5 err=-101/NONODE", ". whole unanswered=0"]
+        self.assertEqual([line[:40] for line in told], [line[:40] for line in wanted])
+        self.assertTrue(told == wanted)
 
     def test_what_the_release_lacks_is_left_out(self):
         """Each recording that 3.4 refuses is listed to its end, or to a fault that no release has."""
