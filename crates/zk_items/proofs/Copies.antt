@@ -3,7 +3,7 @@ use Rattle.std.specs.Prelude.{◌≡◌, ℕ, zero, suc, ◌+◌, ◌-◌, ◌/�
 use Rattle.std.specs.List.{prefix_len, AllByRecursion}
 use Rattle.std.specs.Result.{result_ok}
 use Rattle.std.specs.Str.{IsAscii}
-use Rattle.std.proofs.Common.{ap, sym, subst, ◌∙◌, cond, arith, append_assoc, length-append, length-drop, take_all}
+use Rattle.std.proofs.Common.{ap, sym, subst, ◌∙◌, cond, arith, append_assoc, length-append, length-drop, take_all, unwrap_or}
 use Rattle.std.proofs.lemmas.List.{append-nil, take_at, drop_at}
 use Rattle.std.proofs.lemmas.Str.{is_utf8-from_IsUtf8, IsUtf8-from_ascii}
 use Rattle.hex.specs.Hex.{encode_lower, lower_digits, decode_of, decode_sized}
@@ -13,8 +13,7 @@ use Rattle.zk_jute.specs.Item.{int_bytes}
 use Rattle.zk_jute.specs.Values.{text_items, blob_items}
 use Rattle.zk_jute.specs.declared.value.Nullable.TheVariants as nullable
 use Rattle.zk_items.specs.Form.{Read, ◌>>=◌}
-use Rattle.zk_items.specs.Many.{GivesMore, many_at, with_front}
-use Rattle.zk_items.specs.declared.fault.LineFault.{LineFault}
+use Rattle.zk_items.specs.Many.{many_at, with_front}
 use Rattle.zk_items.specs.Leaf.{in_hex, is_plain, symbol_at, checked, chars_at, text_at, blob_at, decoded}
 use Rattle.zk_items.specs.Copied.{Copied}
 use Rattle.zk_items.proofs.Forms.{bind_some, some_is}
@@ -125,7 +124,7 @@ few_read digits new n r o hex twice read is = pick (decode_sized digits n) refl 
       let none : o ≡ None = is ∙ ap result_ok h in
       subst (λ (o : Option (Unit {0})). OnSome o (encode_lower new ≡ digits)) (sym none) tt
 
--- what `inside` read where it went well
-pub ok_read : (r : Result (Unit {0}) LineFault) (o : Option (Unit {0})) (rest old new : List ℕ) (read : Read (List ℕ)) → o ≡ result_ok r → o ≡ Some tt → GivesMore r rest old new read → with_front old read ≡ Some (new, rest)
-ok_read (Ok x) o rest old new read is some h = h
-ok_read (Err e) o rest old new read is some h = let k : ◌≡◌ {A = Option (Unit {0})} None (Some tt) = sym is ∙ some in absurd cc
+-- a result is `Ok` of what `ok` gives of it
+pub ok_is : {A E : Type 0} {r : Result A E} {o : Option A} {x : A} → o ≡ result_ok r → o ≡ Some x → r ≡ Ok x
+ok_is {r = Ok y} {x = x} e f = ap Ok (ap (λ o. unwrap_or o x) (sym e ∙ f))
+ok_is {A = A} {r = Err y} {x = x} e f = let k : ◌≡◌ {A = Option A} None (Some x) = sym e ∙ f in absurd cc

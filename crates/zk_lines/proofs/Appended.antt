@@ -1,8 +1,7 @@
 -- What is read of a line into bytes, part by part.
-use Rattle.std.proofs.Common.{◌≡◌, ℕ, List, [], ◌++◌, take, drop, Option, Some, None, Ok, Err, Result, unwrap_or, refl, sym, ap, subst, ◌∙◌, append_assoc}
+use Rattle.std.proofs.Common.{◌≡◌, ℕ, List, [], ◌++◌, take, drop, Option, Some, None, refl, sym, ap, subst, ◌∙◌, append_assoc}
 use Rattle.std.specs.Prelude.{IfSome, ◌^◌, true, ℤ, pos, negsuc}
 use Rattle.std.proofs.Common.{ltb-true, w32, to_z, of_z, to_z-of_z}
-use Rattle.std.specs.Result.{result_ok}
 use Rattle.std.specs.List.{prefix_len}
 use Rattle.std.proofs.lemmas.List.{append-nil}
 use Rattle.zk_jute.specs.Item.{Item, AnInt, bytes_of, HasBytes, HaveBytes}
@@ -18,11 +17,6 @@ use Rattle.zk_items.specs.Copied.{Copied}
 use Rattle.zk_lines.specs.Named.{named_at}
 use Rattle.zk_lines.specs.Words.{field_at, word_of}
 use Rattle.zk_lines.specs.declared.word.Word.{Word}
-
--- what `ok` gives of a result that has a value
-pub ok_is : {A E : Type 0} {r : Result A E} {o : Option A} {x : A} → o ≡ result_ok r → o ≡ Some x → r ≡ Ok x
-ok_is {r = Ok y} {x = x} e f = ap Ok (ap (λ o. unwrap_or o x) (sym e ∙ f))
-ok_is {A = A} {r = Err y} {x = x} e f = let k : ◌≡◌ {A = Option A} None (Some x) = sym e ∙ f in absurd cc
 
 -- a value that was read, and its bytes, which were appended
 abbrev pub value_copied : {X : Type 0} {at : List ℕ → Read X} {items : X → List Item} {line rest old new : List ℕ} (value : X) → at line ≡ Some (value, rest) → HaveBytes (items value) → new ≡ old ++ bytes_of (items value)

@@ -1,5 +1,6 @@
 use Rattle.zk_items.proofs.Kept.{on_some}
-use Rattle.zk_lines.proofs.Appended.{field_copied, ok_is}
+use Rattle.zk_items.proofs.Copies.{ok_is}
+use Rattle.zk_lines.proofs.Appended.{field_copied}
 use Rattle.zk_lines.proofs.copies.copy_field.Goals as goal
 
 pub returns-clause-copied : goal.returns-clause-copied

@@ -2,9 +2,10 @@ use Rattle.std.proofs.Common.{ap, sym, subst, ◌∙◌}
 use Rattle.std.specs.Prelude.{codes}
 use Rattle.zk_items.specs.Form.{word_at}
 use Rattle.zk_talk.specs.declared.message.MessageOf.TheVariants as message
+use Rattle.zk_items.proofs.Copies.{ok_is}
 use Rattle.zk_lines.specs.Copied.{CopiedMessage}
 use Rattle.zk_lines.specs.Lines.{client_at, server_at}
-use Rattle.zk_lines.proofs.Appended.{if_some, ok_is}
+use Rattle.zk_lines.proofs.Appended.{if_some}
 use Rattle.zk_lines.proofs.CopiedLines.{frame_whole, of_client, of_server}
 use Rattle.zk_lines.proofs.copy.copy_message.Goals as goal
 

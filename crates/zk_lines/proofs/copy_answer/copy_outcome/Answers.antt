@@ -6,7 +6,8 @@ use Rattle.zk_items.specs.Form.{word_at}
 use Rattle.zk_items.specs.Codes.{error_name}
 use Rattle.zk_items.proofs.Codes.{other_code_is}
 use Rattle.zk_items.proofs.Kept.{on_some}
-use Rattle.zk_lines.proofs.Appended.{as_int, ok_is}
+use Rattle.zk_items.proofs.Copies.{ok_is}
+use Rattle.zk_lines.proofs.Appended.{as_int}
 use Rattle.zk_lines.specs.Answers as answers
 use Rattle.zk_lines.specs.Rows.{row_at}
 use Rattle.zk_lines.proofs.CopiedAnswers.{failure_copied, done_copied}

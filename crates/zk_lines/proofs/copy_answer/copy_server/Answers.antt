@@ -1,6 +1,6 @@
 use Rattle.std.proofs.Common.{rules}
+use Rattle.zk_items.proofs.Copies.{ok_is}
 use Rattle.zk_lines.proofs.CopiedLines.{connected_copied, event_copied, reply_copied}
-use Rattle.zk_lines.proofs.Appended.{ok_is}
 use Rattle.zk_lines.proofs.copy_answer.copy_server.Goals as goal
 
 pub returns-in_ok-copy_connected-clause-copied : goal.returns-in_ok-copy_connected-clause-copied

@@ -1,6 +1,6 @@
 use Rattle.std.proofs.Common.{rules}
+use Rattle.zk_items.proofs.Copies.{ok_is}
 use Rattle.zk_lines.proofs.CopiedLines.{connect_copied, ask_copied}
-use Rattle.zk_lines.proofs.Appended.{ok_is}
 use Rattle.zk_lines.proofs.copy_ask.copy_client.Goals as goal
 
 pub returns-in_ok-copy_connect-clause-copied : goal.returns-in_ok-copy_connect-clause-copied

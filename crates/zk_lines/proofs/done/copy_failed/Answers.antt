@@ -7,8 +7,9 @@ use Rattle.zk_items.proofs.Codes.{code_is}
 use Rattle.zk_asks.specs.Parts.{marked}
 use Rattle.zk_answers.specs.Results.{done_items, error_header, result_of}
 use Rattle.zk_items.proofs.Kept.{on_some}
+use Rattle.zk_items.proofs.Copies.{ok_is}
 use Rattle.zk_lines.specs.declared.word.Word.TheVariants as words
-use Rattle.zk_lines.proofs.Appended.{as_int, field_copied, headed, made, ok_is, retold, value_copied}
+use Rattle.zk_lines.proofs.Appended.{as_int, field_copied, headed, made, retold, value_copied}
 use Rattle.zk_lines.proofs.done.copy_failed.Goals as goal
 
 pub returns-clause-copied : goal.returns-clause-copied

@@ -1,8 +1,8 @@
 use Rattle.std.proofs.Common.{◌∷◌, [], sym, ap, ◌∙◌, arith}
 use Rattle.zk_items.specs.Form.{word_at}
+use Rattle.zk_items.proofs.Copies.{ok_is}
 use Rattle.zk_lines.specs.Series.{element_at}
 use Rattle.zk_lines.proofs.Counted.{none_yet, one_more, all_read, element_some, element_none}
-use Rattle.zk_lines.proofs.Appended.{ok_is}
 use Rattle.zk_lines.proofs.list.copy_others.Goals as goal
 
 pub loop-turn-init : goal.loop-turn-init
