@@ -37,6 +37,7 @@ opens-reached : (g : SideBytes) (limits : Limits) (x : List ℕ) (messages : Lis
 opens-reached g limits x messages p None size i = opens-whole limits x messages i.recording i.at.spells (good-here-but g limits x messages p i size)
 opens-reached g limits x messages p (Some summary) size i = opens-finished limits x messages p.talk summary i.finishes
 
+-- the lines of what was read, where it opens a conversation
 begun-by : (limits : Limits) (listing : Listing) (unread after contents later : Option (List ℕ)) (x : List ℕ) (messages : List Message) → Consumes unread after x → Opens limits x messages →
     HasGrownIn contents later (text_of listing messages) → HasBegunLines limits listing unread after contents later
 begun-by limits listing unread after contents later x messages p o written =
