@@ -68,10 +68,10 @@ fn left_of(alloc: Global, read: &Result<ClientFrame, ItemFault>) -> Result<Form,
     }
 }
 
-/// The same of the request with the payload `digits`.
-fn form(alloc: Global, digits: &str) -> Result<Form, Fail> {
-    let request = hex(alloc, digits)?;
-    left_of(alloc, &read_ask(alloc, Profile::V35, &request))
+/// The same of the request with this payload.
+fn form(alloc: Global, request: &[u8]) -> Result<Form, Fail> {
+    let read = read_ask(alloc, Profile::V35, request);
+    left_of(alloc, &read)
 }
 
 /// The reply to `form`, if the payload is no event.
@@ -202,7 +202,7 @@ fn row_told(alloc: Global, asked: &str) -> Result<String, Fail> {
         "-" => "fffffffe0000000b",
         _ => request,
     };
-    let form = form(alloc, request)?;
+    let form = form(alloc, &hex(alloc, request)?)?;
     judged(alloc, call, &form, &hex(alloc, digits)?)
 }
 
@@ -219,21 +219,25 @@ fn alone(alloc: Global, op: Op) -> Form {
     }
 }
 
-/// Whether the frame is a reply that fits a request.
-fn is_fit(frame: &ServerFrame, form: &Form) -> Option<bool> {
+/// Whether the frame is a reply that fits a request of this operation.
+fn is_fit(alloc: Global, frame: &ServerFrame, op: Op) -> Option<bool> {
     match frame {
-        ServerFrame::Answered(answer) => Some(fits(form, answer)),
+        ServerFrame::Answered(answer) => Some(fits(&alone(alloc, op), answer)),
         _ => None,
     }
+}
+
+/// Whether the payload, read as the reply to an exists, fits a request of this operation.
+fn fits_as(alloc: Global, payload: &[u8], op: Op) -> Result<Option<bool>, ItemFault> {
+    let answer = reply(alloc, &alone(alloc, Op::Exists), payload)?;
+    Ok(is_fit(alloc, &answer, op))
 }
 
 #[test]
 fn replies_fit_their_requests(rt: HostRuntime) -> Result<(), Fail> {
     let no_node = hex(rt.alloc(), "000000010000000000000005ffffff9b")?;
-    let exists = alone(rt.alloc(), Op::Exists);
-    let answer = reply(rt.alloc(), &exists, &no_node)?;
-    same(&rt, &is_fit(&answer, &exists), &Some(true));
-    let other = alone(rt.alloc(), Op::SetData);
-    same(&rt, &is_fit(&answer, &other), &Some(false));
+    for (op, want) in [(Op::Exists, true), (Op::SetData, false)] {
+        same(&rt, &fits_as(rt.alloc(), &no_node, op)?, &Some(want));
+    }
     Ok(())
 }

@@ -115,19 +115,29 @@ fn answer_told(
     }
 }
 
-/// The payload of a row in words; scanned it is refused for the same.
-fn told(alloc: Global, asked: &str) -> Result<String, Fail> {
-    let (kind, payload) = named(alloc, asked)?;
-    let told = answer_told(alloc, &read(alloc, kind, &payload), &payload)?;
-    if !is_told(alloc, &scanned(kind, &payload), &told)? {
+/// The payload in words, as it is read.
+fn read_told(alloc: Global, kind: &str, payload: &[u8]) -> Result<String, Fail> {
+    let answer = read(alloc, kind, payload);
+    answer_told(alloc, &answer, payload)
+}
+
+/// The payload in words; scanned it is refused for the same.
+fn judged(alloc: Global, kind: &str, payload: &[u8]) -> Result<String, Fail> {
+    let told = read_told(alloc, kind, payload)?;
+    if !is_told(alloc, &scanned(kind, payload), &told)? {
         return Err("scanned otherwise".into());
     }
     Ok(told)
 }
 
+fn row_told(alloc: Global, asked: &str) -> Result<String, Fail> {
+    let (kind, payload) = named(alloc, asked)?;
+    judged(alloc, kind, &payload)
+}
+
 #[test]
 fn payloads(rt: HostRuntime) -> Result<(), Fail> {
-    keeps(&rt, rt.alloc(), PAYLOADS, told)
+    keeps(&rt, rt.alloc(), PAYLOADS, row_told)
 }
 
 /// The xid of pings is a ping's, and the xid of events is no request's.

@@ -53,22 +53,44 @@ fn told<T: Wire + Debug>(alloc: Global, bytes: &[u8]) -> Result<String, Fail> {
     }
 }
 
-/// The same of a value of the type of this name: a list of texts, or one of these types.
+/// The same of a value of the type of this name; another name is sought by `$other`.
 macro_rules! told_of {
-    ($name:expr, $alloc:expr, $bytes:expr, $($type:ident)*) => {
+    ($name:ident, $alloc:ident, $bytes:ident, $other:expr, $($type:ident)*) => {
         match $name {
-            "List" => told::<List<Text>>($alloc, $bytes),
             $(stringify!($type) => told::<$type>($alloc, $bytes),)*
-            _ => Err("no such type".into()),
+            _ => $other,
         }
     };
 }
 
+fn change_told(alloc: Global, name: &str, bytes: &[u8]) -> Result<String, Fail> {
+    told_of!(name, alloc, bytes, Err("no such type".into()),
+        CreateAsk DeleteAsk SetDataAsk SetAclAsk CheckAsk)
+}
+
+fn ask_told(alloc: Global, name: &str, bytes: &[u8]) -> Result<String, Fail> {
+    told_of!(name, alloc, bytes, change_told(alloc, name, bytes), WatchAsk PathAsk AuthAsk SetWatchesAsk)
+}
+
+fn body_told(alloc: Global, name: &str, bytes: &[u8]) -> Result<String, Fail> {
+    told_of!(name, alloc, bytes, ask_told(alloc, name, bytes),
+        CreateBody DataBody AclBody ChildrenBody WatcherEvent)
+}
+
+fn header_told(alloc: Global, name: &str, bytes: &[u8]) -> Result<String, Fail> {
+    told_of!(name, alloc, bytes, body_told(alloc, name, bytes),
+        RequestHeader ReplyHeader MultiHeader ConnectResponse ConnectRequest)
+}
+
+fn shared_told(alloc: Global, name: &str, bytes: &[u8]) -> Result<String, Fail> {
+    told_of!(name, alloc, bytes, header_told(alloc, name, bytes), Id Acl Stat)
+}
+
 fn value_told(alloc: Global, name: &str, bytes: &[u8]) -> Result<String, Fail> {
-    told_of!(name, alloc, bytes,
-        i32 i64 bool Text Blob Id Acl Stat RequestHeader ReplyHeader MultiHeader CreateBody DataBody AclBody
-        ChildrenBody WatcherEvent ConnectResponse ConnectRequest WatchAsk PathAsk AuthAsk SetWatchesAsk CreateAsk
-        DeleteAsk SetDataAsk SetAclAsk CheckAsk)
+    match name {
+        "List" => told::<List<Text>>(alloc, bytes),
+        _ => told_of!(name, alloc, bytes, shared_told(alloc, name, bytes), i32 i64 bool Text Blob),
+    }
 }
 
 /// The value and the boolean of the bytes, or what is wrong with them, in words.
