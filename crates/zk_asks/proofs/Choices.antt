@@ -9,7 +9,7 @@ use Rattle.zk_records.specs.declared.op.Op.TheVariants as ops
 use Rattle.zk_records.specs.declared.header.MultiHeader.{MultiHeader}
 use Rattle.zk_records.specs.declared.profile.Profile.{Profile}
 use Rattle.zk_records.specs.declared.profile.Profile.TheVariants as profiles
-use Rattle.zk_records.specs.Codes.{op_number, all_ops, HasOp, IsNoOp, all_parts}
+use Rattle.zk_records.specs.Codes.{op_row, op_number, all_ops, IsSince, HasOp, IsNoOp, all_parts}
 use Rattle.zk_records.proofs.Numbers.{each_op, each_part, op_number_apart}
 use Rattle.zk_asks.specs.Codes.{event_xid, ping_xid, auth_xid, watches_xid, IsAllowed}
 use Rattle.zk_asks.specs.Parts.{part_header, end_header, MayStand}
@@ -61,14 +61,15 @@ among {X} P decide (x ∷ xs) = elim (decide x) [
   | inr n ↦ elim (among P decide xs) [ inl q ↦ inl q | inr none ↦ inr (All-cons (λ x. P x → ⊥) x xs n none) ]
 ]
 
-has_decided : (profile : Profile) (op : Op) → Decided (HasOp profile op)
-has_decided profiles.V34 op = not_decided (op_decided op ops.Create2)
-has_decided profiles.V35 op = inl tt
+since_decided : (first profile : Profile) → Decided (IsSince first profile)
+since_decided profiles.V34 profile = inl tt
+since_decided profiles.V35 profiles.V34 = inr (λ e. absurd cc)
+since_decided profiles.V35 profiles.V35 = inl refl
 
 -- the operation of a number
 pub number_decided : (profile : Profile) (number : ℤ) → ((op : Op) × HasOp profile op × (number ≡ op_number op)) ⊎ IsNoOp profile number
 number_decided profile number =
-    let found = among (λ op. HasOp profile op × (number ≡ op_number op)) (λ op. both_decided (has_decided profile op) (int_decided number (op_number op))) all_ops in
+    let found = among (λ op. HasOp profile op × (number ≡ op_number op)) (λ op. both_decided (since_decided (op_row op).0 profile) (int_decided number (op_number op))) all_ops in
     elim found [
       | inl f ↦ inl (f.0, f.1.0, f.1.1)
       | inr none ↦ inr (λ op has is. each_op (λ op. HasOp profile op × (number ≡ op_number op) → ⊥) none op (has, is))

@@ -1,4 +1,4 @@
-//! A client's payloads: the connect request, and the requests of ZooKeeper 3.4, and `create2` of 3.5.
+//! A client's payloads: the connect request, and the requests of the operations that a `Profile` has.
 //!
 //! - `read_first` and `read_ask` read a payload as an owned `ClientFrame`; `borrow_first` and `borrow_ask` decide the
 //!   same and borrow, without memory; `client_ref` and `judged_ref` borrow what is already judged.

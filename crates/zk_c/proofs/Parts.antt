@@ -1,11 +1,12 @@
 -- The numbers of parts.
 use Rattle.std.proofs.Common.{◌≡◌, ℕ, ◌+◌, ◌<◌, ℤ, List, [], ◌∷◌, ◌++◌, length, take, map, get_or, refl, sym, ap, ◌∙◌, arith, subst, Some}
 use Rattle.std.proofs.lemmas.List.{map-append, get_or-map, length-map, take_more}
-use Rattle.zk_records.specs.Codes.{part_number}
+use Rattle.zk_records.specs.Codes.{part_number, IsNoOp}
 use Rattle.zk_records.specs.declared.op.PartOp.{PartOp}
 use Rattle.zk_records.specs.declared.op.PartOp.TheVariants.{Create, Delete, SetData, Check}
 use Rattle.zk_records.specs.declared.op.Op.{Op}
-use Rattle.zk_records.proofs.Numbers.{op_number_apart}
+use Rattle.zk_records.specs.declared.profile.Profile.TheVariants as profiles
+use Rattle.zk_records.proofs.Numbers.{newer_has, op_number_apart}
 use Rattle.zk_c.specs.Asked.{part_of, parts_of, AreParts, AreAsked, WhereAsked}
 
 pub one_more : (numbers : List ℤ) (i : ℕ) (d : ℤ) (parts : List PartOp) (op : PartOp) → i < length numbers → AreParts (take i numbers) parts → get_or numbers i d ≡ part_number op
@@ -38,6 +39,10 @@ pub where_asked : {number same : ℤ} {numbers : List ℤ} {op : Op} {parts : Li
 where_asked {number = number} {numbers = numbers} {op = op} {parts = parts} Holds is asked holds = λ other others are.
     let one = one_asked number numbers op other parts others (subst (λ (n : ℤ). AreAsked n numbers op parts) is asked) are in
     subst (λ (p : Op × List PartOp). Holds p.0 p.1) (λ i. (one.0 i, one.1 i)) holds
+
+-- what was asked by a number is of an operation
+pub of_one : {A : Type 0} {number same : ℤ} {numbers : List ℤ} {op : Op} {parts : List PartOp} → same ≡ number → AreAsked same numbers op parts → IsNoOp profiles.V35 number → A
+of_one {op = op} is asked none = absurd (none op (newer_has op) (sym is ∙ asked.is))
 
 pub as_many : (numbers : List ℤ) (parts : List PartOp) → AreParts numbers parts → length numbers ≡ length parts
 as_many numbers parts are = ap length are ∙ length-map parts part_number

@@ -1,16 +1,18 @@
 -- Each operation and each part has a number of its own.
-use Rattle.std.specs.Prelude.{◌≡◌, ◌≢◌, ◌↔◌, ℤ, pos, List, map, Option, Some, IfSome, refl}
+use Rattle.std.specs.Prelude.{◌≡◌, ◌≢◌, ◌↔◌, ℤ, pos, List, map, Option, Some, IfSome, Bool, true, false, refl}
 use Rattle.std.specs.List.{All}
 use Rattle.std.proofs.Common.{sym, ap, subst, ◌∙◌}
 use Rattle.std.proofs.lemmas.Map.Views.{IfSome-lookup_from_All}
+use Rattle.std.proofs.lemmas.Bool.Decides.{Decides-int_eq, not_from_Decides}
 use Rattle.std.specs.Map.{lookup}
 use Rattle.std.specs.Ordering.{int_eq}
 use Rattle.zk_records.specs.declared.op.Op.{Op}
 use Rattle.zk_records.specs.declared.op.Op.TheVariants as ops
 use Rattle.zk_records.specs.declared.op.PartOp.{PartOp}
 use Rattle.zk_records.specs.declared.op.PartOp.TheVariants as parts
+use Rattle.zk_records.specs.declared.profile.Profile.{Profile}
 use Rattle.zk_records.specs.declared.profile.Profile.TheVariants as profiles
-use Rattle.zk_records.specs.Codes.{op_number, all_ops, HasOp, part_number, all_parts}
+use Rattle.zk_records.specs.Codes.{op_row, op_number, all_ops, IsSince, HasOp, part_number, all_parts}
 
 abbrev op_rows : List (ℤ × Op)
 op_rows = map (λ op. (op_number op, op)) all_ops
@@ -28,9 +30,28 @@ op_number_apart a b e =
     let same : ◌≡◌ {A = Option Op} (Some a) (Some b) = sym (op_again a) ∙ ap (λ (n : ℤ). lookup (int_eq n) op_rows) e ∙ op_again b in
     cc
 
--- what is not create2 has another number
+newer_since : (first : Profile) → IsSince first profiles.V35
+newer_since profiles.V34 = tt
+newer_since profiles.V35 = refl
+
+pub newer_has : (op : Op) → HasOp profiles.V35 op
+newer_has op = newer_since (op_row op).0
+
+abbrev is_newer : Profile → Bool
+is_newer profiles.V34 = false
+is_newer profiles.V35 = true
+
+newer_number : (op : Op) → int_eq (op_number op) (pos 15) ≡ is_newer (op_row op).0
+newer_number ops.Create = refl
+newer_number _ = refl
+
+older_by : (first : Profile) (n : ℤ) → int_eq n (pos 15) ≡ is_newer first → IsSince first profiles.V34 ↔ (n ≢ pos 15)
+older_by profiles.V34 n same = ((λ has. not_from_Decides (int_eq n (pos 15)) (Decides-int_eq n (pos 15)) same), (λ other. tt))
+older_by profiles.V35 n same = ((λ has e. absurd cc), (λ other. absurd (other ((Decides-int_eq n (pos 15)).0 same))))
+
+-- what is not of 3.4 has the number 15
 pub older_number : (op : Op) → HasOp profiles.V34 op ↔ (op_number op ≢ pos 15)
-older_number op = ((λ other e. other (op_number_apart op ops.Create2 e)), (λ other e. other (ap op_number e)))
+older_number op = older_by (op_row op).0 (op_number op) (newer_number op)
 
 abbrev part_rows : List (ℤ × PartOp)
 part_rows = map (λ op. (part_number op, op)) all_parts

@@ -1,5 +1,5 @@
--- The numbers and names of operations (ZooKeeper 3.4, ZooDefs.OpCode, and create2 of 3.5), as tables.
-use Rattle.std.specs.Prelude.{◌≢◌, ℕ, zero, suc, ℤ, pos, negsuc, List, [], ◌∷◌, codes}
+-- The numbers and names of operations (ZooDefs.OpCode), as tables.
+use Rattle.std.specs.Prelude.{◌≡◌, ◌≢◌, ℕ, zero, suc, ℤ, pos, negsuc, List, [], ◌∷◌, codes}
 use Rattle.zk_records.specs.declared.op.Op.{Op}
 use Rattle.zk_records.specs.declared.op.Op.TheVariants as ops
 use Rattle.zk_records.specs.declared.op.PartOp.{PartOp}
@@ -12,30 +12,30 @@ abbrev pub minus : ℕ → ℤ
 minus zero = pos 0
 minus (suc n) = negsuc n
 
--- the number and the name of each operation
-abbrev pub op_row : Op → ℤ × List ℕ
-op_row ops.Create = (pos 1, codes "create")
-op_row ops.Delete = (pos 2, codes "delete")
-op_row ops.Exists = (pos 3, codes "exists")
-op_row ops.GetData = (pos 4, codes "getData")
-op_row ops.SetData = (pos 5, codes "setData")
-op_row ops.GetAcl = (pos 6, codes "getACL")
-op_row ops.SetAcl = (pos 7, codes "setACL")
-op_row ops.GetChildren = (pos 8, codes "getChildren")
-op_row ops.Sync = (pos 9, codes "sync")
-op_row ops.Ping = (pos 11, codes "ping")
-op_row ops.GetChildren2 = (pos 12, codes "getChildren2")
-op_row ops.Multi = (pos 14, codes "multi")
-op_row ops.Create2 = (pos 15, codes "create2")
-op_row ops.Auth = (pos 100, codes "auth")
-op_row ops.SetWatches = (pos 101, codes "setWatches")
-op_row ops.CloseSession = (minus 11, codes "closeSession")
+-- the first profile that has each operation, its number and its name
+abbrev pub op_row : Op → Profile × ℤ × List ℕ
+op_row ops.Create = (profiles.V34, pos 1, codes "create")
+op_row ops.Delete = (profiles.V34, pos 2, codes "delete")
+op_row ops.Exists = (profiles.V34, pos 3, codes "exists")
+op_row ops.GetData = (profiles.V34, pos 4, codes "getData")
+op_row ops.SetData = (profiles.V34, pos 5, codes "setData")
+op_row ops.GetAcl = (profiles.V34, pos 6, codes "getACL")
+op_row ops.SetAcl = (profiles.V34, pos 7, codes "setACL")
+op_row ops.GetChildren = (profiles.V34, pos 8, codes "getChildren")
+op_row ops.Sync = (profiles.V34, pos 9, codes "sync")
+op_row ops.Ping = (profiles.V34, pos 11, codes "ping")
+op_row ops.GetChildren2 = (profiles.V34, pos 12, codes "getChildren2")
+op_row ops.Multi = (profiles.V34, pos 14, codes "multi")
+op_row ops.Create2 = (profiles.V35, pos 15, codes "create2")
+op_row ops.Auth = (profiles.V34, pos 100, codes "auth")
+op_row ops.SetWatches = (profiles.V34, pos 101, codes "setWatches")
+op_row ops.CloseSession = (profiles.V34, minus 11, codes "closeSession")
 
 abbrev pub op_number : Op → ℤ
-op_number op = (op_row op).0
+op_number op = (op_row op).1
 
 abbrev pub op_name : Op → List ℕ
-op_name op = (op_row op).1
+op_name op = (op_row op).2
 
 abbrev pub all_ops : List Op
 all_ops =
@@ -47,10 +47,14 @@ abbrev pub profile_number : Profile → ℕ
 profile_number profiles.V34 = 34
 profile_number profiles.V35 = 35
 
--- the operations of a profile: of 3.4 all but create2, of 3.5 all
+-- a profile is the first, or a later one
+abbrev pub IsSince : (first : Profile) → Profile → Type 0
+IsSince profiles.V34 profile = Unit {0}
+IsSince profiles.V35 profile = profile ≡ profiles.V35
+
+-- the operations of a profile
 abbrev pub HasOp : Profile → Op → Type 0
-HasOp profiles.V34 op = op ≢ ops.Create2
-HasOp profiles.V35 op = Unit {0}
+HasOp profile op = IsSince (op_row op).0 profile
 
 -- no operation of the profile has the number
 abbrev pub IsNoOp : Profile → ℤ → Type 0

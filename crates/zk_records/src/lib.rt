@@ -1,4 +1,4 @@
-//! The records of ZooKeeper 3.4, and `create2` of 3.5: headers, bodies, and the numbers and names of operations.
+//! The records of the operations that a `Profile` has: headers, bodies, and the numbers and names of operations.
 //!
 //! Each record of zookeeper.jute is a struct of its fields, in jute's order, that is read and written by `zk_jute`'s
 //! `Wire` and `View`. One with texts, blobs or lists is generic, as `CreateAskOf`, and has two names: the owned

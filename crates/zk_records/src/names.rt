@@ -1,7 +1,7 @@
 //! The names of operations, errors and types of events.
 //!
 //! They are those of `ZooDefs.OpCode`, `KeeperException.Code` and `Watcher.Event.EventType` of ZooKeeper 3.4, and
-//! `create2` of 3.5.
+//! those of later operations that a [`Profile`](crate::Profile) has.
 ghost use Rattle.std.specs.Prelude.{◌≡◌, option_copied};
 ghost use Rattle.zk_records.specs.Codes as codes;
 ghost use Rattle.zk_records.specs.Names as names;

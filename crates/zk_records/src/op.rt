@@ -1,4 +1,4 @@
-//! The numbers of operations: `ZooDefs.OpCode` of ZooKeeper 3.4, and `create2` of 3.5.
+//! The numbers of operations: those of `ZooDefs.OpCode` that a `Profile` has.
 ghost use Rattle.std.specs.Prelude.{◌≡◌, ◌≢◌, ◌↔◌, pos, MatchOption};
 ghost use Rattle.zk_records.specs.Codes as codes;
 ghost use Rattle.zk_records.specs.declared.op.Op.{Op};

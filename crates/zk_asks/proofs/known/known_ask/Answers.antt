@@ -4,6 +4,7 @@ use Rattle.std.specs.Option.{IsSome}
 use Rattle.std.specs.Int.{w32}
 use Rattle.std.proofs.lemmas.Int.{to_z-of_z}
 use Rattle.zk_records.specs.Codes.{HasOp, IsNoOp, op_number}
+use Rattle.zk_records.proofs.Numbers.{newer_has}
 use Rattle.zk_records.specs.declared.op.Op.{Op}
 use Rattle.zk_records.specs.declared.profile.Profile.TheVariants as profiles
 use Rattle.zk_asks.proofs.Knowing.{of_some, ask_header, ask_front, ask_op, ask_body, ask_is}
@@ -14,7 +15,7 @@ known_at-place-requires c κs = let f = c.requires in ((refl, tt), (omega arith,
 
 some_op : (o : Option Op) (kind : ℤ) → MatchOption o (IsNoOp profiles.V35 kind) (λ op. HasOp profiles.V35 op × (kind ≡ op_number op)) → (op : Op) → kind ≡ op_number op → IsSome o
 some_op (Some op) kind told p e = refl
-some_op None kind told p e = absurd (told p tt e)
+some_op None kind told p e = absurd (told p (newer_has p) e)
 
 pub unwrap-op-requires : goal.unwrap-op-requires
 unwrap-op-requires c =

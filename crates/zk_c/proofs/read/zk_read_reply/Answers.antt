@@ -5,7 +5,7 @@ use Rattle.zk_records.specs.declared.profile.Profile.TheVariants as profiles
 use Rattle.zk_records.specs.Codes.{IsNoOp}
 use Rattle.zk_talk.specs.declared.message.MessageOf.TheVariants.{Server}
 use Rattle.zk_c.specs.Read.{IsOp}
-use Rattle.zk_c.proofs.Parts.{where_asked}
+use Rattle.zk_c.proofs.Parts.{of_one, where_asked}
 use Rattle.zk_c.proofs.Reading.{read_ok, read_err}
 use Rattle.zk_c.proofs.read.zk_read_reply.Goals as goal
 
@@ -15,6 +15,12 @@ borrow_reply-requires c = λ header rest h e. false≢true (c.if-is_of_event.ens
 pub returns-in-Ok-clause-reads : goal.returns-in-Ok-clause-reads
 returns-in-Ok-clause-reads c = where_asked _ (to_z-of_z w32 c.args.operation c.ranges.operation) c.in-Some.ensures (λ small not.
     read_ok Server c.in-Ok.frame c.in-Ok.ensures.found c.in-Ok.ensures.only c.read_server.ensures small)
+
+pub returns-in-Ok-clause-unknown : goal.returns-in-Ok-clause-unknown
+returns-in-Ok-clause-unknown c = λ no small none. of_one (to_z-of_z w32 c.args.operation c.ranges.operation) c.in-Some.ensures no
+
+pub returns-in-Err-clause-unknown : goal.returns-in-Err-clause-unknown
+returns-in-Err-clause-unknown c = λ no small none. of_one (to_z-of_z w32 c.args.operation c.ranges.operation) c.in-Some.ensures no
 
 pub returns-in-Err-clause-reads : goal.returns-in-Err-clause-reads
 returns-in-Err-clause-reads c = where_asked _ (to_z-of_z w32 c.args.operation c.ranges.operation) c.in-Some.ensures (λ small not.
