@@ -147,15 +147,18 @@ class Growth:
         self.empty = {command: self.least(command).cpu for command in COMMANDS}
 
     def least(self, *words):
+        """The run with the least time of three, with the status of one that failed."""
         read = self.listing if words[0] == "build" else self.recording
-        return min(timing.run([self.program, *words], read) for _ in range(3))
+        costs = [timing.run([self.program, *words], read) for _ in range(3)]
+        return min(costs)._replace(status=next((cost.status for cost in costs if cost.status), 0))
 
     def series(self, name, sizes, write, words=(), flat=False):
         """The rows of one shape; `write` makes the recording of a size, and returns its number of units."""
         before = {command: [] for command in COMMANDS}
         for size in sizes:
             units, row, faults = write(self.recording, size), f"| {name} | {size:,} |", []
-            timing.run([self.program, "show", *words], self.recording, self.listing)
+            if status := timing.run([self.program, "show", *words], self.recording, self.listing).status:
+                faults.append(f"the listing: status {status}")
             for command in COMMANDS:
                 cost = self.least(command, *words)
                 measured = Measured(size, units, cost._replace(cpu=max(0.0, cost.cpu - self.empty[command])))

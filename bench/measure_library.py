@@ -85,7 +85,7 @@ def measure_fields(folder, archive, program, wanted):
     for name, command in rows:
         counted = instructions(count, command, recording) / messages
         first = first or counted
-        seconds = min(timing.run(command, recording).cpu for _ in range(TIMES))
+        seconds = min(timing.good_run(command, recording).cpu for _ in range(TIMES))
         growths = answers[name][4] if name in answers else ""
         print(f"| {name} | {counted:.0f} | {counted / (first or 1):.2f} | {seconds:.3f} | {growths} |", flush=True)
     print(f"\na talk of the usual limits asks for {int(answers['step'][5]):,} bytes when it is made")

@@ -72,7 +72,7 @@ class Decoder:
                 sys.exit(f"{self.name} has status {cost.status}, and doesn't end with {self.ending}")
 
     def run(self, recording):
-        self.costs.append(timing.run(self.command, recording))
+        self.costs.append(timing.good_run(self.command, recording))
 
     def figures(self, middle):
         """CPU seconds, the program's own, and the greatest memory."""

@@ -50,6 +50,14 @@ def run(command, recording, output=os.devnull):
                 os.waitstatus_to_exitcode(status))
 
 
+def good_run(command, recording):
+    """One run, whose status has to be 0: what fails early has no figures."""
+    cost = run(command, recording)
+    if cost.status:
+        sys.exit(f"{' '.join(map(str, command))} ended with status {cost.status}")
+    return cost
+
+
 def words(description):
     """A parser of the arguments that both commands have."""
     parser = argparse.ArgumentParser(description=description, formatter_class=argparse.RawDescriptionHelpFormatter)
