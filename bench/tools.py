@@ -94,7 +94,9 @@ def many_cores(python, folder, jobs):
         outputs.append(subprocess.run([python, TOOLS / "zkstat.py", "--json", "--jobs", str(count), fleet],
                                       stdout=subprocess.PIPE, check=True).stdout)
         print(f"{count} processes: {time.monotonic() - begun:.2f} s", flush=True)
-    print("the same output" if outputs[0] == outputs[1] else "OTHER OUTPUT")
+    if outputs[0] != outputs[1]:
+        sys.exit("OTHER OUTPUT")
+    print("the same output")
 
 
 def main():
