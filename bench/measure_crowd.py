@@ -21,7 +21,7 @@ import subprocess
 import sys
 import tempfile
 
-from measure_record import begin
+from measure_record import begin, end
 
 HERE = pathlib.Path(__file__).resolve().parent
 ALONE = 2000                # the milliseconds that the busy clients are alone
@@ -36,8 +36,7 @@ def measured(crowd, tools, words, folder):
         server = int(clients.stdout.readline())
         recorder, port = begin(tools / "record.py", server, tempfile.mkdtemp(dir=folder))
         told, _ = clients.communicate(f"{port} {recorder.pid}\n")
-    recorder.terminate()
-    recorder.wait()
+    end(recorder)
     if clients.returncode:
         raise SystemExit(f"crowd has ended with status {clients.returncode}")
     took = {name: ([], []) for name in FIGURES}

@@ -50,6 +50,13 @@ def begin(record, server, folder):
     return recorder, int(recorder.stderr.readline().split(";")[0].rpartition(":")[2])
 
 
+def end(recorder):
+    """Ends a recorder, which has to have written all."""
+    recorder.terminate()
+    if status := recorder.wait():
+        raise SystemExit(f"{recorder.args[1]} ended with status {status}")
+
+
 def connect(port):
     client = socket.create_connection(("127.0.0.1", port))
     client.setsockopt(socket.IPPROTO_TCP, socket.TCP_NODELAY, 1)
@@ -125,8 +132,7 @@ def main():
         size = words.megabytes * 1_000_000
         for name, port in (("direct", direct), ("through record.py", through)):
             print(f"{name}: {flood(port, size):,.0f} MB/s each way", flush=True)
-        recorder.terminate()
-        recorder.wait()
+        end(recorder)
         sizes = [path.stat().st_size for path in pathlib.Path(folder).glob("*.zkr")]
         print(f"{len(sizes)} recordings, the largest of {max(sizes):,} bytes")
     server.terminate()

@@ -1,8 +1,10 @@
-"""Tests of bench/run, over scripts in the place of the programs of two checkouts, of the jobs that it runs, and of
-bench/tools.py and bench/measure_crowd.py."""
+"""Tests of bench/run, over scripts in the place of the programs of two checkouts, of the jobs that it runs, and of what
+the other scripts of bench/ do where a program fails."""
 
+import os
 import pathlib
 import re
+import resource
 import shutil
 import subprocess
 import sys
@@ -79,6 +81,57 @@ class Tools(ToolCase):
                               capture_output=True, text=True, check=False)
         self.assertEqual((done.returncode, len(done.stdout.splitlines())), (1, 2), done.stdout)
         self.assertRegex(done.stderr, r"^/bin/false \S*/zkstat.py \S*/timed.zkr ended with status 1: ")
+
+    def test_other_output_of_many_processes(self):
+        python = self.folder / "python"
+        python.write_text("#!/bin/sh\necho $$\n")
+        python.chmod(0o700)
+        done = subprocess.run([sys.executable, TOP / "bench" / "tools.py", "--megabytes", "1", "--python", python,
+                               "--jobs", "2"], capture_output=True, text=True, check=False)
+        self.assertEqual((done.returncode, done.stdout.count("\n"), done.stderr), (1, 2, "OTHER OUTPUT\n"))
+
+
+class Failing(ToolCase):
+    """Programs in the place of zkdump that are not right each time."""
+
+    def measure(self, script, *words):
+        """The status, the last line and standard error of a script of bench/, where there is no other decoder."""
+        tools = self.folder / "tools"
+        tools.mkdir()
+        for name in ("cat", "expr", "sh"):
+            (tools / name).symlink_to(shutil.which(name))
+        program = self.folder / "zkdump"
+        program.write_text(f"#!/bin/sh\ncat > {os.devnull}\necho '. whole unanswered=0'\n{script}\n")
+        program.chmod(0o700)
+        done = subprocess.run([sys.executable, TOP / "bench" / words[0], "--program", program, *words[1:]],
+                              env={**os.environ, "PATH": str(tools)}, capture_output=True, text=True, check=False)
+        return done.returncode, done.stdout.splitlines()[-1], done.stderr
+
+    def test_a_run_that_is_measured(self):
+        status, _, err = self.measure("test -f /dev/stdout", "run.py", "--megabytes", "1", "--times", "1")
+        self.assertEqual((status, err), (1, f"{self.folder}/zkdump check ended with status 1\n"))
+
+    def test_one_of_three_runs_that_takes_longer(self):
+        count = self.folder / "count"
+        count.write_text("0\n")
+        script = f"""n=$(expr $(cat {count}) + 1)
+            echo $n > {count}
+            test $(expr $n % 3) != 0 || {{ i=0; while test $i -lt 20000; do i=$((i + 1)); done; exit 3; }}"""
+        status, last, err = self.measure(script, "growth.py", "--quick", "--only", "one path")
+        self.assertEqual((status, last, err), (1, "0 passed, 3 failed", ""))
+
+    def test_the_listing_that_build_reads(self):
+        script = "test $1 != show || ! test -f /dev/stdout"
+        status, last, err = self.measure(script, "growth.py", "--quick", "--only", "one path")
+        self.assertEqual((status, last, err), (1, "0 passed, 3 failed", ""))
+
+    def test_a_recording_that_was_not_written(self):
+        limit = resource.getrlimit(resource.RLIMIT_FSIZE)
+        done = subprocess.run([sys.executable, TOP / "bench" / "measure_record.py", "--rounds", "1", "--megabytes", "2"],
+                              preexec_fn=lambda: resource.setrlimit(resource.RLIMIT_FSIZE, (1 << 20, limit[1])),
+                              capture_output=True, text=True, check=False)
+        self.assertEqual(done.returncode, 1, done.stdout)
+        self.assertRegex(done.stderr, r"/record.py ended with status 3\n$")
 
 
 class Crowd(ToolCase):
