@@ -308,12 +308,14 @@ def main():
     parser.add_argument("--checkout", type=pathlib.Path, default=TOP)
     parser.add_argument("words", nargs="*", metavar="WORD")
     words = parser.parse_args()
+    rows = [row for row in ROWS if not words.words or any(word in row.name for word in words.words)]
+    if not rows:
+        parser.error(f"no row has one of these words: {' '.join(words.words)}")
     if words.install:
         subprocess.run(["apt-get", "install", "-y", "--no-install-recommends", *PACKAGES], check=True)
     if not shutil.which("valgrind"):
         print("left out: the instructions of the programs, as valgrind is not here\n0 passed, 0 failed")
         return 0
-    rows = [row for row in ROWS if not words.words or any(word in row.name for word in words.words)]
     kept, used, sums = Kept(KEPT), tools(), digest()
     if words.update and words.words and kept.tools != used:
         parser.error("the tools are others than before: all rows are written, so give no words")

@@ -175,6 +175,8 @@ def main():
     parser.add_argument("--quick", action="store_true", help="smaller sizes")
     parser.add_argument("--only", default="", help="the rows that have this word in their name")
     words = timing.parsed(parser)
+    if not any(words.only in name for name in (*(shape.name for shape in SHAPES), LONG)):
+        parser.error(f"no row has this word: {words.only}")
     print("| What grows | Size |" + "".join(f" {command} CPU s | ns each | Peak MB |" for command in COMMANDS) + " |")
     print("|---|" + "---|" * (2 + 3 * len(COMMANDS)))
     with tempfile.TemporaryDirectory() as folder:

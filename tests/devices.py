@@ -115,20 +115,22 @@ def main():
     options = parser.parse_args()
     if not os.access(options.program, os.X_OK):
         parser.error(f"{options.program} is not a program: build it with ./zkdump")
+    cases = [args for args in sorted(CASES.glob("*/*.args")) if options.only in f"{args.parent.name}/{args.stem}"]
+    if not cases:
+        parser.error(f"no case has this word: {options.only}")
     with tempfile.TemporaryDirectory() as folder:
         library = compiled(folder)
         if library is None:
             print("skipped: there is no C compiler for tests/device.c\n0 passed, 0 failed")
             return 0
         devices = Devices(options.program, library)
-        for args in sorted(CASES.glob("*/*.args")):
+        for args in cases:
             name, words = f"{args.parent.name}/{args.stem}", args.read_text().splitlines()
             data = content(args.with_suffix(".in"))
-            if options.only in name:
-                ample = devices.run(words, data)
-                if ample[2] != 2:
-                    for look in (devices.steps, devices.reads, devices.writes):
-                        look(name, words, data, ample)
+            ample = devices.run(words, data)
+            if ample[2] != 2:
+                for look in (devices.steps, devices.reads, devices.writes):
+                    look(name, words, data, ample)
     print("\n".join(devices.failures[:30]), end="\n" if devices.failures else "")
     print(f"{devices.passed} passed, {len(devices.failures)} failed")
     return 1 if devices.failures else 0

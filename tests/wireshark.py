@@ -301,6 +301,10 @@ def main():
     parser.add_argument("--golden", action="store_true")
     parser.add_argument("words", nargs="*")
     words = parser.parse_args()
+    names = [name for name in dir(Tests) if name.startswith("test_")
+             and (not words.words or any(word in name for word in words.words))]
+    if not names:
+        parser.error(f"no test has one of these words: {' '.join(words.words)}")
     if words.install:
         subprocess.run(["apt-get", "install", "-y", "--no-install-recommends", *PACKAGES], check=True)
     if missing := dissected.missing(words.libzk):
@@ -309,9 +313,7 @@ def main():
     passed, failures = 0, []
     with tempfile.TemporaryDirectory() as folder:
         tests = Tests(dissected.Plugin(folder, words.libzk), folder, words)
-        for name in [name for name in dir(Tests) if name.startswith("test_")]:
-            if words.words and not any(word in name for word in words.words):
-                continue
+        for name in names:
             results = list(getattr(tests, name)())
             passed += sum(1 for good, _ in results if good)
             failures += [f"{name}: {told}" for good, told in results if not good]

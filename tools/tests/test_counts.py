@@ -1,11 +1,11 @@
-"""A test of run.py: what it counts as passed and as failed."""
+"""Tests of run.py, what it counts as passed and as failed, and of steps of ./test that are to run nothing."""
 
 import shutil
 import subprocess
 import sys
 import unittest
 
-from support import TOOLS, ToolCase
+from support import TOOLS, TOP, ToolCase
 
 TESTS = """
 import unittest
@@ -38,6 +38,16 @@ class Counts(ToolCase):
         done = subprocess.run([sys.executable, self.folder / "run.py"], capture_output=True, text=True, check=False)
         self.assertEqual((done.returncode, done.stdout.splitlines()[-2:]),
                          (1, ["not run: test_some.Some.test_left_out: it is not here", "1 passed, 2 failed"]))
+
+    def test_words_that_nothing_has(self):
+        program = ("--program", "/bin/true")
+        for words in (("bench/costs.py", "chek"), ("bench/growth.py", *program, "--only", "chek"),
+                      ("tests/devices.py", *program, "--only", "chek"), ("tests/wireshark.py", "chek")):
+            with self.subTest(words[0]):
+                done = subprocess.run([sys.executable, TOP / words[0], *words[1:]], capture_output=True, text=True,
+                                      check=False)
+                self.assertEqual((done.returncode, done.stdout), (2, ""))
+                self.assertRegex(done.stderr.splitlines()[-1], r"error: no \w+ has (this word|one of these words): chek$")
 
 
 if __name__ == "__main__":
