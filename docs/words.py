@@ -126,8 +126,8 @@ def lost(path, text):
 def scripts():
     """The scripts in Python, except this one, which has the words themselves."""
     folders = ("bench", "docs", "examples", "packaging", "tests", "tools")
-    found = {path for folder in folders for path in (TOP / folder).rglob("*.py")}
-    return sorted({*found, TOP / "release"} - {pathlib.Path(__file__).resolve()})
+    found = {path for folder in folders for path in (TOP / folder).rglob("*.py")} | {*TOP.glob("crates/*/*.py")}
+    return sorted({*found, TOP / "bench" / "run", TOP / "release"} - {pathlib.Path(__file__).resolve()})
 
 
 def in_scripts():

@@ -75,13 +75,13 @@ def difference(wanted, found):
     """The first of the three results that differs, as a text."""
     if found is None:
         return "the program did not end in time"
-    for what, want, got in zip(("standard output", "standard error", "status"), wanted, found):
-        if want == got:
+    for what, due, got in zip(("standard output", "standard error", "status"), wanted, found):
+        if due == got:
             continue
-        if isinstance(want, int):
-            return f"status {got}, and {want} was expected"
-        at = next((k for k, (a, b) in enumerate(zip(want, got)) if a != b), min(len(want), len(got)))
-        return (f"{what} differs at byte {at}\n    expected {want[max(0, at - 30):at + 90]!r}"
+        if isinstance(due, int):
+            return f"status {got}, and {due} was expected"
+        at = next((k for k, (a, b) in enumerate(zip(due, got)) if a != b), min(len(due), len(got)))
+        return (f"{what} differs at byte {at}\n    expected {due[max(0, at - 30):at + 90]!r}"
                 f"\n    found    {got[max(0, at - 30):at + 90]!r}")
     return "differs"
 
