@@ -146,17 +146,17 @@ def main():
     parser.add_argument("--remove", action="store_true")
     words = parser.parse_args()
     top = os.path.join(words.destdir, words.prefix.lstrip("/")) if words.destdir else words.prefix
-    if words.remove:
-        remove(top, words.libdir)
-        return 0
-    if not PROGRAM.exists():
+    if not words.remove and not PROGRAM.exists():
         print("install.py: the program is not built: build it with ./zkdump", file=sys.stderr)
         return 1
     os.umask(0o022)
     try:
-        for line in install(top, words.libdir):
-            print(f"left out: {line}")
-    except make_library.NotMade as fault:
+        if words.remove:
+            remove(top, words.libdir)
+        else:
+            for line in install(top, words.libdir):
+                print(f"left out: {line}")
+    except (make_library.NotMade, OSError) as fault:
         print(f"install.py: {fault}", file=sys.stderr)
         return 1
     return 0
