@@ -268,10 +268,10 @@ class Summary:
                 "unanswered": self.run.kept.unanswered_count - len(self.tables["unanswered"]),
                 "notCaptured": self.run.kept.not_captured_count - len(self.tables.get("notCaptured", ()))}
 
-    def has_hole(self):
-        """Whether bytes of a connection are missing."""
-        return any(word in each.source.notes for each in self.run.connections for word in ("hole", "lost")) or \
-            any(each.known and each.known.has_hole() for each in self.run.connections)
+    def with_holes(self):
+        """The connections of which bytes are missing."""
+        return [each for each in self.run.connections if {"hole", "lost"} & set(each.source.notes)
+                or each.known and each.known.has_hole()]
 
     def links(self):
         """The connection and the message that each row leads to, without repetition."""

@@ -5,7 +5,9 @@ import os
 import subprocess
 
 import report_lines
-from support import CAPTURES, PROGRAM, ToolCase
+from support import CAPTURES, PROGRAM, TOP, ToolCase
+
+import facts  # (support says where)
 
 TABLES = r"""2 connections, 1 sessions, 20 messages, 10 requests, 3 failed, 1 unanswered, 1 events
 from 2023-11-14T22:13:20.000Z to 2023-11-14T22:13:25.201Z
@@ -253,6 +255,28 @@ class Zkreport(ToolCase):
         self.report("--text", here, "--against", there, "--path", "/a")
         self.report("--text", here, "--against", there, "--op", "create", status=1)
         self.assert_bad_words("zkreport.py", "--text", here, "--against", there, "--slower", "1")
+
+    def test_what_is_missing_of_the_other_run_is_reported(self):
+        if not PROGRAM.exists():
+            self.skipTest("the program zkdump is not built")
+        whole, capture, cut = self.folder / "whole.zkr", self.folder / "whole.pcap", self.folder / "cut.pcap"
+        whole.write_bytes((TOP / "captures" / "kazoo_basic.zkr").read_bytes())
+        self.assertEqual(self.run_tool("zkr2pcap.py", whole, capture)[0], 0)
+        cut.write_bytes(capture.read_bytes()[:-1])      # of the last packet, which has no bytes of the conversation
+        found = self.report("--text", capture, "--against", cut, status=1)
+        self.assertIn(f"\nnot read: {cut}: the capture ends within a packet, and was read up to there\n", found)
+        self.assertIn("\nno difference: ", found)
+
+    def test_holes_of_the_other_run_are_reported(self):
+        if not PROGRAM.exists():
+            self.skipTest("the program zkdump is not built")
+        whole = self.folder / "whole.zkr"
+        whole.write_bytes((TOP / "captures" / "kazoo_basic.zkr").read_bytes())
+        holed = self.folder / "holed.zkr"
+        holed.write_bytes(whole.read_bytes())
+        facts.write(holed, facts.Facts(hole=("S",)))
+        found = self.report("--text", whole, "--against", holed, status=1)
+        self.assertIn("\nnot read: holed: bytes of it are missing\n", found)
 
     def test_one_connection_more(self):
         found = self.report("--text", self.one, "--against", self.one, "--against", self.other, status=1)
