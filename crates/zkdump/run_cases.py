@@ -63,12 +63,12 @@ class Runner:
         print(f"{name}: {difference(wanted, found)}")
         return False
 
-    def hold(self, name, same):
+    def hold(self, name, same, told="differs"):
         """Counts a comparison."""
         self.total += 1
         if not same:
             self.differing += 1
-            print(f"{name}: differs")
+            print(f"{name}: {told}")
 
 
 def difference(wanted, found):
@@ -91,6 +91,8 @@ def stored(path, missing):
 
 
 def run_cases(runner, folder):
+    for path in lacking(folder, ".args", (".in", ".out", ".err", ".status")):
+        runner.hold(f"{folder.name}/{path.name}", False, "it has no .args")
     for args in sorted(folder.glob("*.args")):
         words = args.read_text().splitlines()
         wanted = (stored(args.with_suffix(".out"), b""), stored(args.with_suffix(".err"), b""),
@@ -183,7 +185,14 @@ def run_capture(runner, path, word, options):
         build_again(runner, name, options, listing)
 
 
+def lacking(folder, has, ends):
+    """The files of a folder that end so, beside which no file ends as it has to: they would not be run."""
+    return [path for path in sorted(folder.iterdir()) if path.suffix in ends and not path.with_suffix(has).exists()]
+
+
 def run_captures(runner, folder, word):
+    for path in lacking(folder, ".show", (".zkr",)):
+        runner.hold(f"captures/{path.name}", False, "it has no listing")
     for path in sorted(folder.glob("*.show*")):
         release = ".".join(path.suffix[len(".show"):])
         run_capture(runner, path, word, ["--profile", release] if release else [])
