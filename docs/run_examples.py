@@ -43,7 +43,8 @@ import time
 
 TOP = pathlib.Path(__file__).resolve().parent.parent
 INDENT = "    "
-FENCE = re.compile(r"^```((?:rust|c) \S)?.*?^```$", re.M | re.S)
+# A block of code, to its end or that of the page: the file that it names, and its lines.
+FENCE = re.compile(r"^ {0,3}```(?:(?:rust|c) (\S+)\n|[^\n]*\n?)(.*?)(?:^ {0,3}``` *$|\Z)", re.M | re.S)
 MARK = re.compile(r"<!-- (not run|played): (.*) -->")
 STORED_RUN = "crates/zkdump/stdin"
 PLAYER = TOP / "tools" / "zkplay.py"
@@ -233,8 +234,9 @@ def are_in(lines, others):
 def compare_code(page, text):
     """Looks for the page's code in the files that it names."""
     passed = failed = 0
-    for block in re.finditer(r"^```(?:rust|c) (\S+)\n(.*?)^```$", text, re.M | re.S):
-        if are_in(plain(block[2]), plain((TOP / block[1]).read_text())):
+    for block in filter(lambda fence: fence[1], FENCE.finditer(text)):
+        source = TOP / block[1]
+        if source.is_file() and are_in(plain(block[2]), plain(source.read_text())):
             passed += 1
         else:
             failed += 1

@@ -54,10 +54,15 @@ class RunExamples(ToolCase):
         status, out = self.run_page(MARKED)
         self.assertEqual((status, out.count("no reason"), out.splitlines()[-1]), (0, 1, "0 passed, 0 failed"))
         self.assert_counts(MARKED + "\n    $ echo a\n    b\n", 0, 1)
-        for block in ("    a line of output\n", "```sh\necho a\n```\n", "```\nwords\n```\n"):
+        for block in ("    a line of output\n", "```sh\necho a\n```\n", "```\nwords\n```\n",
+                      "```c file.c words\nf();\n```\n", "- words\n\n  ```sh\n  echo a\n  ```\n"):
             self.assert_counts("words\n\n" + block + "\nwords\n\n    $ echo a\n    a\n", 1, 1)
 
     def test_code_of_rust(self):
         (self.folder / "code.rt").write_text("fn f() {\n    g();\n}\n")
         self.assert_counts(f"```rust {self.folder}/code.rt\nfn f() {{\n    g();\n```\n", 1, 0)
         self.assert_counts(f"```rust {self.folder}/code.rt\nfn f() {{\n    h();\n```\n", 0, 1)
+
+    def test_code_of_no_file_and_code_without_an_end(self):
+        self.assert_counts(f"```c {self.folder}/no.c\nf();\n```\n", 0, 1)
+        self.assert_counts("words\n\n```\nwords\n", 0, 1)
