@@ -53,14 +53,14 @@ def make(folder, megabytes):
 
 
 def spent(words, **more):
-    """The processor time of a command, and its greatest memory in megabytes."""
+    """The processor time of a command, and its greatest memory in megabytes of 1,000,000 bytes."""
     before = resource.getrusage(resource.RUSAGE_CHILDREN)
     done = subprocess.run(["/usr/bin/env", "time", "-f", "%M", *map(str, words)], stdout=subprocess.DEVNULL,
                           stderr=subprocess.PIPE, text=True, check=False, **more)
     if done.returncode:
         raise SystemExit(f"{' '.join(map(str, words))} ended with status {done.returncode}: {done.stderr.strip()}")
     after = resource.getrusage(resource.RUSAGE_CHILDREN)
-    return after.ru_utime + after.ru_stime - before.ru_utime - before.ru_stime, int(done.stderr.split()[-1]) // 1024
+    return after.ru_utime + after.ru_stime - before.ru_utime - before.ru_stime, int(done.stderr.split()[-1]) * 1024 / 1e6
 
 
 def one_core(python, folder, count):
@@ -79,7 +79,7 @@ def one_core(python, folder, count):
                 command = [python, TOOLS / tool, *(word.format(**names) for word in words)]
                 found.append(spent(command, env={**os.environ, **environment}))
         figures = [f"{seconds / count * 1e6:8.2f}" for seconds, _ in found]
-        print(f"{' '.join([tool, *(words or ())[:-1]]):<24}", *figures, f"{found[0][1]:6}", flush=True)
+        print(f"{' '.join([tool, *(words or ())[:-1]]):<24}", *figures, f"{found[0][1]:6.0f}", flush=True)
 
 
 def many_cores(python, folder, jobs):

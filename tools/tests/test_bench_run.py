@@ -82,6 +82,16 @@ class Tools(ToolCase):
         self.assertEqual((done.returncode, len(done.stdout.splitlines())), (1, 2), done.stdout)
         self.assertRegex(done.stderr, r"^/bin/false \S*/zkstat.py \S*/timed.zkr ended with status 1: ")
 
+    def test_megabytes_are_those_of_the_other_scripts(self):
+        if not PROGRAM.exists():
+            self.skipTest("the program zkdump is not built")
+        time = self.folder / "time"
+        time.write_text("#!/bin/sh\necho 250000 >&2\n")       # kilobytes of 1,024 bytes: 256,000,000 bytes
+        time.chmod(0o700)
+        done = subprocess.run([sys.executable, TOP / "bench" / "tools.py", "--megabytes", "1"], capture_output=True,
+                              env={**os.environ, "PATH": f"{self.folder}:{os.environ['PATH']}"}, text=True, check=False)
+        self.assertEqual((done.returncode, {line.split()[-1] for line in done.stdout.splitlines()[1:]}), (0, {"256"}))
+
     def test_other_output_of_many_processes(self):
         python = self.folder / "python"
         python.write_text("#!/bin/sh\necho $$\n")
