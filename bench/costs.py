@@ -5,10 +5,10 @@
 
 Each row is a program and an input (costs_inputs.py). callgrind counts the instructions of its run, less those of a run
 that does less, over nothing or of one turn of a job, so that the start and the making of a job's input aren't among
-them. Other work changes nothing, so runs go side by side. costs.txt has a number for each row, and costs_functions.txt
-the functions that had a hundredth of it or more. A row fails if it has 2% more than its number, or 2% less, so that
-what was gained is kept. --update writes the numbers of those rows and of new ones, and leaves the others; all are
-written if the tools are others than before.
+them: function by function, and one that has more in that other run counts as none. Other work changes nothing, so runs
+go side by side. costs.txt has a number for each row, and costs_functions.txt the functions that had a hundredth of it
+or more. A row fails if it has 2% more than its number, or 2% less, so that what was gained is kept. --update writes the
+numbers of those rows and of new ones, and leaves the others; all are written if the tools are others than before.
 
 With words, only rows whose names have one of them are counted. --checkout names another checkout of this repository
 whose programs are counted in place of those built here. --install installs Debian's valgrind first; without valgrind
@@ -71,7 +71,7 @@ def command(word, name):
 
 
 def writing(name):
-    """What show does more than check."""
+    """What show does more than check, in the functions of which it has more."""
     return Row(f"show less check {name}", *(Run("zkdump", (word,), name) for word in ("show", "check")))
 
 

@@ -95,6 +95,14 @@ class Rows(ToolCase):
                                                             "zk_items::list::Put::put": 13,
                                                             "memcpy": 400, "libc.so.6": 3})
 
+    def test_what_another_run_does_is_left_out_function_by_function(self):
+        counter = costs.collections.Counter
+        found = {"show": counter(put=100, read=30), "check": counter(judge=50, read=20)}
+        row = costs.Row("show less check", costs.Run("zkdump", ("show",)), costs.Run("zkdump", ("check",)))
+        with unittest.mock.patch.object(costs, "count", lambda run, *_: found[run.words[0]]):
+            made = costs.count_all([row], self.folder)
+        self.assertEqual(made, {"show less check": costs.Cost(110, {"put": 100, "read": 10})})
+
     def test_the_rows_that_are_kept_are_those_that_are_counted(self):
         kept = costs.Kept(costs.KEPT)
         self.assertEqual(list(kept.costs), [row.name for row in costs.ROWS])
