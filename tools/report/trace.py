@@ -25,7 +25,8 @@ class Trace:
             self.out.flush()
 
     def request(self, connection, asked, made):
-        """Takes a request and its reply, or None if it has none."""
+        """Takes a request and its reply, or None if it has none. A reply with a time before its request's ends it at
+        once: an end before its beginning would be shown as none."""
         if asked.moment is None or made and made.moment is None:
             return
         self.ids += 1
@@ -35,7 +36,7 @@ class Trace:
         facts = {"message": asked.n, "xid": asked.xid, "path": None if asked.path is None else paths.shown(asked.path)}
         self.put(ph="b", ts=microseconds(asked.moment), args=facts, **where)
         if made:
-            end, facts = made.moment, {"message": made.n, "error": made.error}
+            end, facts = max(made.moment, asked.moment), {"message": made.n, "error": made.error}
         else:
             end, facts = max(connection.ended, asked.moment), {"answered": False}
         self.put(ph="e", ts=microseconds(end), args=facts, **where)

@@ -206,6 +206,16 @@ class Zkreport(ToolCase):
         for event in events:
             self.assertTrue(isinstance(event["pid"], int) and isinstance(event["tid"], int) and event["name"])
 
+    def test_a_reply_with_a_time_before_that_of_its_request_in_a_trace(self):
+        head = '{"connection": "a", "n": %d, "side": "%s", "xid": 1, "op": "sync", '
+        path, trace = self.folder / "back.json", self.folder / "trace.json"
+        path.write_text(head % (1, "C") + '"path": "/a", "at": 2000}\n'
+                        + head % (2, "S") + '"zxid": "0x1", "path": "/a", "at": 1000, "of": 1, "asked": "/a"}\n')
+        self.report("--trace", trace, path)
+        events = json.loads(trace.read_text())["traceEvents"]
+        self.assertEqual([(each["ph"], each["ts"]) for each in events if each["ph"] in "be"],
+                         [("b", 2_000_000), ("e", 2_000_000)])
+
     def test_a_trace_needs_times(self):
         path = self.listing("a.show", LISTING.format(**HERE))
         status, out, err = self.run_tool("zkreport.py", "--trace", self.folder / "t", path)
