@@ -2,6 +2,7 @@
 
 import itertools
 import os
+import stat
 import subprocess
 
 import columns
@@ -68,6 +69,8 @@ def conversation(parser, words, path, stream, objects, progress, before_read, fa
         if path == listing.STANDARD_INPUT or words.recording:
             parser.error(f"{path} is a recording, and --recording is for a listing: leave it out"
                          if words.recording else "standard input is a recording: name its file as the argument")
+        if stat.S_ISFIFO(os.fstat(stream.fileno()).st_mode):
+            raise listing.NoListing(f"{path} is a pipe, and a recording is read more than once: name a file")
         profile = words.profile or known and known.profile
         if found := columns_of(words, path, fast, profile, known, progress):
             return found

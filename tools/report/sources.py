@@ -105,6 +105,8 @@ def sources_of(paths, folder, port, warnings):
     be read of a capture goes to the warnings."""
     parts = {}
     for path in paths:
+        if pathlib.Path(path).is_fifo():
+            raise ValueError(f"{path} is a pipe, and a report reads its files more than once: name a file")
         with open(path, "rb") as stream:
             mark = stream.read(4)
         name = os.path.basename(path)

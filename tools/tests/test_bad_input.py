@@ -51,6 +51,15 @@ class BadInput(ToolCase):
             self.assert_ends(f"TOOLS/{tool} --recording {RECORDING} --times {self.folder} {LISTING}", 3,
                              f"{tool}: {self.folder}: Is a directory\n")
 
+    def test_pipes(self):
+        for tool in READERS:
+            self.assert_ends(f"cat {RECORDING} | TOOLS/{tool} /dev/stdin", 1, f"{tool}: /dev/stdin is a pipe, and a "
+                             "recording is read more than once: name a file\n")
+            self.assert_ends(f"cat {LISTING} | TOOLS/{tool} /dev/stdin", 0, "")
+        for path in (RECORDING, LISTING):
+            self.assert_ends(f"cat {path} | TOOLS/zkreport.py --text /dev/stdin", 1, "zkreport.py: /dev/stdin is a "
+                             "pipe, and a report reads its files more than once: name a file\n")
+
     def test_a_folder_as_standard_input(self):
         """Of each tool as a user runs it, and of one that is installed, which is a link to it."""
         installed = self.folder / "zk stat"
