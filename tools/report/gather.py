@@ -155,13 +155,23 @@ class Run:
         return max(0, self.silent - MOST_SILENT)
 
     def connection(self, source, name):
-        """The next connection, or the next part of one."""
+        """The next connection, or the next part of one. Of a part of which nothing is chosen there is none: the next
+        one takes its place."""
         first = self.by_source.get(source.first)
         self.whole += first is None
-        label = f"{first.label}.{source.part}" if first else f"#{self.whole}"
-        found = self.by_source[source] = Connection(len(self.connections), source, name, label, first)
+        label = first.label.partition(".")[0] if first else f"#{self.whole}"
+        label += f".{source.part}" if source.first else ""
+        found = Connection(len(self.connections), source, name, label, first)
+        self.put(found)
         self.connections.append(found)
         return found
+
+    def put(self, connection):
+        """Takes a connection as that of its source, and if it is the first part that there is, of the first part's."""
+        source = connection.source
+        self.by_source[source] = connection
+        if source.first and not connection.first:
+            self.by_source[source.first] = connection
 
 
 class Reading:

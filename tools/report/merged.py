@@ -34,7 +34,8 @@ class Merged:
             numbers[each.number] = len(run.connections)
             made = run.connection(each.source, each.name)
             each.number, each.label, each.first = made.number, made.label, made.first
-            run.connections[-1] = run.by_source[each.source] = each
+            run.connections[-1] = each
+            run.put(each)
             for operation in each.operations.values():
                 if operation.slowest:
                     operation.slowest = moved(operation.slowest, numbers, 1)

@@ -1,8 +1,12 @@
 """Tests of zkreport over captures and recordings: how connections began and ended, and where bytes are missing."""
 
-import wire
-from support import CAPTURES, PROGRAM, ToolCase, pieces
+import re
+import subprocess
 
+import wire
+from support import CAPTURES, PROGRAM, TOP, ToolCase, pieces
+
+import facts
 from report import gather, sources, summary
 
 LINES = """\
@@ -118,6 +122,24 @@ class Captures(ToolCase):
         self.assertIn("\nand 2800 more\n", out)
         self.assertEqual(len(out.partition("\nSessions\n")[2].partition("\n\n")[0].splitlines()), 2)
         self.assertLess(page.stat().st_size, 500_000)
+
+    def test_a_first_part_of_which_nothing_is_chosen(self):
+        if not PROGRAM.exists():
+            self.skipTest("the program zkdump is not built")
+        head = "".join((TOP / "captures" / "kazoo_basic.show").read_text().splitlines(True)[:2])
+        exists = 'C 1 exists path="/a" watch=0\nS 1 exists zxid=5 err=-101/NONODE\n'
+        sync = 'C 1 sync path="/a"\nS 1 sync zxid=5 path="/a"\n'
+        paths = [self.folder / name for name in ("a-1.zkr", "a-1.2.zkr", "a-1.3.zkr")]
+        for part, (path, lines) in enumerate(zip(paths, (exists, sync, sync)), 1):
+            path.write_bytes(subprocess.run([PROGRAM, "build"], input=(head + lines).encode(), capture_output=True,
+                                            check=True).stdout)
+            facts.write(path, facts.Facts(client="10.0.0.1:1", server="10.0.0.2:2181", connected=1000.0,
+                                          session="0x100003780a60000", part=part))
+        for words in ((), ("--jobs", "2")):
+            status, out, err = self.run_tool("zkreport.py", "--text", "--op", "sync", *words, *paths)
+            self.assertEqual((status, err, out.splitlines()[0]), (
+                0, "", "1 connections, 1 sessions, 4 messages, 2 requests, 0 failed, 0 unanswered, 0 events"))
+            self.assertEqual(re.findall(r"^ *(#\S+)  0x100003780a60000  a-1", out, re.M), ["#1.2", "#1.3"])
 
     def test_a_recording_without_an_ending(self):
         """One that zkdump can't show is no empty connection."""
