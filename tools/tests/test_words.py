@@ -19,7 +19,7 @@ class Scripts(ToolCase):
             self.skipTest("this is no repository of git")
         there = {TOP / name for name in done.stdout.split("\0") if name and (TOP / name).exists()}
         python = {path for path in there if path.is_file() and (
-            path.suffix == ".py" or path.open("rb").readline() == b"#!/usr/bin/env python3\n")}
+            path.suffix == ".py" or path.read_bytes().startswith(b"#!/usr/bin/env python3\n"))}
         self.assertEqual(python - {*words.scripts()}, {TOP / "docs" / "words.py"})
 
     def test_words_in_scripts_of_crates_and_without_a_suffix(self):
