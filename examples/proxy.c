@@ -66,10 +66,9 @@ struct connection {
 };
 
 static struct connection *all[MOST];
-static size_t count;
 /* Readers that are over, which the next connections begin anew. What was touched of their memory stays with them. */
 static struct reader *spares[SPARES];
-static size_t spare_count;
+static size_t count, spare_count;
 static struct addrinfo *server;
 static uint8_t *text;
 static size_t room;
@@ -111,10 +110,11 @@ static struct reader *new_reader(void) {
 static void end_reader(struct connection *it) {
     struct reader *reader = it->reader;
     it->reader = NULL;
-    zk_through_renew(&reader->through);
-    memset(reader->lanes, 0, sizeof reader->lanes);
-    if (spare_count < SPARES) spares[spare_count++] = reader;
-    else free_reader(reader);
+    if (spare_count < SPARES) {
+        zk_through_renew(&reader->through);
+        memset(reader->lanes, 0, sizeof reader->lanes);
+        spares[spare_count++] = reader;
+    } else free_reader(reader);
 }
 
 /* The replies of a lane come in the order of its requests. */
