@@ -22,7 +22,8 @@ BLOCK = 1 << 18
 # The bytes of the link's header before the IP header, by the number of the link type; and those before the kind of what
 # follows, where tags of VLANs may be before it.
 LINKS = {0: 4, 108: 4, 276: 20, 12: 0, 14: 0, 101: 0, 228: 0, 229: 0}
-ETHERNET, TAGGED = 1, {1: 12, 113: 14}
+ETHERNET = 1
+TAGGED = {ETHERNET: 12, 113: 14}
 VLANS, IP_KINDS = (b"\x81\x00", b"\x88\xa8", b"\x91\x00"), (b"\x08\x00", b"\x86\xdd")
 FRAGMENTED, EXTENSIONS, TCP = 0x3FFF, (0, 43, 60), 6
 IPV4, TCP_HEAD = struct.Struct(">2xH2xHxB"), struct.Struct(">HHIIBB")
