@@ -30,21 +30,26 @@ op_number_apart a b e =
     let same : ◌≡◌ {A = Option Op} (Some a) (Some b) = sym (op_again a) ∙ ap (λ (n : ℤ). lookup (int_eq n) op_rows) e ∙ op_again b in
     cc
 
+-- the newer profile has what either profile had first
 newer_since : (first : Profile) → IsSince first profiles.V35
 newer_since profiles.V34 = tt
 newer_since profiles.V35 = refl
 
+-- the newer profile has each operation
 pub newer_has : (op : Op) → HasOp profiles.V35 op
 newer_has op = newer_since (op_row op).0
 
+-- whether a profile is the newer one
 abbrev is_newer : Profile → Bool
 is_newer profiles.V34 = false
 is_newer profiles.V35 = true
 
+-- the number 15 is that of what the newer profile has first
 newer_number : (op : Op) → int_eq (op_number op) (pos 15) ≡ is_newer (op_row op).0
 newer_number ops.Create = refl
 newer_number _ = refl
 
+-- `older_number`, by the first profile that has an operation
 older_by : (first : Profile) (n : ℤ) → int_eq n (pos 15) ≡ is_newer first → IsSince first profiles.V34 ↔ (n ≢ pos 15)
 older_by profiles.V34 n same = ((λ has. not_from_Decides (int_eq n (pos 15)) (Decides-int_eq n (pos 15)) same), (λ other. tt))
 older_by profiles.V35 n same = ((λ has e. absurd cc), (λ other. absurd (other ((Decides-int_eq n (pos 15)).0 same))))
