@@ -8,7 +8,7 @@
 
 #include "zk.h"
 
-/* How many requests may wait. More are rare, and a passage takes 77 bytes for each, at once. */
+/* How many requests may wait. More are rare, and a passage allocates for each of them at once. */
 enum { VERDICT_WAITING = 1024 };
 
 enum verdict { VERDICT_WELL, VERDICT_REFUSED, VERDICT_NONE, VERDICT_LEFT_OUT };
