@@ -45,10 +45,10 @@ def matched(pattern, text, line):
     return found
 
 
-def rows(*head):
-    """The rows of the tables whose heads begin with these cells: the line of each, and its cells."""
+def rows(*head, page=PAGE):
+    """The rows of a page's tables whose heads begin with these cells: the line of each, and its cells."""
     inside = None
-    for number, line in enumerate(PAGE.read_text().splitlines(), 1):
+    for number, line in enumerate(page.read_text().splitlines(), 1):
         if not line.startswith("|"):
             inside = None
             continue

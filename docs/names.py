@@ -139,11 +139,18 @@ def compare_lines():
             yield f"docs/FORMATS.md:{line}: the line of the {message} has {there!r}, and its records {here!r}"
 
 
-def reasons():
-    """The line and the name of each number of a reason in docs/REASONS.md."""
-    text = (TOP / "docs" / "REASONS.md").read_text()
-    for found in re.finditer(r"^\| (\d+) \| (\w+) \| ", text.partition("## Damaged recordings")[0], re.M):
-        yield int(found[1]), (text.count("\n", 0, found.start()) + 1, found[2])
+def reasons(*head):
+    """The line and the name of each number of a reason in a table of docs/REASONS.md; where the table has no numbers, of
+    each place in it."""
+    for place, (line, cells) in enumerate(formats.rows(*head, page=TOP / "docs" / "REASONS.md"), 1):
+        number, name = cells[:2] if head[0] == "Number" else (place, cells[0])
+        yield int(number), (line, name)
+
+
+def compare_faults(head, *enum):
+    """A table of docs/REASONS.md with an enum of the sources. NoMemory has a row only where rows have numbers."""
+    wanted = [name for name in source.faults(*enum) if head[0] == "Number" or name != "NoMemory"]
+    return compare_codes("docs/REASONS.md", reasons(*head), dict(enumerate(wanted, 1)))
 
 
 def compare_parts():
@@ -247,7 +254,10 @@ def compared():
     yield compare_codes("docs/FORMATS.md", formats.errors(), names["error"])
     yield compare_codes("docs/FORMATS.md", formats.events(), names["event"])
     yield compare_lines()
-    yield compare_codes("docs/REASONS.md", reasons(), source.reasons())
+    yield compare_codes("docs/REASONS.md", reasons("Number", "Reason", "Place"), source.reasons())
+    yield compare_faults(("Reason", "Offset"), "zk_recordings", "parts", "Damage")
+    yield compare_faults(("Number", "Reason", "When"), "zk_items", "fault", "LineReason")
+    yield compare_faults(("Reason", "It means"), "zk_talk", "say", "SayFault")
     yield compare_parts()
     yield compare_bodies()
     yield compare_forms()

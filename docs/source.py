@@ -202,6 +202,12 @@ def reasons():
     return some([(int(number), name) for name, number in rows], "reasons")
 
 
+def faults(crate, name, enum):
+    """The names of an enum of faults in a file of a crate, in their order."""
+    rows = re.findall(r"^    (\w+)", body(text_of(crate, name), f"enum {enum}"), re.M)
+    return list(some([(row, None) for row in rows], f"variants of {enum}"))
+
+
 @functools.lru_cache(maxsize=None)
 def names():
     """By kind, the name of each number: of operation, error, event, field and status."""

@@ -11,12 +11,13 @@ from invented import NUMBER
 sys.path.append(str(TOP / "docs"))
 import lists  # noqa: E402
 
-FOLDERS = [f"crates/{name}/src" for name in ("zk_records", "zk_asks", "zk_answers", "zk_fields", "zk_lines", "zk_c")]
+FOLDERS = [f"crates/{name}/src" for name in ("zk_records", "zk_asks", "zk_answers", "zk_fields", "zk_items", "zk_lines",
+                                             "zk_recordings", "zk_talk", "zk_c")]
 FILES = (*lists.PARTS, *lists.WHOLE, "docs/names.py", "docs/lists.py", "docs/source.py", "docs/formats.py",
          "docs/FORMATS.md", "docs/REASONS.md", "examples/python/libzk/_messages.py", "examples/python/libzk/_held.py",
          "crates/talk_tests/src/tests/earliest/bodies.rt", "examples/server.c", "wireshark/tree.c", "wireshark/message.h",
          "tools/forms.py", "bench/make_recording.py")
-ALL_PASSED = (0, ["25 passed, 0 failed"])
+ALL_PASSED = (0, ["28 passed, 0 failed"])
 # A file, what is replaced in it and by what, and what is then said: `{line}` is the line of the change.
 WRITTEN = (
     ("include/zk.h", '    case 8: return "getChildren";\n', "", 'lacks case 8: return "getChildren"'),
@@ -76,6 +77,12 @@ COMPARED = (
       "and in the sources 'setACL path=text acl=list of acl version=num'",)),
     ("docs/REASONS.md", "| 9 | BadPart |", "| 9 | NoPart |",
      ("docs/REASONS.md:{line}: 9 is NoPart, and in the sources BadPart",)),
+    ("docs/REASONS.md", "| BadSide |", "| NoSide |",
+     ("docs/REASONS.md:{line}: 3 is NoSide, and in the sources BadSide",)),
+    ("docs/REASONS.md", "| 8 | Ending |", "| 9 | Ending |",
+     ("docs/REASONS.md: no row of 8 Ending", "docs/REASONS.md:{line}: 9 is Ending, and in the sources nothing")),
+    ("docs/REASONS.md", "| TooLong |", "| TooLarge |",
+     ("docs/REASONS.md:{line}: 5 is TooLarge, and in the sources TooLong",)),
     ("tools/operations.py", 'Operation(13, "check", None, VERSION),', 'Operation(13, "check", None, PATH),',
      ("tools/operations.py: no row of the part 13 check with text path, int version",)),
     ("tools/forms.py", '"cversion", "aversion"', '"aversion", "cversion"',
