@@ -3,9 +3,9 @@
 
     make_recording.py small|big|listing MEGABYTES OUT
 
-small has twelve operations, paths of some 20 bytes and data of 100, and up to 50 requests that wait; big has replies to
-getData with 100,000 bytes, and listing has replies to getChildren with 10,000 names. The pieces are those of a proxy
-that reads up to 65,536 bytes at a time, so some frames are cut.
+small has twelve operations, paths of some 20 bytes and data of 100, and up to 50 requests that the server has yet to
+answer; big has replies to getData with 100,000 bytes, and listing has replies to getChildren with 10,000 names. The
+pieces are those of a proxy that reads up to 65,536 bytes at a time, so some frames are cut.
 
 Some four megabytes are made at random, always the same, and then repeated: xids begin anew each time, which the
 protocol allows. No request waits at the end of a repetition, so the conversation is whole however long it is.
