@@ -5,7 +5,8 @@
 
 A page names clauses of a function as `call` (clause, ..) or, within brackets, as (`call`, clause, ..; ..), and calls of
 a trait or type as `Type` (call, ..). Each such word must be the name of a clause of a function of that name in
-crates/*/src, or of a call of that type. Without arguments it reads README.md, those of tools and crates, and docs/*.md.
+crates/*/src, or of a call of that type; and what a table's last column names under one of the heads CARRYING a function
+or type. Without arguments it reads README.md, those of tools and crates, and docs/*.md.
 
 It prints what is wrong and one last line. The status is 0 if nothing is.
 """
@@ -21,6 +22,7 @@ FUNCTION = re.compile(r"\bfn (\w+)")
 WORDS = r"[a-z]\w*(?:, [a-z]\w*)*"
 NAMES = r"`[\w:]+`(?:(?:, | and )`[\w:]+`)*"
 OUTSIDE = re.compile(rf"({NAMES}) \(({WORDS})\)")
+CARRYING = ("Contracts that carry it", "Clauses")
 INSIDE = re.compile(rf"\(({NAMES}, {WORDS}(?:; {NAMES}, {WORDS})*)\)")
 
 
@@ -65,6 +67,15 @@ def named(page):
             yield names, re.sub(rf"^{NAMES}, ", "", part).split(", ")
 
 
+def carried(page):
+    """The functions and types that such columns name."""
+    inside = False
+    for line in page.splitlines():
+        last = line.rsplit("|", 2)[1].strip() if line.startswith("|") else ""
+        inside = line.startswith("|") and (inside or last in CARRYING)
+        yield from re.findall(r"`([\w:]+)`", last) if inside else ()
+
+
 def main():
     pages = [pathlib.Path(word) for word in sys.argv[1:]] or [
         *(TOP / name for name in ("README.md", "tools/README.md", "crates/README.md")),
@@ -72,7 +83,13 @@ def main():
     clauses, members = known()
     wrong, right = [], 0
     for path in pages:
-        for names, words in named(path.read_text()):
+        page = path.read_text()
+        for name in carried(page):
+            if name in clauses or name in members:
+                right += 1
+            else:
+                wrong.append(f"{path.name}: there is no function or type {name}")
+        for names, words in named(page):
             for name in names:
                 for word in words:
                     if word in clauses.get(name, ()) or word in members.get(name, ()):

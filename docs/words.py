@@ -6,10 +6,10 @@
 It prints each page's words (those of `wc -w`, without the parts that scripts write), the limit, and the longest
 sentence. With --check it prints only what is wrong: a page or docs/ above its limit of words, a sentence above the
 page's, a word of DIALECT more often than its number allows, a date, a machine or an hour outside of bench/README.md and
-CHANGELOG.md, a link between pages whose file or heading isn't there, and a word of DIALECT in a script's comments or
-texts, which are its messages and help, or in a comment of a crate's sources, or of C, Rust, Go or JavaScript. There a
-fast form "stands for" a plain one. So is a source or script of more than 400 lines that CONTRIBUTING.md doesn't name,
-or a shorter one that it names.
+CHANGELOG.md, a link between pages whose file or heading isn't there, a path of the repository in code that isn't there,
+and a word of DIALECT in a script's comments or texts, which are its messages and help, or in a comment of a crate's
+sources, or of C, Rust, Go or JavaScript. There a fast form "stands for" a plain one. So is a source or script of more
+than 400 lines that CONTRIBUTING.md doesn't name, or a shorter one that it names.
 
 A sentence ends with a full stop, a question or an exclamation mark; a table's cell, an item of a list and a heading are
 sentences of their own. Code within a sentence is one word; blocks of code are none.
@@ -62,6 +62,10 @@ TEXTS, MADE = ("COPYING", "LICENSE", ".git"), {".git", "__pycache__", "build", "
 GENERATED = re.compile(r"<!-- The lines from here on are written by .*?<!-- Up to here. -->", re.S)
 FENCE = re.compile(r"^```.*?^```$", re.M | re.S)
 LINK = re.compile(r"\[([^\]]*)\]\(([^)\s]+)\)")
+# A path in code that begins with a folder of the repository, and the words in one that stand for any name.
+PATH = re.compile(r"`((?:bench|captures|completion|crates|docs|examples|include|packaging|tests|tools|wireshark)"
+                  r"/[\w./-]+)`")
+ANY_NAME = {"CRATE", "NAME"}
 ENDS = re.compile(r"(?<=[.?!])[\"')*]*\s+")
 
 
@@ -111,7 +115,8 @@ def anchors(text):
 
 
 def lost(path, text):
-    """The links of a page that lead nowhere: no file, no heading, or no function of the name that is linked."""
+    """The links of a page that lead nowhere: no file, no heading, or no function of the name that is linked. And the
+    paths of the repository that it names and that aren't there, but for those of what is made."""
     for name, target in LINK.findall(FENCE.sub("", text)):
         file, _, anchor = target.partition("#")
         if re.match(r"\w+:", target):
@@ -121,6 +126,10 @@ def lost(path, text):
         if (not to.exists() or (anchor and anchor not in anchors(to.read_text()))
                 or (code and not re.search(rf"\b(?:fn|macro_rules!) {code[1]}\b", to.read_text()))):
             yield f"{name_of(path)}: the link {name} to {target} leads nowhere"
+    for name in PATH.findall(text):
+        is_there = (TOP / name).exists() or (path.parent / name).exists()
+        if not is_there and not (MADE | ANY_NAME) & set(re.split(r"[/.]", name)):
+            yield f"{name_of(path)}: there is no {name}"
 
 
 def scripts():

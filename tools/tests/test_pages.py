@@ -1,0 +1,37 @@
+"""Tests of docs/clauses.py and docs/words.py: clauses, functions and paths that a page names and that aren't there."""
+
+import subprocess
+import sys
+
+from support import TOP, ToolCase
+
+sys.path.append(str(TOP / "docs"))
+import words  # noqa: E402  (found by the line above)
+
+PAGE = """| What holds | Clauses |
+|---|---|
+| A fault is kept. | `Talk::take` (err, gone), `Talk::gone`, `Wire` |
+
+| Function | What it does |
+|---|---|
+| `Talk::gone` | `nothing` |
+"""
+
+
+class Clauses(ToolCase):
+    def test_what_there_is_not_is_named(self):
+        page = self.folder / "PAGE.md"
+        page.write_text(PAGE)
+        done = subprocess.run([sys.executable, TOP / "docs" / "clauses.py", page], capture_output=True, text=True,
+                              check=False)
+        self.assertEqual((done.returncode, done.stderr), (1, ""))
+        self.assertEqual(done.stdout.splitlines(), ["PAGE.md: there is no function or type Talk::gone",
+                                                    "PAGE.md: `Talk::take` has no clause gone", "3 passed, 2 failed"])
+
+
+class Paths(ToolCase):
+    def test_a_path_that_is_not_there_is_named(self):
+        page = ("`tests/devices.py`, `tests/device.py`, `docs/*.py`, `tools/NAME.py`, `tests/golden`, `bin/zkdump`, "
+                "`crates/CRATE/must-fail/NAME.edit`, `crates/zk_c/out/libzk_c.a`, `crates/zk_gone/src`")
+        self.assertEqual([*words.lost(TOP / "wireshark" / "README.md", page)], [
+            "wireshark/README.md: there is no tests/device.py", "wireshark/README.md: there is no crates/zk_gone/src"])
