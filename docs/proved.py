@@ -7,7 +7,8 @@ From the contract of each headline call it follows the names through `ghost use`
 folders specs/ and every type of the folders src/ that they name, and writes them between two marks of the page. With
 --check it writes nothing and fails where the page isn't current. Names are followed by their spelling, so a local
 name that is spelled like a definition counts, too: the list may have a few names too many, and none too few. Laws,
-whose proofs the checker has read, are left out.
+whose proofs the checker has read, are left out. With --check it also fails where no section of docs/CONVERSATION.md
+names the file of such a definition.
 
 The status is 0 if the page is current or was written, 1 if --check finds that it isn't, 2 for invalid arguments.
 """
@@ -17,7 +18,7 @@ import re
 import sys
 
 TOP = pathlib.Path(__file__).resolve().parent.parent
-PAGE = TOP / "docs" / "PROVED.md"
+PAGE, MEANING = TOP / "docs" / "PROVED.md", TOP / "docs" / "CONVERSATION.md"
 BEGIN, END = "<!-- The lines from here on are written by docs/proved.py. -->", "<!-- Up to here. -->"
 
 # The headline statements: a title, and the public calls whose contracts they are.
@@ -212,6 +213,18 @@ def generated():
     return "\n\n".join(parts)
 
 
+def unexplained(text, meaning):
+    """The files of definitions in the tables of a text that the other one doesn't name. A name without a folder has that
+    of the name before it in its line."""
+    named = set()
+    for line in meaning.splitlines():
+        folder = ""
+        for name in re.findall(r"`([\w/]+\.antt)`", line):
+            folder = name.rpartition("/")[0] or folder
+            named.add(f"{folder}/{name.rpartition('/')[2]}")
+    return sorted({*re.findall(r"^\| `(crates/\w+/specs/\w+\.antt)` \|", text, re.M)} - named)
+
+
 def main():
     if sys.argv[1:] not in ([], ["--check"]):
         print(__doc__.split("\n\n")[1].strip(), file=sys.stderr)
@@ -219,14 +232,15 @@ def main():
     page = PAGE.read_text()
     head, _, rest = page.partition(BEGIN)
     tail = rest.partition(END)[2]
-    current = f"{head}{BEGIN}\n\n{generated()}\n\n{END}{tail}"
+    current, wrong = f"{head}{BEGIN}\n\n{generated()}\n\n{END}{tail}", []
     if "--check" not in sys.argv:
         PAGE.write_text(current)
-    elif page != current:
-        print("docs/PROVED.md isn't current: run docs/proved.py\n0 passed, 1 failed")
-        return 1
-    print("1 passed, 0 failed")
-    return 0
+    else:
+        wrong = [f"docs/CONVERSATION.md: no section has {name}" for name in unexplained(current, MEANING.read_text())]
+        if page != current:
+            wrong.append("docs/PROVED.md isn't current: run docs/proved.py")
+    print("\n".join([*wrong, f"{0 if wrong else 1} passed, {len(wrong)} failed"]))
+    return 1 if wrong else 0
 
 
 if __name__ == "__main__":

@@ -1,4 +1,5 @@
-"""Tests of docs/clauses.py and docs/words.py: clauses, functions and paths that a page names and that aren't there."""
+"""Tests of docs/clauses.py, docs/words.py and docs/proved.py: clauses, functions and paths that a page names and that
+aren't there, and definitions that no section explains."""
 
 import subprocess
 import sys
@@ -6,7 +7,8 @@ import sys
 from support import TOP, ToolCase
 
 sys.path.append(str(TOP / "docs"))
-import words  # noqa: E402  (found by the line above)
+import proved  # noqa: E402  (found by the line above)
+import words  # noqa: E402
 
 PAGE = """| What holds | Clauses |
 |---|---|
@@ -35,3 +37,14 @@ class Paths(ToolCase):
                 "`crates/CRATE/must-fail/NAME.edit`, `crates/zk_c/out/libzk_c.a`, `crates/zk_gone/src`")
         self.assertEqual([*words.lost(TOP / "wireshark" / "README.md", page)], [
             "wireshark/README.md: there is no tests/device.py", "wireshark/README.md: there is no crates/zk_gone/src"])
+
+
+class Definitions(ToolCase):
+    def test_a_definition_without_a_section_is_named(self):
+        rests = "".join(f"| `crates/{name}` | `any` |\n" for name in (
+            "zk_talk/specs/Good.antt", "zk_talk/specs/Held.antt", "zk_jute/specs/Item.antt", "zk_jute/specs/Names.antt",
+            "zk_talk/src/limits.rt"))
+        meaning = ("`crates/zk_talk/specs/Fault.antt`, `Good.antt`; `crates/zk_jute/specs/Held.antt`\n\n"
+                   "`Names.antt` has more, and `crates/zk_jute/specs/Item.antt` the items.\n")
+        self.assertEqual(proved.unexplained(rests, meaning),
+                         ["crates/zk_jute/specs/Names.antt", "crates/zk_talk/specs/Held.antt"])
