@@ -47,7 +47,8 @@ DIALECT = {
     r"comes? to": 6,
     r"behind": 3,
 }
-DIARY = re.compile(r"\b\d{1,2} (?:January|February|March|April|May|June|July|August|September|October|November|December)"
+MONTHS = "January|February|March|April|May|June|July|August|September|October|November|December"
+DIARY = re.compile(rf"\b\d{{1,2}} (?:{MONTHS})|\b(?:{MONTHS}) \d|\b\d{{4}}-\d\d-\d\d\b"
                    r"|\b(?:this|that) machine\b|\b(?:hours?|minutes?) on\b|\bat a load of\b")
 
 # The greatest number of lines of a source, the page that names those with more, what a source's name ends with, and the
@@ -83,6 +84,11 @@ def prose(text):
     """The page without blocks of code, comments and what scripts write."""
     text = re.sub(r"<!--.*?-->", "", FENCE.sub("", GENERATED.sub("", text)), flags=re.S)
     return "\n".join(line for line in text.splitlines() if not line.startswith("    "))
+
+
+def plain(text):
+    """The page's prose in one line, without the code in it."""
+    return " ".join(re.sub(r"`[^`]*`", "", prose(text)).split())
 
 
 def blocks(text):
@@ -148,18 +154,19 @@ def in_scripts():
             for token in tokenize.generate_tokens(script.readline):
                 if token.type in kinds:
                     yield from (f"{name_of(path)}:{token.start[0]}: plainer words: {found[0]}"
-                                for found in dialect.finditer(token.string))
+                                for found in dialect.finditer(" ".join(token.string.split())))
 
 
 def in_sources():
     """The words of DIALECT in the comments of sources, those of crates and those in C, Rust, Go and JavaScript; names
     in backticks are code."""
     dialect = re.compile(rf"\b(?:{'|'.join(DIALECT)})\b(?! for)", re.I)
-    for path in sorted({path for pattern in COMMENTED for path in TOP.glob(pattern) if not MADE & set(path.parts)}):
+    for path in sorted({path for pattern in COMMENTED for path in TOP.glob(pattern)
+                        if MADE.isdisjoint(path.relative_to(TOP).parts)}):
         text = path.read_text()
         for block in re.finditer(r"(?:^[ \t]*//.*\n)+|//.*\n|/\*(?:.|\n)*?\*/", text, re.M):
-            words = re.sub(r"\s*(?://[/!]?|^ \*(?!/)|/\*)\s*", " ", block[0], flags=re.M)
-            for found in dialect.finditer(re.sub(r"`[^`]*`", "code", words)):
+            words = re.sub(r"//[/!]?|^ \*(?!/)|/\*", " ", block[0], flags=re.M)
+            for found in dialect.finditer(" ".join(re.sub(r"`[^`]*`", "code", words).split())):
                 yield f"{name_of(path)}:{text.count(chr(10), 0, block.start()) + 1}: plainer words: {found[0]}"
 
 
@@ -193,9 +200,9 @@ def judged(texts):
             if size > PLAIN.get(name, LONG):
                 yield f"{name}: a sentence of {size} words: {sentence[:90]}"
         if name != "bench/README.md":
-            yield from (f"{name}: a diary's words: {found[0]}" for found in DIARY.finditer(prose(text)))
+            yield from (f"{name}: a diary's words: {found[0]}" for found in DIARY.finditer(plain(text)))
         yield from lost(path, text)
-    every = " ".join(re.sub(r"\s+", " ", re.sub(r"`[^`]*`", "", prose(text))) for text in texts.values())
+    every = " ".join(map(plain, texts.values()))
     for word, limit in DIALECT.items():
         count = len(re.findall(rf"\b(?:{word})\b", every, re.I))
         if count > limit:

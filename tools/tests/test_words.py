@@ -1,4 +1,4 @@
-"""Tests of docs/words.py: which scripts it reads."""
+"""Tests of docs/words.py: which scripts and sources it reads, and what it finds there and in pages."""
 
 import subprocess
 import sys
@@ -10,6 +10,27 @@ sys.path.append(str(TOP / "docs"))
 import words  # noqa: E402  (found by the line above)
 
 WORDS = " ".join(("so", "many"))     # in one string this file would be reported
+
+
+class Sources(ToolCase):
+    def test_comments_where_a_folder_above_is_named_as_one_of_what_is_made(self):
+        for top in ("checkout", "build"):
+            path = self.folder / top / "tests" / "calls.c"
+            path.parent.mkdir(parents=True)
+            path.write_text(f"int a;\n/* {WORDS}\n   or so\n   many */\n// so\n// many\n")
+            with unittest.mock.patch.object(words, "TOP", self.folder / top):
+                self.assertEqual([*words.in_sources()], [f"tests/calls.c:{line}: plainer words: {WORDS}"
+                                                         for line in (2, 2, 5)])
+
+
+class Pages(ToolCase):
+    def test_dates(self):
+        for text, found in (("measured on 28 November 2026", "28 November"), ("on November 28", "November 2"),
+                            ("since 2026-11-28,", "2026-11-28"), ("as `2026-11-28T10:00:00.000Z`", None),
+                            ("it may 2 times", None), ("    $ date\n    2026-11-28\n", None)):
+            page = {words.TOP / "docs" / "LIBRARY.md": text + "\n"}
+            with unittest.mock.patch.multiple(words, WORDS={}, in_scripts=list, in_sources=list, too_long=list):
+                self.assertEqual([*words.judged(page)], [f"docs/LIBRARY.md: a diary's words: {found}"] if found else [])
 
 
 class Scripts(ToolCase):
@@ -25,7 +46,7 @@ class Scripts(ToolCase):
     def test_words_in_scripts_of_crates_and_without_a_suffix(self):
         for name in ("crates/zkdump/run_cases.py", "bench/run", "release"):
             (self.folder / name).parent.mkdir(parents=True, exist_ok=True)
-            (self.folder / name).write_text(f"# {WORDS}\n")
+            (self.folder / name).write_text(f"# {WORDS}\n'''so\n    many'''\n")
         with unittest.mock.patch.object(words, "TOP", self.folder):
-            self.assertEqual([*words.in_scripts()], [f"{name}:1: plainer words: {WORDS}" for name in (
-                "bench/run", "crates/zkdump/run_cases.py", "release")])
+            self.assertEqual([*words.in_scripts()], [f"{name}:{line}: plainer words: {WORDS}" for name in (
+                "bench/run", "crates/zkdump/run_cases.py", "release") for line in (1, 2)])
