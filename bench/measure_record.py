@@ -57,6 +57,17 @@ def end(recorder):
         raise SystemExit(f"{recorder.args[1]} ended with status {status}")
 
 
+def came(client, size):
+    """How many bytes come, at most `size`. A connection that ends before its answers is no measure."""
+    try:
+        count = len(client.recv(size))
+    except ConnectionError:
+        count = 0
+    if count == 0:
+        raise SystemExit("a connection has ended before its answers")
+    return count
+
+
 def connect(port):
     client = socket.create_connection(("127.0.0.1", port))
     client.setsockopt(socket.IPPROTO_TCP, socket.TCP_NODELAY, 1)
@@ -79,7 +90,7 @@ def answers(port, clients, rounds, at_once=1):
     while left:
         for key, _ in ready.select():
             state = key.data
-            state[1] += len(key.fileobj.recv(1 << 16))
+            state[1] += came(key.fileobj, 1 << 16)
             if state[1] == len(ASK) * at_once:
                 took.append((time.perf_counter() - state[0]) * 1000)
                 state[2] += 1
@@ -96,11 +107,11 @@ def flood(port, size):
     """Megabytes per second of `size` bytes, to the server and back."""
     block, begun = bytes(1 << 18), time.perf_counter()
     client = connect(port)
-    sender = Process(target=lambda: [client.sendall(block) for _ in range(size // len(block))])
+    sender = Process(target=lambda: [client.sendall(block) for _ in range(size // len(block))], daemon=True)
     sender.start()
     got = 0
     while got < size // len(block) * len(block):
-        got += len(client.recv(1 << 18))
+        got += came(client, 1 << 18)
     sender.join()
     client.close()
     return got / 1e6 / (time.perf_counter() - begun)
@@ -126,13 +137,15 @@ def main():
     direct = listener.getsockname()[1]
     with tempfile.TemporaryDirectory() as folder:
         recorder, through = begin(RECORD, direct, folder)
-        print("| | Clients | Requests at once | p50 ms | p99 ms | Rounds a second |\n|---|---|---|---|---|---|")
-        row("direct", direct, words)
-        row("through record.py", through, words)
-        size = words.megabytes * 1_000_000
-        for name, port in (("direct", direct), ("through record.py", through)):
-            print(f"{name}: {flood(port, size):,.0f} MB/s each way", flush=True)
-        end(recorder)
+        try:
+            print("| | Clients | Requests at once | p50 ms | p99 ms | Rounds a second |\n|---|---|---|---|---|---|")
+            row("direct", direct, words)
+            row("through record.py", through, words)
+            size = words.megabytes * 1_000_000
+            for name, port in (("direct", direct), ("through record.py", through)):
+                print(f"{name}: {flood(port, size):,.0f} MB/s each way", flush=True)
+        finally:
+            end(recorder)
         sizes = [path.stat().st_size for path in pathlib.Path(folder).glob("*.zkr")]
         print(f"{len(sizes)} recordings, the largest of {max(sizes):,} bytes")
     server.terminate()

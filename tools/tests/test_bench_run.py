@@ -12,6 +12,15 @@ import sys
 from support import PROGRAM, TOP, ToolCase
 
 JOBS = TOP / "crates" / "bench_jobs" / "out" / "bench_jobs"
+# In the place of record.py: it ends each connection after the first request.
+ENDS = """import signal, socket, sys
+signal.signal(signal.SIGTERM, lambda *_: sys.exit())
+listener = socket.create_server(("127.0.0.1", 0))
+print(f"record.py: listens on 127.0.0.1:{listener.getsockname()[1]}; Ctrl-C ends it", file=sys.stderr, flush=True)
+while True:
+    with listener.accept()[0] as client:
+        client.recv(100)
+"""
 NAMES = ["check", "single", "show", "build", "clients", "archive"]
 
 
@@ -142,6 +151,16 @@ class Failing(ToolCase):
                               capture_output=True, text=True, check=False)
         self.assertEqual(done.returncode, 1, done.stdout)
         self.assertRegex(done.stderr, r"/record.py ended with status 3\n$")
+
+    def test_a_connection_that_ends_before_its_answers(self):
+        script, record = self.folder / "bench" / "measure_record.py", self.folder / "tools" / "record.py"
+        for path in (script, record):
+            path.parent.mkdir()
+        shutil.copy(TOP / "bench" / "measure_record.py", script)
+        record.write_text(ENDS)
+        done = subprocess.run([sys.executable, script, "--rounds", "1", "--megabytes", "1"], capture_output=True,
+                              text=True, check=False, timeout=50)
+        self.assertEqual((done.returncode, done.stderr), (1, "a connection has ended before its answers\n"))
 
 
 class Crowd(ToolCase):
