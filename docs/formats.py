@@ -45,6 +45,16 @@ def matched(pattern, text, line):
     return found
 
 
+def once(found, page="docs/FORMATS.md"):
+    """What is found by name, each with its line first; a ValueError where a name is there twice."""
+    by_name = {}
+    for name, row in found:
+        if name in by_name:
+            raise ValueError(f"{page}:{row[0]}: there is another row of {name}")
+        by_name[name] = row
+    return by_name
+
+
 def rows(*head, page=PAGE):
     """The rows of a page's tables whose heads begin with these cells: the line of each, and its cells."""
     inside = None
@@ -73,14 +83,14 @@ def fields(text, line):
 
 def records():
     """The line and the fields of each record that section 3 has, and of those that the operations have."""
-    found = {matched(r"`(\w+)`", cells[0], line)[1]: (line, list(fields(cells[1], line)))
-             for line, cells in rows("Record", "Fields in order")}
+    found = [(matched(r"`(\w+)`", cells[0], line)[1], (line, list(fields(cells[1], line))))
+             for line, cells in rows("Record", "Fields in order")]
     for variant in ("Op", "PartOp"):
         for line, cells in rows("Number", f"Name and `{variant}`"):
             record = re.match(r"`(\w+)` \(\w+\): (.*)", cells[2])
             if record:
-                found[record[1]] = line, list(fields(record[2], line))
-    return found
+                found.append((record[1], (line, list(fields(record[2], line)))))
+    return once(found)
 
 
 def table(variant):

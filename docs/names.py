@@ -65,7 +65,7 @@ def compare_in_c(line, fields):
 
 def compare_rows(variant, wanted):
     """The page's operations or parts with those of the sources."""
-    rows = {row.number: row for row in formats.table(variant)}
+    rows = formats.once((row.number, row) for row in formats.table(variant))
     for each in wanted:
         row = rows.pop(each.number, None)
         if row is None:
@@ -96,7 +96,7 @@ def compare_records():
 
 def compare_codes(page, found, wanted):
     """Names of numbers in a page, each with its line."""
-    found = dict(found)
+    found = formats.once(found, page)
     yield from (f"{page}: no row of {number} {name}" for number, name in wanted.items() if number not in found)
     yield from (f"{page}:{line}: {number} is {name}, and in the sources {wanted.get(number, 'nothing')}"
                 for number, (line, name) in found.items() if wanted.get(number) != name)
@@ -121,16 +121,18 @@ def messages():
 def compare_lines():
     """How the page spells the lines of messages: those of requests and replies by the sources, the others by its
     records."""
-    asks, tails = dict(formats.spelled("ask")), dict(formats.spelled("Tail"))
+    asks, tails = formats.once(formats.spelled("ask")), formats.once(formats.spelled("Tail"))
     for each in source.operations():
         for what, rows, begin, fields in (("request", asks, each.name, each.request), ("reply", tails, "", each.reply)):
-            line, there = rows.get(each.name, (None, ""))
+            line, there = rows.pop(each.name, (None, ""))
             here = begin + "".join(f" {source.in_line(name)}={LINES.get(kind, kind)}" for name, kind in fields)
             if line is None:
                 yield f"docs/FORMATS.md: no row of the line of a {what} of {each.name}"
             elif each.name != "multi" and re.sub(r"^name\b", each.name, there) != here:
                 yield f"docs/FORMATS.md:{line}: a {what} of {each.name} is {there!r}, and in the sources {here!r}"
-    lines = dict(formats.messages())
+    yield from (f"docs/FORMATS.md:{line}: the sources have no operation {name}"
+                for rows in (asks, tails) for name, (line, _) in rows.items())
+    lines = formats.once(formats.messages())
     for message, _, fields in messages():
         line, items = lines.get(message, (0, []))
         there = " ".join(f"{name}={ITEMS.get(item, item)}" for name, item in items)
@@ -208,21 +210,25 @@ def compare_field_rows():
 
 def compare_enumerations():
     """The enumerations of the package for Python with the header's, and the header's kinds of fields with the sources'."""
-    header = dict(re.findall(r"\b(ZK_\w+) = (-?\d+)", (TOP / "include" / "zk.h").read_text()))
+    every = [dict(re.findall(r"\b(ZK_\w+) = (-?\d+)", each)) for each in re.findall(
+        r"\benum \{(.*?)\}", source.plain((TOP / "include" / "zk.h").read_text()), re.S)]
+    header = {name: number for each in every for name, number in each.items()}
     yield from (f"include/zk.h: ZK_KIND_{name} is {header.get('ZK_KIND_' + name)}, and in the sources {number}"
                 for name, number in source.kinds().items() if header.get("ZK_KIND_" + name) != number)
     found = {}
     for path in sorted((TOP / "examples" / "python" / "libzk").glob("*.py")):
         text = path.read_text()
         for each in re.finditer(r"^class (\w+)\(enum.IntEnum\):\n(?:^(?:    .*)?\n)*", text, re.M):
-            rows = dict(re.findall(r"^    V?(\w+) = (\d+)$", each[0], re.M))
+            rows = dict(re.findall(r"^    V?(\w+) = (\S+)", each[0], re.M))
             found[each[1]] = f"{path.relative_to(TOP)}:{text.count(chr(10), 0, each.start()) + 1}", rows
     for kind, begin in ENUMERATIONS.items():
         where, rows = found.get(kind, ("examples/python/libzk", {}))
         if not rows:
             yield f"{where}: no enumeration {kind}"
-        yield from (f"{where}: {kind}.{name} is {number}, and {begin}{name} {header.get(begin + name)}"
-                    for name, number in rows.items() if header.get(begin + name) != number)
+        wanted = next((each for each in every if not each.keys().isdisjoint(begin + name for name in rows)), {})
+        yield from (f"{where}: {kind}.{name} is {rows.get(name)}, and {begin}{name} {wanted.get(begin + name)}"
+                    for name in {**rows, **{name[len(begin):]: 0 for name in wanted}}
+                    if rows.get(name) != wanted.get(begin + name))
 
 
 def constants(name):

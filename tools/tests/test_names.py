@@ -75,6 +75,8 @@ COMPARED = (
     ("docs/FORMATS.md", "`setACL path=`text` acl=`list of acl", "`setACL path=`text` acls=`list of acl",
      ("docs/FORMATS.md:{line}: a request of setACL is 'setACL path=text acls=list of acl version=num', "
       "and in the sources 'setACL path=text acl=list of acl version=num'",)),
+    ("docs/FORMATS.md", "| setACL | `setACL", "| gone | `gone path=`text |\n| setACL | `setACL",
+     ("docs/FORMATS.md:{line}: the sources have no operation gone",)),
     ("docs/REASONS.md", "| 9 | BadPart |", "| 9 | NoPart |",
      ("docs/REASONS.md:{line}: 9 is NoPart, and in the sources BadPart",)),
     ("docs/REASONS.md", "| BadSide |", "| NoSide |",
@@ -119,6 +121,12 @@ COMPARED = (
     ("wireshark/tree.c", "[ZK_NAME_AUTH] = FIELD_AUTH, ", "", ("wireshark/tree.c: no row of ZK_NAME_AUTH",)),
     ("examples/python/libzk/_messages.py", "    BLOB = 5", "    BLOB = 6",
      ("examples/python/libzk/_messages.py:*: FieldKind.BLOB is 6, and ZK_KIND_BLOB 5",)),
+    ("examples/python/libzk/_messages.py", "    BLOB = 5", "    BLOB = 6  # data",
+     ("examples/python/libzk/_messages.py:*: FieldKind.BLOB is 6, and ZK_KIND_BLOB 5",)),
+    ("examples/python/libzk/_messages.py", "    PART = 7\n", "",
+     ("examples/python/libzk/_messages.py:*: FieldKind.PART is None, and ZK_KIND_PART 7",)),
+    ("examples/python/libzk/_held.py", "    UNSEEN = 5", "    UNSEEN = 5\n    UNHEARD = 6",
+     ("examples/python/libzk/_held.py:*: Went.UNHEARD is 6, and ZK_UNHEARD None",)),
     ("crates/zk_fields/src/kind.rt", "TEXT: u8 = 4", "TEXT: u8 = 5",
      ("include/zk.h: ZK_KIND_TEXT is 4, and in the sources 5",)),
     ("crates/talk_tests/src/tests/earliest/bodies.rt", "Layout::Answered(Op::Sync),", "Layout::Answered(Op::Ping),",
@@ -136,6 +144,16 @@ COMPARED = (
     ("crates/zk_records/src/op.rt", "macro_rules! op_rows", "macro_rules! rows",
      ("the crates' sources have no op_rows!",)),
     ("include/zk.h", "/* Up to here. */\n", "", ("include/zk.h has 5 marks, not 6",)),
+)
+# A page, a row that it has, and what is put before this: another row of the same name.
+TWICE = (
+    ("docs/FORMATS.md", "| 9 | sync, `Sync` |", "| 9 | gone, `Gone` | nothing | nothing |\n", 9),
+    ("docs/FORMATS.md", "| 2 | delete, `Delete` | `DeleteAsk`", "| 2 | gone, `Gone` | nothing | nothing |\n", 2),
+    ("docs/FORMATS.md", "| `WatcherEvent` |", "| `WatcherEvent` | int type |\n", "WatcherEvent"),
+    ("docs/FORMATS.md", "| -5 | MARSHALLINGERROR |", "| -103 | BADNUMBER | | |\n", -103),
+    ("docs/FORMATS.md", "2 NodeDeleted", "2 NodeGone, ", 2),
+    ("docs/FORMATS.md", "| setACL | `setACL", "| setACL | `setACL path=`text |\n", "setACL"),
+    ("docs/REASONS.md", "| 9 | BadPart |", "| 9 | NoPart | | |\n", 9),
 )
 # A profile and an operation of it that no release has, whose reply has a list of texts: what is added, after what, to
 # each file.
@@ -210,6 +228,16 @@ class Names(ToolCase):
                 for each, wanted in zip(lines, told):
                     wanted = re.escape(wanted).replace(re.escape("{line}"), str(line)).replace(r"\*", r"\d+")
                     self.assertRegex(each, f"^{wanted}$")
+
+    def test_twice(self):
+        """A row of a page is named where another one has its name."""
+        for name, row, added, told in TWICE:
+            with self.subTest(row=row):
+                text, line = self.change(name, row, added + row)
+                status, lines = self.run_names("--check")
+                (self.folder / name).write_text(text)
+                self.assertEqual((status, lines[1:]), (1, ["0 passed, 1 failed"]))
+                self.assertRegex(lines[0], rf"^{name}:\d+: there is another row of {told}$")
 
     def test_new_operation(self):
         """Of a new operation each place that lacks it is named; what isn't written by hand is then written."""
