@@ -4,7 +4,8 @@
     docs/run_examples.py [--program PATH] [--seconds N] PAGE ..
 
 A command is a line of four blanks, "$ " and the command; "> " in place of "$ " continues it. The lines of four blanks
-after it are what it prints, on standard output and standard error together. " .. " in such a line, or " .." at its end,
+after it are what it prints, on standard output and standard error together. It has to end with the status 0, or with 1
+where it prints something, such as why a recording is refused. " .. " in such a line, or " .." at its end,
 matches any text; a line of ".." alone matches any lines. A time of day with its date matches any time, and a client's
 port at 127.0.0.1 any port.
 
@@ -151,7 +152,7 @@ class Folder:
         return process
 
     def run(self, example):
-        """The lines that the command prints; None if it did not end in time."""
+        """The lines that the command prints, and its status; None and None if it did not end in time."""
         command, ports = example.command, {}
         if SERVER in command:
             server = self.begin([PLAYER, "0", example.played], subprocess.PIPE, text=True)
@@ -168,12 +169,12 @@ class Folder:
                     self.play(ports[listens[0]], example.played, process)
                 process.wait(self.seconds)
             except subprocess.TimeoutExpired:
-                return None
+                return None, None
             output.seek(0)
             found = output.read().decode(errors="replace")
         for port, free in ports.items():
             found = re.sub(rf"\b{free}\b", port, found)
-        return found.splitlines()
+        return found.splitlines(), process.returncode
 
     def play(self, port, played, process):
         """Plays a client to the command that listens on this port, once it does, and then ends it."""
@@ -211,12 +212,12 @@ def run_commands(name, text, program, seconds):
     with tempfile.TemporaryDirectory(prefix="examples-") as path:
         folder = Folder(path, program, seconds)
         for example in page.examples:
-            found = folder.run(example)
-            if found is not None and fits(example.lines, found):
+            found, status = folder.run(example)
+            if found is not None and status in (0, 1 if found else 0) and fits(example.lines, found):
                 passed += 1
                 continue
             failed += 1
-            outcome = "did not end in time" if found is None else "prints" + shown(found)
+            outcome = "did not end in time" if found is None else f"ends with status {status} and prints{shown(found)}"
             print(f"{name}:{example.at}: $ {example.command}\n    {outcome}\n    expected{shown(example.lines)}")
         folder.close()
     return passed, failed

@@ -50,6 +50,14 @@ class RunExamples(ToolCase):
         self.assert_counts("    $ echo a\n    b\n\n    $ echo a\n    a\n\n    $ echo a\n", 1, 2)
         self.assert_counts(PASSES.replace("68", "69"), 0, 1)
 
+    def test_status(self):
+        for end in ("exit 2", "exit 3", "kill -9 $$", "no_such_command 2> /dev/null"):
+            self.assert_counts(f"    $ echo a; {end}\n    a\n", 0, 1)
+        self.assert_counts("    $ echo a; exit 1\n    a\n", 1, 0)
+        self.assert_counts("    $ test -f no\n", 0, 1)
+        played = "tools/zkplay.py 2181 crates/zkdump/stdin"
+        self.assert_counts(LISTENS.replace(played, f"sh -c '{played}; exit 2'"), 0, 1)
+
     def test_what_is_marked_is_reported_and_what_is_not_fails(self):
         status, out = self.run_page(MARKED)
         self.assertEqual((status, out.count("no reason"), out.splitlines()[-1]), (0, 1, "0 passed, 0 failed"))
