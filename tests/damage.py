@@ -69,7 +69,8 @@ def ending(pieces):
 
 
 def fault_at(pieces, line):
-    """How many bytes have come with the one that decides the refusal; None if the line is not a refusal."""
+    """How many bytes have come with the one that decides the refusal; None if the line is not a refusal, and 0 if no
+    such byte has come."""
     found = re.match(rb"\. refused side=(.) frame=\d+ offset=(\d+) ", line)
     if not found:
         return None
@@ -79,7 +80,7 @@ def fault_at(pieces, line):
             return before + left
         left -= len(data) if side == found[1] else 0
         before += len(data)
-    return before + 1
+    return 0
 
 
 def prefix(pieces, size):

@@ -88,8 +88,8 @@ class Devices:
                 if (errors, status) == (READ_FAILED, 3):
                     right = ample[0].startswith(output) and output == self.written(words[0], part[0])
                 else:
-                    # (the prefix decides everything)
-                    right = found == ample
+                    # (where the prefix decides everything)
+                    right = found == ample == self.run(words, data[:size])
                 self.hold(f"{name}, a failed read after {size} bytes", found, right)
 
     @staticmethod

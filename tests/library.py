@@ -71,9 +71,11 @@ def exported():
     calls, structs = {}, {}
     for path in [*sorted((CRATE / "src").glob("*.rt")), FIELDS / "field.rt"]:
         text = source.plain(path.read_text())
-        for name, words, result in re.findall(r'extern "C" fn (\w+)\((.*?)\)(?: -> (\w+))?\s', text, flags=re.S):
+        for name, words, result in re.findall(r'extern "C" fn (\w+)\((.*?)\)(?: -> ([^\n{]+?))? *[\n{]', text,
+                                              flags=re.S):
             types = [word.split(":", 1)[1].strip() for word in words.split(",") if ":" in word]
-            calls[name] = (C_TYPES.get(result, "void"), [c for t in types if t != "Global" for c in c_words(t)])
+            calls[name] = (C_TYPES[result] if result else "void",
+                           [c for t in types if t != "Global" for c in c_words(t)])
         for name, body in re.findall(r"#\[repr\(C\)\][^{]*struct (\w+) \{(.*?)\n\}", text, flags=re.S):
             if name not in INSIDE:
                 fields = re.findall(r"^\s+(?:pub )?(\w+): ([^,\n]+),", body, flags=re.M)

@@ -6,7 +6,7 @@
 tests/refused/NAME.txt is the text of a crate that uses the repository's crates. Its lines with `// refused: CODE`, and
 no others, must be refused with that code. tests/refused/NAME.edit changes a crate of the repository, as a must-fail
 edit does. Each new text, and no other line, must be refused with the code in its line `refused: CODE`. It prints what
-fails and `N passed, M failed`; its status is 1 if one failed.
+fails and `N passed, M failed`; its status is 1 if one failed or there is none.
 """
 import re
 import shutil
@@ -97,7 +97,7 @@ def main():
             failed += 1
             print(f"{path.name}: refused {got}, expected {wanted}")
     print(f"{len(programs) - failed} passed, {failed} failed")
-    return 1 if failed else 0
+    return 1 if failed or not programs else 0
 
 
 if __name__ == "__main__":

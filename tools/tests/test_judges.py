@@ -1,0 +1,51 @@
+"""Tests of the scripts in tests/: what they don't pass."""
+
+import shutil
+import subprocess
+import sys
+
+from support import PROGRAM, TOP, ToolCase
+
+
+class Judges(ToolCase):
+    def run_inside(self, script, *words):
+        """The status and the output of lines in Python that import a script of tests/."""
+        done = subprocess.run([sys.executable, "-c", script, *words], cwd=TOP / "tests", capture_output=True, text=True,
+                              check=False)
+        return done.returncode, done.stdout + done.stderr[-500:]
+
+    def test_devices_where_no_read_fails(self):
+        if not PROGRAM.exists() or not shutil.which("cc"):
+            self.skipTest("the program zkdump is not built, or there is no compiler for C")
+        program = self.folder / "zkdump"
+        program.write_text(f'#!/bin/sh\nunset READ_ROOM\nexec {PROGRAM} "$@"\n')
+        program.chmod(0o700)
+        done = subprocess.run([sys.executable, TOP / "tests" / "devices.py", "--only", "check/connect_answered",
+                               "--program", program], capture_output=True, text=True, check=False)
+        self.assertEqual(done.returncode, 1, done.stdout)
+        failures = done.stdout.splitlines()[:-1]
+        self.assertTrue(failures and all(", a failed read after " in line for line in failures), failures)
+
+    def test_damage_that_is_refused_at_a_byte_that_did_not_come(self):
+        script = """import damage
+pieces = [(b"C", b"abcd"), (b"S", b"efg"), (b"C", b"hij")]
+for side, offset in (("C", 4), ("C", 5), ("S", 3), ("C", 7), ("C", 8), ("S", 4), ("S", 99)):
+    print(damage.fault_at(pieces, b". refused side=%s frame=0 offset=%d place=0" % (side.encode(), offset)))"""
+        self.assertEqual(self.run_inside(script), (0, "4\n8\n7\n10\n0\n0\n0\n"))
+
+    def test_no_program_that_must_not_compile(self):
+        script = "import pathlib, refused, sys; refused.ROOT = pathlib.Path(sys.argv[1]); sys.exit(refused.main())"
+        self.assertEqual(self.run_inside(script, self.folder), (1, "0 passed, 0 failed\n"))
+
+    def test_a_call_of_the_library_whose_result_is_no_type_of_the_header(self):
+        source = self.folder / "src"
+        source.mkdir()
+        script = "import library, pathlib, sys; library.CRATE = pathlib.Path(sys.argv[1]); print(library.exported()[0])"
+        for result, told in (("", "{'zk_x': ('void', ['uint32_t'])}\n"),
+                             (" -> bool", "{'zk_x': ('bool', ['uint32_t'])}\n"),
+                             (" -> *mut u8", "{'zk_x': ('void *', ['uint32_t'])}\n"),
+                             (" -> Other", "KeyError: 'Other'\n"), (" -> Option<u32>", "KeyError: 'Option<u32>'\n")):
+            for end in ("\n    ensures all { }\n{\n}\n", " {\n}\n"):
+                (source / "x.rt").write_text(f'pub extern "C" fn zk_x(number: u32){result}{end}')
+                status, out = self.run_inside(script, self.folder)
+                self.assertEqual((status, out[-len(told):]), (int("Error" in told), told))
