@@ -9,6 +9,7 @@
 #pragma weak zk_through_new /* so that an older library, which lacks them, can be measured without them */
 #pragma weak zk_through_step
 #include "hand.h"
+#include "pieces.h"
 
 #include <inttypes.h>
 #include <stdio.h>
@@ -75,10 +76,10 @@ static size_t step(char what, uint32_t side, const uint8_t *piece, size_t length
 }
 
 static bool run(char what, const uint8_t *recording, size_t size) {
-    for (size_t at = 4; at + 5 <= size;) {
-        const uint8_t *head = recording + at, *piece = head + 5;
-        size_t left = (size_t)head[1] << 24 | (size_t)head[2] << 16 | (size_t)head[3] << 8 | head[4];
-        at += 5 + left;
+    for (size_t at = FIRST_PIECE; at < size;) {
+        const uint8_t *head = recording + at, *piece = head + PIECE_HEAD;
+        size_t left = length_of(head);
+        at += PIECE_HEAD + left;
         while (left > 0) {
             size_t used = step(what, head[0] == 'C' ? ZK_CLIENT : ZK_SERVER, piece, left);
             if (used == 0) return false;
@@ -95,6 +96,7 @@ int main(int count, char **words) {
     if (count < 2 || count > 3 || recording == NULL) return 2;
     summed = count == 3;
     size_t size = fread(recording, 1, room, stdin);
+    if (size == room || !is_recording(recording, size)) return 2;
     allocated = 0;
     if (zk_talk_new(&talk, 4194304, 4194304, 65536, ZK_PROFILE_34) != ZK_WELL) return 2;
     size_t made = allocated;

@@ -7,16 +7,16 @@
  * numbers; `say` says the message of each line. With THREADS that many threads do so at once, each with a handle of its
  * own. With TIMES all is read that often: with `open` by a new talk each time, which is closed after it, and else by one
  * that is begun anew. It prints the messages, the ending, the CPU seconds of the steps and the number of allocations
- * between the first message and the last. bench/README.md says how to compile it. */
+ * between the first message and the last. The status is 1 where a message or a line is refused, and 2 where the recording
+ * is none or is cut. bench/README.md says how to compile it. */
 #define _POSIX_C_SOURCE 200809L
 #pragma weak zk_talk_renew /* so that an older library, which lacks it, can be measured without it */
-#include "zk.h"
+#include "pieces.h"
 
 #include <pthread.h>
 #include <stdatomic.h>
 #include <stdio.h>
 #include <stdlib.h>
-#include <string.h>
 #include <time.h>
 
 static atomic_long growths;
@@ -40,6 +40,7 @@ static int times = 1;
 struct result {
     long messages, kinds, growths;
     double seconds;
+    bool good;
     char ending[200];
 };
 
@@ -47,36 +48,36 @@ static void open_talk(struct zk_talk *talk) {
     if (zk_talk_new(talk, 4194304, 4194304, 65536, ZK_PROFILE_34) != ZK_WELL) exit(2);
 }
 
-/* Says the message of each line, up to the first that is refused. */
-static void say_lines(struct result *result) {
+/* Says the message of each line, up to the ending's; returns whether none is refused. */
+static bool say_lines(struct result *result) {
     struct zk_speaker speaker = {0};
+    bool good = true;
     if (zk_speaker_new(&speaker, 4194304, 4194304, 65536, ZK_PROFILE_34) != ZK_WELL) exit(2);
-    for (size_t at = 0; at < size;) {
+    for (size_t at = 0; good && at < size;) {
         const uint8_t *line = recording + at, *end = memchr(line, '\n', size - at);
         size_t length = end == NULL ? size - at : (size_t)(end - line);
         at += length + 1;
+        if (*line == '.') break;
         struct zk_say said = zk_speaker_say(&speaker, line, length);
-        if (said.status != ZK_WELL) break;
-        result->messages++;
+        good = said.status == ZK_WELL;
+        result->messages += good;
         result->kinds += (long)said.length;
     }
     zk_speaker_free(&speaker);
+    return good;
 }
 
-/* Gives the talk the recording, up to its end or to a fault; or says the lines. */
-static void read_once(struct zk_talk *talk, struct result *result, uint8_t *text, size_t room) {
-    if (what == 'S') {
-        say_lines(result);
-        return;
-    }
-    for (size_t at = 4; at + 5 <= size;) {
-        const uint8_t *head = recording + at, *bytes = head + 5;
-        size_t left = (size_t)head[1] << 24 | (size_t)head[2] << 16 | (size_t)head[3] << 8 | head[4];
+/* Gives the talk the recording, up to its end or to a fault; or says the lines. Returns whether there is no fault. */
+static bool read_once(struct zk_talk *talk, struct result *result, uint8_t *text, size_t room) {
+    if (what == 'S') return say_lines(result);
+    for (size_t at = FIRST_PIECE; at < size;) {
+        const uint8_t *head = recording + at, *bytes = head + PIECE_HEAD;
+        size_t left = length_of(head);
         uint32_t side = head[0] == 'C' ? ZK_CLIENT : ZK_SERVER;
-        at += 5 + left;
+        at += PIECE_HEAD + left;
         while (left > 0) {
             struct zk_step step = zk_talk_step(talk, side, bytes, left);
-            if (step.status != ZK_WELL) return;
+            if (step.status != ZK_WELL) return false;
             bytes += step.used;
             left -= step.used;
             if (!step.whole) continue;
@@ -85,6 +86,7 @@ static void read_once(struct zk_talk *talk, struct result *result, uint8_t *text
             if (what == 'l') result->kinds += (long)zk_talk_line(talk, side, text, room).length;
         }
     }
+    return true;
 }
 
 static void *run(void *to) {
@@ -96,7 +98,7 @@ static void *run(void *to) {
     struct timespec begin, end;
     clock_gettime(CLOCK_THREAD_CPUTIME_ID, &begin);
     long before = growths;
-    read_once(&talk, result, text, room);
+    result->good = read_once(&talk, result, text, room);
     for (int time = 1; time < times; time++) {
         if (what == 'o') {
             zk_talk_free(&talk);
@@ -104,7 +106,7 @@ static void *run(void *to) {
         } else {
             zk_talk_renew(&talk);
         }
-        read_once(&talk, result, text, room);
+        result->good &= read_once(&talk, result, text, room);
     }
     result->growths = growths - before;
     clock_gettime(CLOCK_THREAD_CPUTIME_ID, &end);
@@ -123,13 +125,17 @@ int main(int count, char **words) {
     size_t room = 1 << 28;
     recording = malloc(room);
     size = fread(recording, 1, room, stdin);
+    if (size == room || (what != 'S' && !is_recording(recording, size))) return 2;
     static struct result results[64];
     pthread_t ids[64];
+    bool good = true;
     for (int i = 1; i < threads; i++) pthread_create(&ids[i], NULL, run, &results[i]);
     run(&results[0]);
     for (int i = 1; i < threads; i++) pthread_join(ids[i], NULL);
-    for (int i = 0; i < threads; i++)
+    for (int i = 0; i < threads; i++) {
         printf("%ld messages, %s, %.3f s, %ld growths, sum %ld\n", results[i].messages, results[i].ending,
                results[i].seconds, results[i].growths, results[i].kinds);
-    return 0;
+        good &= results[i].good;
+    }
+    return good ? 0 : 1;
 }

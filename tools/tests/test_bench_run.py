@@ -11,6 +11,9 @@ import sys
 
 from support import PROGRAM, TOP, ToolCase
 
+sys.path.append(str(TOP / "bench"))
+import costs  # noqa: E402  (found by the line above)
+
 JOBS = TOP / "crates" / "bench_jobs" / "out" / "bench_jobs"
 # In the place of record.py: it ends each connection after the first request.
 ENDS = """import signal, socket, sys
@@ -161,6 +164,24 @@ class Failing(ToolCase):
         done = subprocess.run([sys.executable, script, "--rounds", "1", "--megabytes", "1"], capture_output=True,
                               text=True, check=False, timeout=50)
         self.assertEqual((done.returncode, done.stderr), (1, "a connection has ended before its answers\n"))
+
+
+class Library(ToolCase):
+    def test_what_is_refused_or_cut(self):
+        if not shutil.which("rt") or not (TOP / "crates" / "zk_c" / "out" / "libzk_c.a").exists():
+            self.skipTest("the library is not built, or rt is not here")
+        costs.place_programs(self.folder, TOP, ["handle", "fields"])
+        whole, listing = ((TOP / "captures" / f"kazoo_basic.{end}").read_bytes() for end in ("zkr", "show"))
+        refused = (TOP / "captures" / "refused_c_path_not_utf8.zkr").read_bytes()
+        recordings = ((whole, 0), (b"ZKR1", 0), (refused, 1), (whole[:-1], 2), (whole + b"C\0\0", 2), (b"", 2),
+                      (whole.replace(b"ZKR1", b"ZKR2"), 2), (b"ZKR1C\0\xff\xff\xff" + whole[9:], 2))
+        lines = ((listing, 0), (listing.partition(b". whole")[0], 0), (b"", 0), (b"C 1 ping\n" + listing, 1))
+        for command, cases in ((("handle", "step"), recordings), (("handle", "open", "2", "2"), recordings),
+                               (("fields", "step"), recordings), (("handle", "say"), lines)):
+            for data, status in cases:
+                done = subprocess.run([self.folder / command[0], *command[1:]], input=data, capture_output=True,
+                                      check=False)
+                self.assertEqual(done.returncode, status, (command, data[:20]))
 
 
 class Crowd(ToolCase):
