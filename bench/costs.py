@@ -309,8 +309,9 @@ def main():
     parser.add_argument("words", nargs="*", metavar="WORD")
     words = parser.parse_args()
     rows = [row for row in ROWS if not words.words or any(word in row.name for word in words.words)]
-    if not rows:
-        parser.error(f"no row has one of these words: {' '.join(words.words)}")
+    for word in words.words:
+        if not any(word in row.name for row in rows):
+            parser.error(f"no row has this word: {word}")
     if words.install:
         subprocess.run(["apt-get", "install", "-y", "--no-install-recommends", *PACKAGES], check=True)
     if not shutil.which("valgrind"):

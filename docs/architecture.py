@@ -5,8 +5,8 @@
 
 A crate or a file is described by its own text: the first paragraph of the `//!` comment of lib.rt or main.rt, and of
 the other src/*.rt, or the comment that a file of specs/ begins with. What a crate uses is in crates.txt. The lines are
-written between two marks of each page. With --check nothing is written, and it fails where a page isn't current, or
-where a file has no such comment.
+written between two marks of each page. With --check nothing is written, and it fails where a page isn't current,
+where a file has no such comment, or where crates.txt lacks a crate.
 
 The status is 0 if the pages are current or were written, 1 if something is wrong, 2 for invalid arguments.
 """
@@ -72,6 +72,8 @@ def main():
         return 2
     every = [path for crate, _ in crates() for path in (root(crate), *files(crate))]
     wrong = [f"{path.relative_to(TOP)} doesn't say what it has" for path in every if not head(path)]
+    wrong += [f"crates/{name} is not in crates.txt" for name in sorted(
+        {path.parent.name for path in TOP.glob("crates/*/src")} - {crate for crate, _ in crates()})]
     for path, written in PAGES:
         page = path.read_text()
         before, _, rest = page.partition(BEGIN)

@@ -303,8 +303,9 @@ def main():
     words = parser.parse_args()
     names = [name for name in dir(Tests) if name.startswith("test_")
              and (not words.words or any(word in name for word in words.words))]
-    if not names:
-        parser.error(f"no test has one of these words: {' '.join(words.words)}")
+    for word in words.words:
+        if not any(word in name for name in names):
+            parser.error(f"no test has this word: {word}")
     if words.install:
         subprocess.run(["apt-get", "install", "-y", "--no-install-recommends", *PACKAGES], check=True)
     if missing := dissected.missing(words.libzk):

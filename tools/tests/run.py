@@ -2,7 +2,7 @@
 """Runs the tests of the tools: run.py [WORD ..] runs those of the files test_*.py whose names have one of the words.
 
 A test that can't run here is reported with its reason. The last line is `N passed, M failed`; the status is 1 if one
-failed or none was found.
+failed or none was found, and 2 if no name has a word.
 """
 
 import pathlib
@@ -31,6 +31,10 @@ class Result(unittest.TextTestResult):
         self.failed.add(test.id())
         super().addError(test, err)
 
+    def addUnexpectedSuccess(self, test):
+        self.failed.add(test.id())
+        super().addUnexpectedSuccess(test)
+
     def addSubTest(self, test, subtest, err):
         if err is not None:
             self.failed.add(test.id())
@@ -39,8 +43,12 @@ class Result(unittest.TextTestResult):
 
 def main():
     sys.path.insert(0, str(HERE))
-    words = sys.argv[1:] or [""]
-    files = [path.stem for path in sorted(HERE.glob("test_*.py")) if any(word in path.stem for word in words)]
+    words, names = sys.argv[1:] or [""], [path.stem for path in sorted(HERE.glob("test_*.py"))]
+    for word in words:
+        if not any(word in name for name in names):
+            print(f"run.py: no file has this word: {word}", file=sys.stderr)
+            return 2
+    files = [name for name in names if any(word in name for word in words)]
     tests = unittest.TestSuite(unittest.defaultTestLoader.loadTestsFromName(name) for name in files)
     result = unittest.TextTestRunner(stream=sys.stdout, resultclass=Result, verbosity=2).run(tests)
     for test, reason in result.skipped:

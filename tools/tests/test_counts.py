@@ -19,6 +19,9 @@ class Some(unittest.TestCase):
                 self.assertEqual(number, 0)
     def test_left_out(self):
         self.skipTest("it is not here")
+    @unittest.expectedFailure
+    def test_better_than_expected(self):
+        pass
 
 class Never(unittest.TestCase):
     @classmethod
@@ -37,17 +40,19 @@ class Counts(ToolCase):
         (self.folder / "test_some.py").write_text(TESTS)
         done = subprocess.run([sys.executable, self.folder / "run.py"], capture_output=True, text=True, check=False)
         self.assertEqual((done.returncode, done.stdout.splitlines()[-2:]),
-                         (1, ["not run: test_some.Some.test_left_out: it is not here", "1 passed, 2 failed"]))
+                         (1, ["not run: test_some.Some.test_left_out: it is not here", "1 passed, 3 failed"]))
 
     def test_words_that_nothing_has(self):
         program = ("--program", "/bin/true")
         for words in (("bench/costs.py", "chek"), ("bench/growth.py", *program, "--only", "chek"),
-                      ("tests/devices.py", *program, "--only", "chek"), ("tests/wireshark.py", "chek")):
-            with self.subTest(words[0]):
+                      ("tests/devices.py", *program, "--only", "chek"), ("tests/wireshark.py", "chek"),
+                      ("bench/costs.py", "check", "chek"), ("tests/wireshark.py", "golden", "chek"),
+                      ("tools/tests/run.py", "histogram", "chek")):
+            with self.subTest(words):
                 done = subprocess.run([sys.executable, TOP / words[0], *words[1:]], capture_output=True, text=True,
                                       check=False)
                 self.assertEqual((done.returncode, done.stdout), (2, ""))
-                self.assertRegex(done.stderr.splitlines()[-1], r"error: no \w+ has (this word|one of these words): chek$")
+                self.assertRegex(done.stderr.splitlines()[-1], r": no \w+ has this word: chek$")
 
 
 if __name__ == "__main__":
