@@ -2,8 +2,10 @@
 
     compared.py ZKCOLUMNS ZKDUMP FOLDER RECORDING ..
 
-It needs numpy. Besides these recordings there are some that are made of VALUES, and some that are cut and changed by
-chance, from a seed; these files go to the folder. It prints each difference, and `N runs, M different`.
+It needs numpy. Besides these recordings there are some that are made of VALUES, some of captures from which packets are
+missing, and some that are cut and changed by chance, from a seed; these files go to the folder. All but the last are to
+be read by ZKCOLUMNS itself: what it leaves to the lines is no comparison. It prints each difference, and `N runs, M
+different`.
 """
 
 import io
@@ -111,7 +113,10 @@ def lossy_recordings(folder, paths):
         subprocess.run([sys.executable, TOOLS / "pcap2zkr.py", "--times", "--late", capture, prefix],
                        stdout=subprocess.DEVNULL,
                        check=False)
-    return sorted(folder.glob("lossy*.zkr"))
+    found = sorted(folder.glob("lossy*.zkr"))
+    if len(found) < len(paths):
+        raise SystemExit(f"of {len(paths)} captures there are {len(found)} recordings")
+    return found
 
 
 def random_head(chance):
@@ -122,12 +127,12 @@ def random_head(chance):
 
 
 def recordings(zkdump, folder, paths):
-    """The recordings that are compared."""
+    """The recordings that are compared, each with whether it was changed by chance."""
     made = folder / "values.zkr"
     made.write_bytes(subprocess.run([zkdump, "build"], input="\n".join(values()).encode(), stdout=subprocess.PIPE,
                                     check=True).stdout)
-    yield from (*paths, made)
-    yield from lossy_recordings(folder, [path for path in paths if path.stat().st_size < 30_000][:6])
+    lossy = lossy_recordings(folder, [path for path in paths if path.stat().st_size < 30_000][:6])
+    yield from ((path, False) for path in (*paths, made, *lossy))
     chance = random.Random(17)
     for number, path in enumerate(chance.choices([path for path in paths if path.stat().st_size < 100_000], k=40)):
         path, (data, times) = folder / f"{number}.zkr", cut(path.read_bytes(), chance)
@@ -142,7 +147,7 @@ def recordings(zkdump, folder, paths):
                                                                      " 1", ""))
             end = chance.choice(("\n", "\n", "\r\n", "\r"))
             path.with_name(path.name + ".times").write_bytes((end.join(times) + chance.choice(("", end))).encode())
-        yield path
+        yield path, True
 
 
 def run(tool, zkcolumns, words):
@@ -151,21 +156,33 @@ def run(tool, zkcolumns, words):
     return run_main(tool, words)
 
 
+def compare(zkcolumns, path, choices, is_changed):
+    """How many runs over a recording there were, and how many were different."""
+    runs = different = 0
+    if not is_changed and subprocess.run([zkcolumns, path], stdout=subprocess.DEVNULL, stderr=subprocess.DEVNULL,
+                                         check=False).returncode == columns.NOT_READ:
+        different += 1
+        print(f"{path} is not read by {zkcolumns}")
+    for tool, words in (("zkjson.py", ()), ("zkstat.py", ("--json",)), ("zkreport.py", ("--text",))):
+        for choice in choices:
+            fast, plain = (run(tool, which, (*words, *choice, path)) for which in (zkcolumns, ""))
+            runs += 1
+            if fast != plain:
+                different += 1
+                print(tool, *choice, path, fast[0], plain[0], fast[2][-300:], plain[2][-300:])
+                lines = itertools.zip_longest(*(each[1].split(b"\n") for each in (fast, plain)))
+                print(*next(((one[:500], two[:500]) for one, two in lines if one != two), ()), sep="\n")
+    return runs, different
+
+
 def main():
     zkcolumns, zkdump, folder, *paths = sys.argv[1:]
     columns.said, runs, different = True, 0, 0
     paths = [pathlib.Path(path) for path in paths]
-    for path in recordings(zkdump, pathlib.Path(folder), paths):
+    for path, is_changed in recordings(zkdump, pathlib.Path(folder), paths):
         is_small = path.stat().st_size < 20_000 and path in paths
-        for tool, words in (("zkjson.py", ()), ("zkstat.py", ("--json",)), ("zkreport.py", ("--text",))):
-            for choice in CHOICES if is_small or path.name == "values.zkr" else FEW:
-                fast, plain = (run(tool, which, (*words, *choice, path)) for which in (zkcolumns, ""))
-                runs += 1
-                if fast != plain:
-                    different += 1
-                    print(tool, *choice, path, fast[0], plain[0], fast[2][-300:], plain[2][-300:])
-                    lines = itertools.zip_longest(*(each[1].split(b"\n") for each in (fast, plain)))
-                    print(*next(((one[:500], two[:500]) for one, two in lines if one != two), ()), sep="\n")
+        found = compare(zkcolumns, path, CHOICES if is_small or path.name == "values.zkr" else FEW, is_changed)
+        runs, different = runs + found[0], different + found[1]
     print(f"{runs} runs, {different} different")
 
 

@@ -1,5 +1,7 @@
 """Recordings as columns: what the tools print of them is what they print of the lines of zkdump show."""
 
+import contextlib
+import io
 import os
 import pathlib
 import re
@@ -9,7 +11,9 @@ import subprocess
 import sys
 import tempfile
 import unittest
+import unittest.mock
 
+import compared
 from support import CAPTURES, PROGRAM, TOOLS, TOP, ToolCase
 
 sys.path.append(str(TOP / "packaging"))
@@ -60,6 +64,18 @@ class Same(ColumnsCase):
                               capture_output=True, text=True, check=False)
         self.assertTrue(re.fullmatch(r"[1-9]\d* runs, 0 different\n", done.stdout),
                         done.stdout[:3000] + done.stderr[-2000:])
+
+
+class Left(ToolCase):
+    def test_what_is_left_to_the_lines_is_no_comparison(self):
+        if not PROGRAM.exists():
+            self.skipTest("the program zkdump is not built")
+        program = self.folder / "zkcolumns"
+        program.write_text("#!/bin/sh\nexit 4\n")
+        program.chmod(0o700)
+        with contextlib.redirect_stdout(io.StringIO()) as out, unittest.mock.patch.dict(os.environ):
+            found = [compared.compare(str(program), CAPTURES[0], ((),), is_changed) for is_changed in (False, True)]
+        self.assertEqual((found, out.getvalue()), ([(3, 1), (3, 0)], f"{CAPTURES[0]} is not read by {program}\n"))
 
 
 class Program(ColumnsCase):
