@@ -1,10 +1,12 @@
 """Tests of bench/run, over scripts in the place of the programs of two checkouts, of the jobs that it runs, and of what
 the other scripts of bench/ do where a program fails."""
 
+import itertools
 import os
 import pathlib
 import re
 import resource
+import runpy
 import shutil
 import subprocess
 import sys
@@ -62,6 +64,13 @@ class Turns(ToolCase):
             # Nine turns of each job, whose seeds are 64 apart.
             self.assertEqual([line.split()[0] for line in lines], [name for name in NAMES for _ in range(9)])
             self.assertEqual([line.split()[1] for line in lines], [str(7 + 64 * turn) for turn in range(9)] * 6)
+
+    def test_one_checkout_twice(self):
+        run, took = runpy.run_path(str(TOP / "bench" / "run")), itertools.count(1)
+        workload = run["Workload"]("check bench_jobs check SEED 20")
+        workload.run = lambda checkout, seed: (next(took), seed)
+        self.assertEqual(run["measure"](workload, self.folder, self.folder, 1),
+                         ([1, 4, 5, 8, 9, 12, 13, 16, 17], [2, 3, 6, 7, 10, 11, 14, 15, 18]))
 
     def test_what_prints_nothing_or_another_sum_or_fails(self):
         good = "echo the sum"
