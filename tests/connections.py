@@ -99,7 +99,7 @@ class Connections:
             yield from self.looked_over(capture, f"disturbed, put in order, seed {seed}", *IN_ORDER)
             found = self.plugin.frames(capture, "-2", *IN_ORDER)
             left = [each for each in found if each["kind"] == ["4"] and not each["response_to"]]
-            yield not left, f"disturbed, seed {seed}: {len(left)} replies without their requests"
+            yield found and not left, f"disturbed, seed {seed}: {len(left)} of {len(found)} have no request"
 
     def test_begun_before_and_cut(self):
         for share in (3, 2):
@@ -131,4 +131,4 @@ class Connections:
                 - {each["packet"] for each in one if each["kind"] == ["4"] and each["response_to"]}
             one, two = ([each for each in found if each["packet"] not in early] for found in (one, two))
             other = [(a, b) for a, b in zip(one, two) if a != b]
-            yield len(one) == len(two) and not other, f"{share} lost: {len(one)} and {len(two)}, {other[:1]}"
+            yield one and len(one) == len(two) and not other, f"{share} lost: {len(one)} and {len(two)}, {other[:1]}"

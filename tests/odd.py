@@ -62,7 +62,7 @@ class Odd:
                 found = [value.replace(":", "") for each in self.plugin.frames(capture, hide=hide)
                          for name, values in each.items() if name not in ("packet", "frame") for value in values]
                 leaks = [value for value in found if secret in value or password[:24] in value]
-                yield bool(leaks) != hide, f"hidden: {hide}, of packets of {snap} bytes: {leaks}"
+                yield found and bool(leaks) != hide, f"hidden: {hide}, of packets of {snap} bytes: {leaks}"
 
     def test_times_before_1970(self):
         """A node's times are longs, which may be negative."""

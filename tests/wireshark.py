@@ -101,7 +101,9 @@ class Tests(Connections, Odd):
             shown = self.plugin.frames(capture)
             secrets = {value.replace(":", "") for each in shown for value in each["passwd"] + each["auth"]}
             secrets = {value for value in secrets if value.strip("0")}
-            for each in self.plugin.frames(capture, hide=True):
+            hidden = self.plugin.frames(capture, hide=True)
+            yield len(hidden) == len(shown), f"{name}: {len(hidden)} messages, of {len(shown)}"
+            for each in hidden:
                 text = json.dumps({field: value for field, value in each.items() if field not in ("frame", "data")})
                 found = [value for value in secrets if value in text.replace(":", "")]
                 yield not found, f"{name}, packet {each['packet']}: {found} in {text}"

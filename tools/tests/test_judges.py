@@ -6,6 +6,24 @@ import sys
 
 from support import PROGRAM, TOP, ToolCase
 
+# Tests of the plugin for Wireshark where it shows nothing, or a secret where it is to hide none: what they find.
+PLUGIN = """import collections, types, connections, wireshark
+del connections.WHOLE[1:]
+class Plugin:
+    def frames(self, capture, *words, hide=True):
+        shown = {"packet": 1, "passwd": ["01"], "auth": ["02"], "data": ["736563726574"]}
+        return [] if hide else [collections.defaultdict(list, shown)]
+    def trouble(self):
+        return ""
+class Secretive(Plugin):
+    def frames(self, capture, *words, hide=False):
+        return super().frames(capture, hide=hide)
+for plugin, name in ((Plugin, "one_pass_is_two_passes"), (Plugin, "disturbed"), (Secretive, "secrets_are_hidden"),
+                     (Plugin, "secrets_that_are_not_read_are_hidden")):
+    tests = wireshark.Tests(plugin(), "", types.SimpleNamespace(seeds=1))
+    print(*(bool(good) for good, _ in getattr(tests, f"test_{name}")()))
+"""
+
 
 class Judges(ToolCase):
     def run_inside(self, script, *words):
@@ -32,6 +50,10 @@ pieces = [(b"C", b"abcd"), (b"S", b"efg"), (b"C", b"hij")]
 for side, offset in (("C", 4), ("C", 5), ("S", 3), ("C", 7), ("C", 8), ("S", 4), ("S", 99)):
     print(damage.fault_at(pieces, b". refused side=%s frame=0 offset=%d place=0" % (side.encode(), offset)))"""
         self.assertEqual(self.run_inside(script), (0, "4\n8\n7\n10\n0\n0\n0\n"))
+
+    def test_a_plugin_that_shows_nothing(self):
+        wanted = ("False False", "True True False True True False False", *["False True False True"] * 2)
+        self.assertEqual(self.run_inside(PLUGIN), (0, "".join(f"{line}\n" for line in wanted)))
 
     def test_no_program_that_must_not_compile(self):
         script = "import pathlib, refused, sys; refused.ROOT = pathlib.Path(sys.argv[1]); sys.exit(refused.main())"
