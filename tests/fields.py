@@ -348,8 +348,10 @@ def compare_table(caller, statuses, kinds):
             yield digits, good, f"zk_read_{call} {digits}, a room of {size}"
 
 
-def compare_damaged(caller):
-    """Whether each row's payload, truncated or with a byte changed, has the fields before its fault."""
+def compare_damaged(caller, numbers):
+    """Whether each row's payload, truncated or with a byte changed, has the fields before its fault. Where that is in a
+    field, the reader finds it, too; else it may be before fields that are well."""
+    elsewhere = {numbers[name] for name in ("MISFIT", "XID_OP", "UNKNOWN_OP", "BAD_PART")}
     for call, digits, _, _ in TABLE:
         payload, kind = bytes.fromhex(digits), call.split()[0]
         damaged = [payload[:length] for length in range(len(payload))]
@@ -358,7 +360,7 @@ def compare_damaged(caller):
                 damaged.append(payload[:place] + bytes([byte]) + payload[place + 1:])
         for payload in damaged:
             answer, found = caller.read(call, payload, 40)
-            place = len(payload) if answer.kind else answer.place
+            place = answer.place if answer.status in elsewhere else len(payload)
             operation = int((call.split() + [0])[1])
             if kind == "request":
                 operation = int.from_bytes(payload[4:8], "big", signed=True)
@@ -373,4 +375,4 @@ def compare(talk, library, names, numbers):
     kinds = dict(enumerate(("", "CONNECT", "REQUEST", "CONNECTED", "REPLY", "EVENT")))
     caller = Caller(talk, library, {"none": 0, **names})
     yield from compare_table(caller, {number: name for name, number in numbers.items()}, kinds)
-    yield from compare_damaged(caller)
+    yield from compare_damaged(caller, numbers)

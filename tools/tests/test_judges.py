@@ -51,6 +51,16 @@ for side, offset in (("C", 4), ("C", 5), ("S", 3), ("C", 7), ("C", 8), ("S", 4),
     print(damage.fault_at(pieces, b". refused side=%s frame=0 offset=%d place=0" % (side.encode(), offset)))"""
         self.assertEqual(self.run_inside(script), (0, "4\n8\n7\n10\n0\n0\n0\n"))
 
+    def test_payloads_of_which_each_is_short_at_its_first_byte(self):
+        script = """import fields, source, types
+class Caller:
+    names = {"none": 0, **{name.lower(): number for name, number in source.field_names().items()}}
+    def read(self, call, payload, size):
+        return types.SimpleNamespace(kind=0, status=1, place=0, count=0), []
+results = [good for _, good, _ in fields.compare_damaged(Caller(), source.statuses())]
+print(results.count(False) > results.count(True) > 0)"""
+        self.assertEqual(self.run_inside(script), (0, "True\n"))
+
     def test_a_plugin_that_shows_nothing(self):
         wanted = ("False False", "True True False True True False False", *["False True False True"] * 2)
         self.assertEqual(self.run_inside(PLUGIN), (0, "".join(f"{line}\n" for line in wanted)))
