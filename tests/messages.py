@@ -4,7 +4,8 @@ tests/library.py calls it. Each recording is given to a talk in the pieces that 
 frame becomes whole, its payload, its fields, its number and the numbers of its header are compared with the bytes that
 were given, as tests/fields.py reads them. A second talk passes over the same pieces: it returns what the first returns,
 and keeps no frame. After each piece what it holds, and what waits, is compared with the bytes and requests that came.
-Which of the client's frames each reply answers is compared with the requests that came; so it is of a passage, too.
+Which of the client's frames each reply answers is compared with the requests that came; so it is of a passage, too. As
+many messages have to come as the recording's listing has lines.
 
 Passages that join each recording late, at several of its frames, are given what follows. They return the messages that
 the talk returns, with frames' numbers of their own, but replies to requests that they weren't given as such.
@@ -14,6 +15,7 @@ import collections
 import ctypes
 
 import fields
+from listed import listings_of
 from samples import PROFILE
 
 NO_MESSAGE, MULTI = 69, 14
@@ -112,8 +114,9 @@ class Lanes:
         return 0
 
 
-def compare_recording(caller, content, cut):
-    """What is returned of each message of a recording whose pieces are cut to at most `cut` bytes."""
+def compare_recording(caller, content, cut, count):
+    """What is returned of each message of a recording, of which there are `count`, whose pieces are cut to at most `cut`
+    bytes."""
     came, lanes, waiting, library = [bytearray(), bytearray()], Lanes(), Waiting(), caller.library
     with caller.talk.Talk(library, profile=PROFILE) as talk, caller.talk.Talk(library, profile=PROFILE) as passing:
         for side, piece in caller.talk.pieces(content):
@@ -124,6 +127,7 @@ def compare_recording(caller, content, cut):
                 passed = library.zk_talk_pass(passing.handle, side, part, len(part))
                 yield numbers_of_step(passed), numbers_of_step(step)
                 if step.status != 0:
+                    yield sum(lanes.frames), count
                     return
                 came[side] += part[:step.used]
                 at += step.used
@@ -136,10 +140,11 @@ def compare_recording(caller, content, cut):
                     yield library.zk_talk_view(passing.handle, side).status, NO_MESSAGE
                     yield from compare_counts(library, talk, came, waiting)
                 yield from compare_counts(library, passing, came, waiting)
+    yield sum(lanes.frames), count
 
 
-def compare_passage(caller, content):
-    """Which of the client's frames each reply of a passage answers, and which should."""
+def compare_passage(caller, content, is_whole):
+    """Which of the client's frames each reply of a passage answers, and which should; whether it is refused."""
     handle, library = caller.talk.Handle(), caller.library
     came, lanes = [bytearray(), bytearray()], Lanes()
     yield library.zk_through_new(handle, 1 << 22, 1 << 22, 1 << 16, 34), 0
@@ -148,6 +153,7 @@ def compare_passage(caller, content):
             step = library.zk_through_step(handle, side, piece, len(piece))
             if step.status != 0 or step.went == FULL:
                 library.zk_through_free(handle)
+                yield True, not is_whole
                 return
             came[side] += piece[:step.used]
             piece = piece[step.used:]
@@ -210,9 +216,10 @@ def compare_late(caller, messages):
     library.zk_through_free(handle)
 
 
-def compare_joined(caller, content):
+def compare_joined(caller, content, count):
     """The same of passages that join after the connect pair, after the last message, and at places between."""
     messages = list(good_messages(caller, content))
+    yield len(messages), count
     pair = [i for i, (_, _, message) in enumerate(messages) if KINDS[message.kind - 1] in ("first", "connected")]
     first = 1 + max(pair, default=len(messages))
     for place in range(first, len(messages) + 1, max(1, (len(messages) - first) // 8)):
@@ -223,11 +230,11 @@ def compare(talk, library, names, recordings):
     """A line for each recording with a message that is returned wrongly."""
     caller = fields.Caller(talk, library, {"none": 0, **names})
     for path in recordings:
-        content = path.read_bytes()
-        for what, compared in (("in its pieces", compare_recording(caller, content, 1 << 24)),
-                               ("in pieces of a byte", compare_recording(caller, content, 1)),
-                               ("by a passage", compare_passage(caller, content)),
-                               ("joined late", compare_joined(caller, content))):
+        content, (*lines, ending) = path.read_bytes(), listings_of(path)[-1][1].read_text().splitlines()
+        for what, compared in (("in its pieces", compare_recording(caller, content, 1 << 24, len(lines))),
+                               ("in pieces of a byte", compare_recording(caller, content, 1, len(lines))),
+                               ("by a passage", compare_passage(caller, content, ending.startswith(". whole "))),
+                               ("joined late", compare_joined(caller, content, len(lines)))):
             for found, wanted in compared:
                 if found != wanted:
                     yield path.stem, False, f"{path.stem}, {what}: {found}, not {wanted}"
