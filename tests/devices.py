@@ -127,8 +127,9 @@ def main():
         for args in cases:
             name, words = f"{args.parent.name}/{args.stem}", args.read_text().splitlines()
             data = content(args.with_suffix(".in"))
-            ample = devices.run(words, data)
-            if ample[2] != 2:
+            ample, status = devices.run(words, data), int(content(args.with_suffix(".status")) or 0)
+            devices.hold(name, ample, ample[2] == status)
+            if status != 2:
                 for look in (devices.steps, devices.reads, devices.writes):
                     look(name, words, data, ample)
     print("\n".join(devices.failures[:30]), end="\n" if devices.failures else "")

@@ -32,17 +32,24 @@ class Judges(ToolCase):
                               check=False)
         return done.returncode, done.stdout + done.stderr[-500:]
 
-    def test_devices_where_no_read_fails(self):
+    def run_devices(self, script):
+        """What devices.py prints of a case, of which it has to fail, over a script in the place of the program."""
         if not PROGRAM.exists() or not shutil.which("cc"):
             self.skipTest("the program zkdump is not built, or there is no compiler for C")
         program = self.folder / "zkdump"
-        program.write_text(f'#!/bin/sh\nunset READ_ROOM\nexec {PROGRAM} "$@"\n')
+        program.write_text(f"#!/bin/sh\n{script}\n")
         program.chmod(0o700)
         done = subprocess.run([sys.executable, TOP / "tests" / "devices.py", "--only", "check/connect_answered",
                                "--program", program], capture_output=True, text=True, check=False)
         self.assertEqual(done.returncode, 1, done.stdout)
-        failures = done.stdout.splitlines()[:-1]
+        return done.stdout.splitlines()
+
+    def test_devices_where_no_read_fails(self):
+        *failures, _ = self.run_devices(f'unset READ_ROOM\nexec {PROGRAM} "$@"')
         self.assertTrue(failures and all(", a failed read after " in line for line in failures), failures)
+
+    def test_devices_where_each_run_refuses_its_arguments(self):
+        self.assertEqual(self.run_devices("exit 2")[:-1], ["check/connect_answered: (b'', b'', 2)"])
 
     def test_damage_that_is_refused_at_a_byte_that_did_not_come(self):
         script = """import damage
