@@ -65,6 +65,18 @@ class Turns(ToolCase):
             self.assertEqual([line.split()[0] for line in lines], [name for name in NAMES for _ in range(9)])
             self.assertEqual([line.split()[1] for line in lines], [str(7 + 64 * turn) for turn in range(9)] * 6)
 
+    def test_what_can_not_run(self):
+        old = self.checkout("old", "echo the sum")
+        program = self.folder / "new" / "crates" / "bench_jobs" / "out" / "bench_jobs"
+        status, _, err = self.run_jobs(old, self.folder / "new")
+        self.assertEqual((status, err), (1, f"{program.parents[3] / 'bench'}: No such file or directory\n"))
+        program.parents[3].joinpath("bench").mkdir(parents=True)
+        status, _, err = self.run_jobs(old, self.folder / "new")
+        self.assertEqual((status, err), (1, f"{program}: No such file or directory\n"))
+        for seed in ("x", "-1", "1.5", ""):
+            status, out, err = self.run_jobs(old, old, seed)
+            self.assertEqual((status, out, "bench/run OLD NEW [SEED]" in err), (1, "", True), err)
+
     def test_one_checkout_twice(self):
         run, took = runpy.run_path(str(TOP / "bench" / "run")), itertools.count(1)
         workload = run["Workload"]("check bench_jobs check SEED 20")
