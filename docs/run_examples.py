@@ -229,7 +229,7 @@ def plain(text):
 
 
 def are_in(lines, others):
-    return any(others[k:k + len(lines)] == lines for k in range(len(others)))
+    return lines != [] and any(others[k:k + len(lines)] == lines for k in range(len(others)))
 
 
 def compare_code(page, text):

@@ -70,6 +70,7 @@ class RunExamples(ToolCase):
         (self.folder / "code.rt").write_text("fn f() {\n    g();\n}\n")
         self.assert_counts(f"```rust {self.folder}/code.rt\nfn f() {{\n    g();\n```\n", 1, 0)
         self.assert_counts(f"```rust {self.folder}/code.rt\nfn f() {{\n    h();\n```\n", 0, 1)
+        self.assert_counts(f"```rust {self.folder}/code.rt\n\n```\n", 0, 1)
 
     def test_code_of_no_file_and_code_without_an_end(self):
         self.assert_counts(f"```c {self.folder}/no.c\nf();\n```\n", 0, 1)
