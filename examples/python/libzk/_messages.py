@@ -3,7 +3,7 @@
 import ctypes
 import enum
 from dataclasses import dataclass
-from typing import Callable, NamedTuple, Optional, Sequence, Tuple, Union
+from typing import Any, Callable, Dict, NamedTuple, Optional, Sequence, Tuple, Type, Union
 
 from . import _calls
 from ._names import FIELDS, OPERATIONS, STATUSES
@@ -99,6 +99,10 @@ class Refused(ValueError):
         self.name = STATUSES.get(status, "")
         self.fields, self.messages = tuple(fields), tuple(messages)
         super().__init__(f"{self.name} at {place}")
+
+    def __reduce__(self) -> "Tuple[Type[Refused], Tuple[int, int], Dict[str, Any]]":
+        """What a copy is made of, as in another process."""
+        return type(self), (self.status, self.place), vars(self)
 
 
 def fault_of(fault: _calls.Fault) -> Optional[Fault]:

@@ -98,6 +98,15 @@ class Payloads(unittest.TestCase):
             with self.assertRaises(Refused):
                 libzk.read_reply(operation, RESULTS, parts)
 
+    def test_a_refusal_that_is_copied(self):
+        """As one that comes from another process."""
+        with Talk() as talk, self.assertRaises(Refused) as caught:
+            talk.feed(Side.CLIENT, frame(HELLO) + frame(EXISTS + b"\0"))
+        refused = caught.exception
+        for copied in (copy.copy(refused), copy.deepcopy(refused), pickle.loads(pickle.dumps(refused))):
+            self.assertEqual(str(copied), "TRAILING at 15")
+            self.assertEqual(vars(copied), vars(refused))
+
 
 class Writing(unittest.TestCase):
     """Frames by the payloads of docs/FORMATS.md."""
