@@ -6,7 +6,7 @@ from typing import Callable, Iterator, List, NamedTuple, NoReturn, Optional, Tup
 
 from . import _calls
 from ._calls import library
-from ._messages import RANGE, Fault, Message, Refused, Side, fault_of, message_of, written
+from ._messages import RANGE, Fault, Message, Refused, Side, bytes_of, fault_of, message_of, written
 from ._names import Profile
 
 _WHOLE, _CUT = 1, 2
@@ -109,7 +109,7 @@ class Talk(_Held):
         messages: List[Message] = []
         side = Side(side)
         try:
-            for step in self._steps(library.zk_talk_step, side, bytes(piece)):
+            for step in self._steps(library.zk_talk_step, side, bytes_of(piece)):
                 if step.whole:
                     messages.append(self._newest(side))
         except Refused as refused:
@@ -119,7 +119,7 @@ class Talk(_Held):
 
     def skip(self, side: Side, piece: bytes) -> int:
         """Takes bytes of a side and judges them as `feed`, but makes no message: how many they complete."""
-        return sum(1 for step in self._steps(library.zk_talk_pass, Side(side), bytes(piece)) if step.whole)
+        return sum(1 for step in self._steps(library.zk_talk_pass, Side(side), bytes_of(piece)) if step.whole)
 
     def _newest(self, side: Side) -> Message:
         view = library.zk_talk_view(self._handle, side)
@@ -196,7 +196,7 @@ class Through(_Held):
         """What became of these bytes of a side, step by step. Where the last step is FULL, feed the server's bytes, and
         then again those of the piece that weren't used. A refusal has the messages before it."""
         every: List[Passed] = []
-        side, piece, at = Side(side), bytes(piece), 0
+        side, piece, at = Side(side), bytes_of(piece), 0
         try:
             for step in self._steps(library.zk_through_step, side, piece):
                 every.append(self._passed(side, step, piece[at:at + step.used]))
@@ -250,7 +250,7 @@ class Speaker(_Held):
 
     def say_payload(self, side: Side, payload: bytes) -> bytes:
         """The frame of the side's message of which the bytes are the payload, and which may come next."""
-        payload = bytes(payload)
+        payload = bytes_of(payload)
         said = library.zk_speaker_say_payload(self._handle, Side(side), payload, len(payload))
         if said.status:
             raise Refused(said.status, said.place)

@@ -113,6 +113,11 @@ def fault_of(fault: _calls.Fault) -> Optional[Fault]:
     return Fault(Side(fault.side), fault.frame, fault.offset, fault.place, STATUSES.get(fault.reason, ""), *order)
 
 
+def bytes_of(buffer: bytes) -> bytes:
+    """The bytes of any buffer, whatever its items are and however they lie. A number is no buffer."""
+    return buffer if type(buffer) is bytes else memoryview(buffer).tobytes()
+
+
 def number_of(operation: str) -> int:
     """The number of an operation or of a part of a multi."""
     for number, name in OPERATIONS.items():

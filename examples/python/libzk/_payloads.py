@@ -7,7 +7,7 @@ from typing import Callable, List, Sequence, Tuple, Union
 from . import _calls
 from ._calls import library
 from ._messages import (LONGEST, RANGE, ROOM, TOO_LONG, Field, FieldKind, Kind, Message, Refused, Side, Value,
-                        fields_of, number_of, written)
+                        bytes_of, fields_of, number_of, written)
 from ._names import OPERATIONS, Profile
 
 Item = Union[Field, Tuple[FieldKind, Value]]
@@ -27,31 +27,31 @@ def _parts(parts: Sequence[str]) -> "Tuple[ctypes.Array[ctypes.c_int32], int]":
 
 def read_first(payload: bytes) -> Message:
     """The connect request of this payload."""
-    payload = bytes(payload)
+    payload = bytes_of(payload)
     return _read(payload, lambda *out: library.zk_read_first(payload, len(payload), *out))
 
 
 def read_request(profile: Profile, payload: bytes) -> Message:
     """The request of this payload."""
-    payload, profile = bytes(payload), Profile(profile)
+    payload, profile = bytes_of(payload), Profile(profile)
     return _read(payload, lambda *out: library.zk_read_request(profile, payload, len(payload), *out))
 
 
 def read_connected(payload: bytes) -> Message:
     """The answer to a connect request."""
-    payload = bytes(payload)
+    payload = bytes_of(payload)
     return _read(payload, lambda *out: library.zk_read_connected(payload, len(payload), *out))
 
 
 def read_reply(operation: str, payload: bytes, parts: Sequence[str] = ()) -> Message:
     """The reply to a request of this operation, for a multi of these parts."""
-    payload, number, numbers = bytes(payload), number_of(operation), _parts(parts)
+    payload, number, numbers = bytes_of(payload), number_of(operation), _parts(parts)
     return _read(payload, lambda *out: library.zk_read_reply(number, *numbers, payload, len(payload), *out))
 
 
 def read_event(payload: bytes) -> Message:
     """The event of this payload."""
-    payload = bytes(payload)
+    payload = bytes_of(payload)
     return _read(payload, lambda *out: library.zk_read_event(payload, len(payload), *out))
 
 
@@ -62,31 +62,31 @@ def _judged(answer: _calls.Payload) -> None:
 
 def judge_first(payload: bytes) -> None:
     """Refuses what is no payload of a connect request; no field is read, as by all that judge."""
-    payload = bytes(payload)
+    payload = bytes_of(payload)
     _judged(library.zk_judge_first(payload, len(payload)))
 
 
 def judge_request(profile: Profile, payload: bytes) -> None:
     """Refuses what is no payload of a request."""
-    payload = bytes(payload)
+    payload = bytes_of(payload)
     _judged(library.zk_judge_request(Profile(profile), payload, len(payload)))
 
 
 def judge_connected(payload: bytes) -> None:
     """Refuses what is no payload of the answer to a connect request."""
-    payload = bytes(payload)
+    payload = bytes_of(payload)
     _judged(library.zk_judge_connected(payload, len(payload)))
 
 
 def judge_reply(operation: str, payload: bytes, parts: Sequence[str] = ()) -> None:
     """Refuses what is no payload of a reply to a request of this operation, for a multi of these parts."""
-    payload = bytes(payload)
+    payload = bytes_of(payload)
     _judged(library.zk_judge_reply(number_of(operation), *_parts(parts), payload, len(payload)))
 
 
 def judge_event(payload: bytes) -> None:
     """Refuses what is no payload of an event."""
-    payload = bytes(payload)
+    payload = bytes_of(payload)
     _judged(library.zk_judge_event(payload, len(payload)))
 
 
@@ -102,7 +102,7 @@ def _item(index: int, kind: FieldKind, value: Value, content: bytearray) -> _cal
         place, length = len(content), memoryview(value).nbytes
         if place + length > LONGEST:  # which a field couldn't say
             raise Refused(TOO_LONG, index)
-        content += value
+        content += bytes_of(value)
         return _calls.Field(kind=kind, place=place, length=length)
     if not isinstance(value, int) or kind in (FieldKind.TEXT, FieldKind.BLOB):
         raise TypeError(f"{value!r} is no value of the kind {kind.name}")
@@ -169,8 +169,9 @@ def listing(pieces: Sequence[Tuple[Side, bytes]], client: int = 4194304, server:
     and the limits are those of a talk."""
     if not all(0 <= limit < 1 << 32 for limit in (client, server, waiting)):
         raise Refused(RANGE)
-    cut = (_calls.Piece * max(len(pieces), 1))(*(_calls.Piece(Side(side), len(piece)) for side, piece in pieces))
-    content = b"".join(piece for _, piece in pieces)
-    text = written(lambda *out: library.zk_listing(cut, len(pieces), content, len(content), client, server, waiting,
+    given = [(Side(side), bytes_of(piece)) for side, piece in pieces]
+    cut = (_calls.Piece * max(len(given), 1))(*(_calls.Piece(side, len(piece)) for side, piece in given))
+    content = b"".join(piece for _, piece in given)
+    text = written(lambda *out: library.zk_listing(cut, len(given), content, len(content), client, server, waiting,
                                                    Profile(profile), *out), 64 + 4 * len(content))
     return text.decode().splitlines()

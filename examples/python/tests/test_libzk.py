@@ -161,6 +161,16 @@ class Writing(unittest.TestCase):
             libzk.write_reply(1, "multi", [(FieldKind.PART, 13), (FieldKind.PART, -1)])
         self.assertEqual((caught.exception.name, caught.exception.place), ("RANGE", 1))
 
+    def test_a_number_is_no_buffer(self):
+        """As what recv_into returns: so many zeros were taken for what came."""
+        with Talk() as talk, Through() as through, Speaker() as speaker:
+            for call in (lambda: talk.feed(Side.CLIENT, 3), lambda: talk.skip(Side.CLIENT, 3),
+                         lambda: through.feed(Side.CLIENT, 3), lambda: speaker.say_payload(Side.CLIENT, 3),
+                         lambda: libzk.read_request(Profile.V34, 3), lambda: libzk.judge_event(3)):
+                with self.assertRaises(TypeError):
+                    call()
+            self.assertEqual((talk.held(Side.CLIENT), through.ending().whole), (0, True))
+
     def test_fields_that_say_nothing(self):
         text, number = (FieldKind.TEXT, "/a"), (FieldKind.INT, 1 << 31)
         for items, name, place in (([text, number], "RANGE", 1), ([text, text, (FieldKind.LONG, 1 << 63)], "RANGE", 2),
@@ -176,10 +186,11 @@ class Writing(unittest.TestCase):
                 libzk.write_request(1, "exists", [item])
 
     def test_bytes_of_any_buffer_are_written(self):
-        words = memoryview(array.array("i", [1, 2]))
-        data = [(FieldKind.TEXT, "/a"), (FieldKind.BLOB, words), (FieldKind.INT, -1)]
-        payload = libzk.write_request(1, "setData", data)[4:]
-        self.assertEqual(libzk.read_request(Profile.V34, payload)["data"], words.tobytes())
+        for words, wanted in ((memoryview(array.array("H", [0x6161, 0x6262])), b"aabb"),
+                              (memoryview(b"a.b.c.")[::2], b"abc"), (memoryview(b"abc")[::-1], b"cba")):
+            data = [(FieldKind.TEXT, "/a"), (FieldKind.BLOB, words), (FieldKind.INT, -1)]
+            payload = libzk.write_request(1, "setData", data)[4:]
+            self.assertEqual(libzk.read_request(Profile.V34, payload)["data"], wanted)
         with mmap.mmap(-1, (1 << 32) + 1, flags=mmap.MAP_PRIVATE | mmap.MAP_ANONYMOUS, prot=mmap.PROT_READ) as zeros:
             with memoryview(zeros) as longer, self.assertRaises(Refused) as caught:
                 libzk.write_request(1, "setData", [data[0], (FieldKind.BLOB, longer), data[2]])
@@ -284,6 +295,10 @@ class Talks(unittest.TestCase):
                   (Side.SERVER, frame(NO_NODE)), (Side.SERVER, frame(EVENT)[:9]), (Side.SERVER, frame(EVENT)[9:])]
         self.assertEqual(libzk.listing(pieces), [*LINES, ". whole unanswered=0"])
         self.assertEqual(libzk.listing([]), [". whole unanswered=0"])
+        older = frame(HELLO[:-1])
+        every_second = memoryview(bytes(byte for each in older for byte in (each, 0)))[::2]
+        for buffer in (array.array("H", older), memoryview(array.array("H", older)), every_second):
+            self.assertEqual(libzk.listing([(Side.CLIENT, buffer)]), [f"{LINES[0][:-1]}-", ". whole unanswered=1"])
         with self.assertRaises(Refused):
             libzk.listing(pieces, client=63)
 
