@@ -92,7 +92,7 @@ def judge_event(payload: bytes) -> None:
 
 def _item(index: int, kind: FieldKind, value: Value, content: bytearray) -> _calls.Field:
     """A field to write; the bytes of a text or a blob are appended to the content."""
-    if value is None:
+    if value is None and kind in (FieldKind.TEXT, FieldKind.BLOB, FieldKind.LIST):
         return _calls.Field(kind=kind, null=1)
     if kind == FieldKind.PART and isinstance(value, str):
         value = number_of(value)

@@ -181,7 +181,8 @@ class Writing(unittest.TestCase):
         for xid, operation in ((1 << 31, "exists"), (1, "nothing")):
             with self.assertRaises(Refused):
                 libzk.write_request(xid, operation, [text])
-        for item in ((FieldKind.INT, "1"), (FieldKind.TEXT, 1), (FieldKind.BLOB, "a")):
+        for item in ((FieldKind.INT, "1"), (FieldKind.TEXT, 1), (FieldKind.BLOB, "a"), (FieldKind.INT, None),
+                     (FieldKind.LONG, None), (FieldKind.BOOL, None), (FieldKind.PART, None)):
             with self.assertRaises(TypeError):
                 libzk.write_request(1, "exists", [item])
 
