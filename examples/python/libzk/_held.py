@@ -242,7 +242,7 @@ class Speaker(_Held):
 
     def say(self, line: str) -> bytes:
         """The frame of the line's message, which may come next."""
-        text = line.encode()
+        text = line.encode(errors="surrogatepass")
         said = library.zk_speaker_say(self._handle, text, len(text))
         if said.status:
             raise Refused(said.status, said.column)

@@ -97,7 +97,7 @@ def _item(index: int, kind: FieldKind, value: Value, content: bytearray) -> _cal
     if kind == FieldKind.PART and isinstance(value, str):
         value = number_of(value)
     if kind == FieldKind.TEXT and isinstance(value, str):
-        value = value.encode()
+        value = value.encode(errors="surrogatepass")  # half of a pair, which the library refuses
     if isinstance(value, (bytes, bytearray, memoryview)) and kind in (FieldKind.TEXT, FieldKind.BLOB):
         place, length = len(content), memoryview(value).nbytes
         if place + length > LONGEST:  # which a field couldn't say

@@ -174,7 +174,8 @@ class Writing(unittest.TestCase):
     def test_fields_that_say_nothing(self):
         text, number = (FieldKind.TEXT, "/a"), (FieldKind.INT, 1 << 31)
         for items, name, place in (([text, number], "RANGE", 1), ([text, text, (FieldKind.LONG, 1 << 63)], "RANGE", 2),
-                                   ([(FieldKind.TEXT, b"\xff")], "RANGE", 0), ([(FieldKind.BOOL, 2)], "RANGE", 0)):
+                                   ([(FieldKind.TEXT, b"\xff")], "RANGE", 0), ([(FieldKind.BOOL, 2)], "RANGE", 0),
+                                   ([text, (FieldKind.TEXT, "/\ud800")], "RANGE", 1)):
             with self.assertRaises(Refused) as caught:
                 libzk.write_request(1, "exists", items)
             self.assertEqual((caught.exception.name, caught.exception.place), (name, place))

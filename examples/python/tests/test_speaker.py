@@ -20,7 +20,7 @@ class Speakers(unittest.TestCase):
     def test_refusals(self):
         with Speaker() as speaker:
             for line, name, column in (("C 1 exists", "LINE_WORD", 11), ("", "LINE_WORD", 1),
-                                       (LINES[2], "NOT_FIRST", 0)):
+                                       ('C 1 exists path="/\ud800" watch=1', "LINE_TEXT", 17), (LINES[2], "NOT_FIRST", 0)):
                 with self.assertRaises(Refused) as caught:
                     speaker.say(line)
                 self.assertEqual((caught.exception.name, caught.exception.place), (name, column))
