@@ -73,6 +73,9 @@ class Message:
                 return field.value
         raise KeyError(name)
 
+    def __contains__(self, name: object) -> bool:
+        return any(field.name == name for field in self.fields)
+
 
 class Fault(NamedTuple):
     """Why a conversation is refused, and by which byte: the side that sent it, the number of its frame and of the byte

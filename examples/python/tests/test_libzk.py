@@ -43,6 +43,7 @@ class Payloads(unittest.TestCase):
         self.assertEqual((message.kind, message.xid, message.operation), (Kind.REQUEST, 1, "exists"))
         self.assertEqual(message.fields, (("path", FieldKind.TEXT, "/a", 12, 2), ("watch", FieldKind.BOOL, True, 14, 1)))
         self.assertEqual((message["path"], message["watch"]), ("/a", True))
+        self.assertEqual(("path" in message, "version" in message), (True, False))
         with self.assertRaises(KeyError):
             message["version"]
 
