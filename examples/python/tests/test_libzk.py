@@ -163,7 +163,7 @@ class Writing(unittest.TestCase):
         self.assertEqual((caught.exception.name, caught.exception.place), ("RANGE", 1))
 
     def test_a_number_is_no_buffer(self):
-        """As what recv_into returns: so many zeros were taken for what came."""
+        """As what recv_into returns: that number of zeros was taken for what came."""
         with Talk() as talk, Through() as through, Speaker() as speaker:
             for call in (lambda: talk.feed(Side.CLIENT, 3), lambda: talk.skip(Side.CLIENT, 3),
                          lambda: through.feed(Side.CLIENT, 3), lambda: speaker.say_payload(Side.CLIENT, 3),
