@@ -6,7 +6,8 @@
  * for each message: the number of the connection, the microseconds from a request to its reply (else -), and the
  * message's line (docs/FORMATS.md, section 9). A request whose operation the profile lacks is left out, as is its
  * reply: their lines have the xid and the operation's number. A connection's last line is that of its ending (section
- * 11). What was refused is passed on all the same, unseen. It ends with SIGINT or SIGTERM.
+ * 11). What was refused is passed on all the same, unseen. It ends with SIGINT or SIGTERM. Where lines can't be written
+ * it says so and passes on; the status is then 2, else 0.
  *
  * One thread serves all connections, and no call blocks. Of each direction at most PIECE bytes are kept; while the
  * receiver takes none of them, nothing more is read from the sender, whose own sending then waits. A client of which
@@ -52,6 +53,7 @@ struct lane {
 /* What reads a conversation. */
 struct reader {
     struct zk_through through;
+    size_t unanswered; /* requests of all lanes */
     struct lane lanes[LANES];
 };
 
@@ -68,10 +70,9 @@ struct connection {
 static struct connection *all[MOST];
 /* Readers that are over, which the next connections begin anew. What was touched of their memory stays with them. */
 static struct reader *spares[SPARES];
-static size_t count, spare_count;
+static size_t count, spare_count, room;
 static struct addrinfo *server;
 static uint8_t *text;
-static size_t room;
 static volatile sig_atomic_t over;
 
 static void stop(int number) {
@@ -89,8 +90,6 @@ static int64_t now(void) {
     clock_gettime(CLOCK_MONOTONIC, &time);
     return (int64_t)time.tv_sec * 1000000 + time.tv_nsec / 1000;
 }
-
-/* ---- Readers */
 
 static void free_reader(struct reader *reader) {
     zk_through_free(&reader->through);
@@ -113,6 +112,7 @@ static void end_reader(struct connection *it) {
     if (spare_count < SPARES) {
         zk_through_renew(&reader->through);
         memset(reader->lanes, 0, sizeof reader->lanes);
+        reader->unanswered = 0;
         spares[spare_count++] = reader;
     } else free_reader(reader);
 }
@@ -126,21 +126,16 @@ static struct lane *lane_of(struct reader *reader, int32_t xid) {
 static int64_t latency(struct reader *reader, uint32_t kind, int32_t xid) {
     struct lane *lane = lane_of(reader, xid);
     if (kind == ZK_CONNECT || kind == ZK_REQUEST) {
+        reader->unanswered++;
         if (lane->count <= WAITING) lane->times[(lane->first + lane->count++) % (WAITING + 1)] = now();
     } else if (kind != ZK_EVENT && lane->count > 0) {
         int64_t asked = lane->times[lane->first];
         lane->first = (lane->first + 1) % (WAITING + 1);
         lane->count--;
+        reader->unanswered--;
         return now() - asked;
     }
     return -1;
-}
-
-/* How many requests have no reply yet. */
-static size_t unanswered(const struct reader *reader) {
-    size_t found = 0;
-    for (size_t i = 0; i < LANES; i++) found += reader->lanes[i].count;
-    return found;
 }
 
 /* ---- What is printed */
@@ -150,13 +145,13 @@ static void begin_line(const struct connection *it, int64_t waited) {
     else printf("%lu %" PRId64 " ", it->number, waited);
 }
 
-/* Makes room for a text that was too long. */
-static bool longer(struct zk_line line) {
-    if (line.status != ZK_ROOM) return false;
-    text = realloc(text, line.length);
-    if (text == NULL) fail("memory", strerror(errno));
-    room = line.length;
-    return true;
+/* Whether all lines were written; says so once if not. */
+static bool written(void) {
+    static bool lost;
+    if (lost || (!ferror(stdout) && fflush(stdout) == 0)) return !lost;
+    fputs("proxy: standard output can't be written\n", stderr);
+    lost = true;
+    return false;
 }
 
 /* Prints the message whose frame a side has completed. */
@@ -165,7 +160,11 @@ static void put_message(struct connection *it, uint32_t side) {
     struct zk_message message = zk_through_view(through, side);
     begin_line(it, latency(it->reader, message.kind, message.xid));
     struct zk_line line = zk_through_line(through, side, text, room);
-    if (longer(line)) line = zk_through_line(through, side, text, room);
+    if (line.status == ZK_ROOM) { /* none before it was so long */
+        text = realloc(text, room = line.length);
+        if (text == NULL) fail("memory", strerror(errno));
+        line = zk_through_line(through, side, text, room);
+    }
     if (line.status == ZK_WELL) fwrite(text, 1, line.length, stdout);
     putchar('\n');
 }
@@ -205,8 +204,7 @@ static void put_ending(struct connection *it, struct zk_ending ending) {
 static struct zk_ending full(struct zk_through *through, struct way *way) {
     do way->offset++;
     while (zk_through_step(through, ZK_CLIENT, way->bytes + way->seen++, 1).went != ZK_FULL && way->seen < way->to);
-    return (struct zk_ending){.kind = ZK_REFUSED,
-                              .fault = {way->frames, way->offset, ZK_CLIENT, 0, ZK_QUEUE_FULL, 0, 0}};
+    return (struct zk_ending){.kind = ZK_REFUSED, .fault = {way->frames, way->offset, ZK_CLIENT, 0, ZK_QUEUE_FULL, 0, 0}};
 }
 
 /* Prints what came from a side and wasn't seen. While as many requests wait as may, the client's next stays unseen. */
@@ -223,7 +221,7 @@ static void see(struct connection *it, uint32_t side) {
             way->seen += passed.used;
             way->offset += passed.used;
             way->frames += passed.went != ZK_WITHIN;
-        } else if (!it->ways[ZK_SERVER].ended && unanswered(it->reader) > 0) {
+        } else if (!it->ways[ZK_SERVER].ended && it->reader->unanswered > 0) {
             return;
         } else { /* no reply comes */
             put_ending(it, full(through, way));
@@ -366,7 +364,10 @@ static void turn(int listener) {
 }
 
 static int listening(const char *port) {
-    struct sockaddr_in at = {.sin_family = AF_INET, .sin_port = htons((uint16_t)atoi(port)),
+    char *end;
+    unsigned long number = strtoul(port, &end, 10);
+    if (!isdigit((unsigned char)*port) || *end != 0 || number > UINT16_MAX) fail(port, "no port");
+    struct sockaddr_in at = {.sin_family = AF_INET, .sin_port = htons((uint16_t)number),
                              .sin_addr.s_addr = htonl(INADDR_LOOPBACK)};
     socklen_t size = sizeof at;
     int listener = socket(AF_INET, SOCK_STREAM, 0), yes = 1;
@@ -381,20 +382,19 @@ static int listening(const char *port) {
 int main(int given, char **words) {
     struct addrinfo wanted = {.ai_socktype = SOCK_STREAM};
     struct sigaction ending = {.sa_handler = stop};
-    if (given != 4) {
-        fputs("usage: proxy PORT SERVER SERVERPORT\n", stderr);
-        return 2;
-    }
+    if (given != 4) fail("usage", "proxy PORT SERVER SERVERPORT");
+    if (strtoul(words[3], NULL, 10) > UINT16_MAX) fail(words[3], "no port"); /* getaddrinfo takes 16 bits of it */
     int failed = getaddrinfo(words[2], words[3], &wanted, &server);
     if (failed != 0) fail(words[2], gai_strerror(failed));
     if (sigaction(SIGINT, &ending, NULL) != 0 || sigaction(SIGTERM, &ending, NULL) != 0) fail("sigaction", strerror(errno));
+    signal(SIGPIPE, SIG_IGN); /* whoever reads the lines may go away */
     setvbuf(stdout, NULL, _IOLBF, BUFSIZ);
     int listener = listening(words[1]);
-    while (!over) turn(listener);
+    if (!written()) over = 1;
+    for (; !over; written()) turn(listener);
     while (count > 0) give_up(count - 1);
     while (spare_count > 0) free_reader(spares[--spare_count]);
-    close(listener);
     freeaddrinfo(server);
     free(text);
-    return 0;
+    return written() ? 0 : 2;
 }

@@ -10,6 +10,7 @@
 #include "zk.h"
 
 #include <arpa/inet.h>
+#include <ctype.h>
 #include <errno.h>
 #include <netinet/in.h>
 #include <stdio.h>
@@ -73,15 +74,15 @@ static bool serve(struct zk_talk *talk, int client, const uint8_t *bytes, size_t
 }
 
 /* The first client of a port, which is printed. */
-static int first_client(const char *port) {
-    struct sockaddr_in at = {.sin_family = AF_INET, .sin_port = htons((uint16_t)strtoul(port, NULL, 10))};
+static int first_client(unsigned long port) {
+    struct sockaddr_in at = {.sin_family = AF_INET, .sin_port = htons((uint16_t)port)};
     socklen_t size = sizeof at;
     at.sin_addr.s_addr = htonl(INADDR_LOOPBACK);
     int listener = socket(AF_INET, SOCK_STREAM, 0);
     if (listener < 0 || bind(listener, (struct sockaddr *)&at, size) != 0 || listen(listener, 1) != 0) return -1;
     if (getsockname(listener, (struct sockaddr *)&at, &size) != 0) return -1;
     printf("%u\n", (unsigned)ntohs(at.sin_port));
-    fflush(stdout);
+    if (fflush(stdout) != 0) return -1;
     int client = accept(listener, NULL, NULL);
     close(listener);
     return client;
@@ -96,10 +97,14 @@ static int failed(const char *what) {
 int main(int count, char **words) {
     static uint8_t bytes[65536], text[256];
     struct zk_talk talk = ZK_ZEROS;
+    const char *word = count == 2 ? words[1] : "0";
+    char *end;
+    unsigned long port = strtoul(word, &end, 10);
     if (count > 2) return failed("usage: server [PORT]");
+    if (!isdigit((unsigned char)*word) || *end != 0 || port > UINT16_MAX) return failed("PORT is no number up to 65535");
     if (zk_talk_new(&talk, LIMIT, LIMIT, WAITING, ZK_PROFILE_34) != ZK_WELL) return failed("out of memory");
-    int client = first_client(count == 2 ? words[1] : "0");
-    if (client < 0) return failed(strerror(errno));
+    int client = first_client(port);
+    if (client < 0) return failed(ferror(stdout) ? "standard output can't be written" : strerror(errno));
     ssize_t came = 0;
     bool good = true;
     while (good && (came = recv(client, bytes, sizeof bytes, 0)) > 0) good = serve(&talk, client, bytes, (size_t)came);

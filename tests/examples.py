@@ -234,8 +234,10 @@ def print_in_vain(programs):
     with answering.Server() as server, open("/dev/full", "wb") as full:
         threading.Thread(target=server.serve_forever, daemon=True).start()
         for name, *given in (("fields", "request", "34", "0000000100000003000000022f6101"), ("client_frames",),
-                             ("client", "127.0.0.1", str(server.port), "/a", "")):
-            found = subprocess.run([programs[name], *given], stdout=full, stderr=subprocess.PIPE, text=True)
+                             ("client", "127.0.0.1", str(server.port), "/a", ""), ("server",),
+                             ("proxy", "0", "127.0.0.1", str(server.port))):
+            found = subprocess.run([programs[name], *given], stdout=full, stderr=subprocess.PIPE, text=True,
+                                   timeout=passing.PATIENCE)
             good = found.returncode > 0 and found.stderr == f"{name}: standard output can't be written\n"
             yield f"{name}, a full disk", good, f"{name}, a full disk: status {found.returncode}, {found.stderr}"
         server.shutdown()
@@ -260,10 +262,14 @@ def complain(programs):
         ("client", ["127.0.0.1"], "client: usage: client SERVER PORT PATH DATA [ROUNDS]"),
         ("client", ["127.0.0.1", "1", "/a", ""], "client: Connection refused"),
         ("server", ["1", "2"], "server: usage: server [PORT]"),
-        ("proxy", ["0"], "usage: proxy PORT SERVER SERVERPORT"),
+        *(("server", [port], "server: PORT is no number up to 65535") for port in ("65536", "-1", "2181x", "")),
+        ("proxy", ["0"], "proxy: usage: proxy PORT SERVER SERVERPORT"),
+        ("proxy", ["65536", "127.0.0.1", "1"], "proxy: 65536: no port"),
+        ("proxy", ["x", "127.0.0.1", "1"], "proxy: x: no port"),
+        ("proxy", ["0", "127.0.0.1", "65537"], "proxy: 65537: no port"),
         ("proxy", ["0", "127.0.0.1", "no port"], "proxy: 127.0.0.1: Servname not supported for ai_socktype"),
     ):
-        found = subprocess.run([*programs[name], *given], capture_output=True, text=True)
+        found = subprocess.run([*programs[name], *given], capture_output=True, text=True, timeout=passing.PATIENCE)
         good = found.returncode > 0 and (found.stdout, found.stderr) == ("", f"{told}\n")
         yield f"{name} {given}", good, f"{name} {given}: status {found.returncode}, {found.stdout}{found.stderr}"
 

@@ -287,6 +287,26 @@ def held_up(program):
         yield name, good, f"proxy, {name}: {status}, {proxy.of(1)[-1:]}"
 
 
+class Unread(Proxy):
+    """A proxy of which nobody reads more than the first line."""
+
+    def read(self):
+        self.process.stdout.close()
+
+
+def unread(program):
+    """Whether it reports once that its lines can't be written, and passes on all."""
+    with socket.create_server(("127.0.0.1", 0)) as listener:
+        proxy = Unread(program, listener.getsockname()[1])
+        proxy.reader.join()
+        with proxy.connect() as client, undelayed(listener.accept()[0]) as server:
+            good = passes(client, server, HELLO) and passes(server, client, answering.framed(answering.CONNECTED))
+            good = good and passes(client, server, EXISTS)
+        status = proxy.end()
+    good &= status == (2, "proxy: standard output can't be written\n")
+    yield "unread", good, f"proxy, whose lines nobody reads: {status}"
+
+
 def endings(program):
     """Whether what the profile lacks is left out, and the last line has the numbers of all that came."""
     for *said, told in ENDINGS:
@@ -311,4 +331,5 @@ def check(program):
     yield from held_up(program)
     yield from heavy(program)
     yield from few_descriptors(program)
+    yield from unread(program)
     yield from endings(program)
