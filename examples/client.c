@@ -179,6 +179,7 @@ static int connection(const char *host, const char *port) {
     struct addrinfo wanted = {0}, *found = NULL;
     int to = -1, yes = 1;
     wanted.ai_socktype = SOCK_STREAM;
+    if (strtoul(port, NULL, 10) > UINT16_MAX) fail(2, "PORT is above 65535"); /* of which getaddrinfo takes 16 bits */
     int failed = getaddrinfo(host, port, &wanted, &found);
     if (failed != 0) fail(2, gai_strerror(failed));
     for (struct addrinfo *each = found; each != NULL; each = each->ai_next) { /* the first address that answers */
@@ -290,8 +291,10 @@ static void measure_sessions(const char *host, const char *port, long rounds) {
 }
 
 int main(int given, char **words) {
-    long rounds = given == 6 ? atol(words[5]) : 0;
-    if (given != 5 && given != 6) fail(2, "usage: client SERVER PORT PATH DATA [ROUNDS]");
+    char *rest = NULL;
+    long rounds = given == 6 ? strtol(words[5], &rest, 10) : 0;
+    if ((given != 5 && given != 6) || (rest != NULL && *rest != 0) || rounds < 0)
+        fail(2, "usage: client SERVER PORT PATH DATA [ROUNDS]");
     struct zk_read read = begin(words[1], words[2]);
     printf("connected: time_out=%" PRId64 "\n", field(&read, ZK_NAME_TIME_OUT)->number);
     create(words[3], words[4]);
