@@ -9,6 +9,7 @@
  * end, or up to a refusal, and all is written; else 2. */
 #include "zk.h"
 
+#include <ctype.h>
 #include <errno.h>
 #include <inttypes.h>
 #include <stdio.h>
@@ -57,12 +58,14 @@ static void list(struct zk_through *through, FILE *recording, unsigned long firs
     for (unsigned long i = 0; good && (got = fread(head, 1, 5, recording)) > 0; i++) {
         if (got != 5 || (head[0] != 'C' && head[0] != 'S')) fail("the recording is damaged");
         size_t length = (size_t)head[1] << 24 | (size_t)head[2] << 16 | (size_t)head[3] << 8 | head[4];
+        if (length < 1 || length > 16777220) fail("the recording is damaged");
         uint8_t *larger = realloc(piece, length + 1);
         if (larger == NULL) fail("out of memory");
         piece = larger;
         if (fread(piece, 1, length, recording) != length) fail("the recording ends within a piece");
         if (i >= first) good = put_frames(through, head[0] == 'C' ? ZK_CLIENT : ZK_SERVER, piece, length);
     }
+    if (ferror(recording)) fail(strerror(errno));
     free(piece);
 }
 
@@ -75,7 +78,9 @@ static void put_ending(struct zk_through *through) {
 }
 
 int main(int count, char **words) {
-    if (count != 3) fail("usage: late RECORDING COUNT");
+    char *end = NULL;
+    unsigned long first = count == 3 ? strtoul(words[2], &end, 10) : 0;
+    if (count != 3 || !isdigit((unsigned char)*words[2]) || *end != 0) fail("usage: late RECORDING COUNT");
     FILE *recording = fopen(words[1], "rb");
     if (recording == NULL) {
         fprintf(stderr, "late: %s: %s\n", words[1], strerror(errno));
@@ -84,7 +89,7 @@ int main(int count, char **words) {
     struct zk_through through = ZK_ZEROS;
     uint32_t status = zk_talk_join(&through, 4194304, 4194304, 65536, ZK_PROFILE_35);
     if (status != ZK_WELL) fail(zk_status_name(status));
-    list(&through, recording, strtoul(words[2], NULL, 10));
+    list(&through, recording, first);
     put_ending(&through);
     zk_through_free(&through);
     fclose(recording);

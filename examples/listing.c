@@ -61,12 +61,14 @@ static void list(struct zk_talk *talk, FILE *recording, struct text *text) {
     while (good && (got = fread(head, 1, 5, recording)) > 0) {
         if (got != 5 || (head[0] != 'C' && head[0] != 'S')) fail("the recording is damaged");
         size_t length = (size_t)head[1] << 24 | (size_t)head[2] << 16 | (size_t)head[3] << 8 | head[4];
+        if (length < 1 || length > 16777220) fail("the recording is damaged");
         uint8_t *larger = realloc(piece, length + 1);
         if (larger == NULL) fail("out of memory");
         piece = larger;
         if (fread(piece, 1, length, recording) != length) fail("the recording ends within a piece");
         good = put_messages(talk, head[0] == 'C' ? ZK_CLIENT : ZK_SERVER, piece, length, text);
     }
+    if (ferror(recording)) fail(strerror(errno));
     free(piece);
 }
 

@@ -117,6 +117,9 @@ fn pieces(recording: &[u8]) -> Option<Vec<(zk::Side, &[u8])>> {
             _ => return None,
         };
         let length = u32::from_be_bytes([head[1], head[2], head[3], head[4]]) as usize;
+        if !(1..=16_777_220).contains(&length) {
+            return None;
+        }
         let (piece, next) = behind.split_at_checked(length)?;
         pieces.push((side, piece));
         rest = next;

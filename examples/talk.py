@@ -193,7 +193,7 @@ def pieces(recording):
     at = 4
     while at < len(recording):
         side, length = b"CS".find(recording[at:at + 1]), int.from_bytes(recording[at + 1:at + 5], "big")
-        if side < 0 or len(recording) < at + 5 + length:
+        if side < 0 or not 1 <= length <= 16777220 or len(recording) < at + 5 + length:
             raise ValueError("the recording is damaged")
         yield (CLIENT, SERVER)[side], recording[at + 5:at + 5 + length]
         at += 5 + length

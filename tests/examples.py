@@ -152,7 +152,8 @@ def list_recordings(name, *words):
 def list_damaged(folder, name, words, *more):
     """Whether an example reports a recording that is damaged, and an output that can't be written."""
     for what, tail in (("whole", b""), ("a part of a head", b"C\0\0"), ("a part of a piece", b"C\0\0\0\5abcd"),
-                       ("no side", b"X\0\0\0\1a")):
+                       ("no side", b"X\0\0\0\1a"), ("a piece of no bytes", b"C\0\0\0\0"),
+                       ("a piece of too many bytes", b"C\1\0\0\5" + bytes(16777221))):
         path = pathlib.Path(folder, "damaged.zkr")
         path.write_bytes((CAPTURES / "kazoo_basic.zkr").read_bytes() + tail)
         found = subprocess.run([*words, path, *more], capture_output=True, text=True)
@@ -162,6 +163,17 @@ def list_damaged(folder, name, words, *more):
             with open("/dev/full", "wb") as full:
                 found = subprocess.run([*words, path, *more], stdout=full, stderr=subprocess.PIPE, text=True)
             yield "full", found.returncode != 0, f"{name}, a full disk: status {found.returncode}, {found.stderr}"
+
+
+def fail_to_read(folder, archive, cc):
+    """Whether a read that fails isn't taken for the end of the recording."""
+    for name, *more in (("listing",), ("late", "0")):
+        program = os.path.join(folder, f"{name}_within")
+        subprocess.run([cc, *STRICT, "-include", TOP / "tests" / "fails_within.h", f"-I{TOP / 'include'}", "-o", program,
+                        EXAMPLES / f"{name}.c", archive], check=True)
+        found = subprocess.run([program, "any.zkr", *more], capture_output=True, text=True)
+        good = (found.returncode, found.stdout, found.stderr) == (2, "", f"{name}: Input/output error\n")
+        yield f"{name}, a read", good, f"{name}, a read fails: {found.returncode}, {found.stdout}{found.stderr}"
 
 
 def fail_within(shared):
@@ -254,6 +266,7 @@ def complain(programs):
         ("listing", [listing], "listing: the file is no recording of format ZKR1"),
         ("late", [listing], "late: usage: late RECORDING COUNT"),
         ("late", [none, "2"], f"late: {none}: No such file or directory"),
+        *(("late", [none, count], "late: usage: late RECORDING COUNT") for count in ("two", "-1")),
         ("talk.py", ["--say"], "usage: talk.py LIBRARY RECORDING, or talk.py LIBRARY --say LISTING"),
         ("talk.py", [none, listing], f"talk.py: {none}: cannot open shared object file: No such file or directory"),
         ("fields", ["another", "00"], "fields: usage: fields first|connected|event HEX, fields request PROFILE HEX, or "
@@ -322,6 +335,7 @@ def check(folder, archive, shared, cc):
     for name, *words in listers(folder, programs, archive, shared):
         yield from list_recordings(name, *words)
         yield from list_damaged(folder, name, words)
+    yield from fail_to_read(folder, archive, cc)
     yield from fail_within(shared)
     yield from come_late(programs["late"])
     yield from list_damaged(folder, "late.c", [programs["late"]], "2")
