@@ -88,7 +88,8 @@ class Refused(Exception):
     """A status, and the place of the fault where there is one."""
 
     def __str__(self):
-        return f"the library refuses this: status {self.args[0]} of zk.h, at {self.args[-1]}"
+        where = "".join(f", at {place}" for place in self.args[1:][-1:])
+        return f"the library refuses this: status {self.args[0]} of zk.h{where}"
 
 
 class Library:

@@ -185,8 +185,9 @@ def fail_within(shared):
     try:
         lines = list(talk.listing(library, (CAPTURES / "kazoo_basic.zkr").read_bytes()))
     except talk.Refused as refused:
-        lines, status = [], refused.args[0]
-    yield "talk.py, no memory", status == 5, f"talk.py, no memory: {lines}"
+        lines, status = [], str(refused)
+    good = status == "the library refuses this: status 5 of zk.h"
+    yield "talk.py, no memory", good, f"talk.py, no memory: {lines}, {status}"
 
 
 def wait_late(folder, program):
