@@ -3,8 +3,8 @@
 
     install.py [--destdir FOLDER] [--prefix PREFIX] [--libdir LIB] [--remove]
 
-PREFIX is /usr/local if no other is named, and LIB is a folder below it, lib if no other is named. Everything goes below
-FOLDER, for whoever makes a package. The program has to be built. Any other part that can't be made is left out, which
+PREFIX is /usr/local if no other is named, and LIB is a folder below it, lib if no other is named. LIB may have PREFIX
+before it. Everything goes below FOLDER, for whoever makes a package. The program has to be built. Any other part that can't be made is left out, which
 is reported. The same arguments with --remove take away what was installed.
 """
 
@@ -145,6 +145,10 @@ def main():
     parser.add_argument("--libdir", default="lib")
     parser.add_argument("--remove", action="store_true")
     words = parser.parse_args()
+    words.prefix = words.prefix or "/"
+    libdir = os.path.relpath(os.path.join(words.prefix, words.libdir), words.prefix)
+    if libdir.split(os.sep)[0] in (os.curdir, os.pardir):
+        parser.error(f"LIB is no folder below {words.prefix}: {words.libdir!r}")
     top = os.path.join(words.destdir, words.prefix.lstrip("/")) if words.destdir else words.prefix
     if not words.remove and not PROGRAM.exists():
         print("install.py: the program is not built: build it with ./zkdump", file=sys.stderr)
@@ -152,9 +156,9 @@ def main():
     os.umask(0o022)
     try:
         if words.remove:
-            remove(top, words.libdir)
+            remove(top, libdir)
         else:
-            for line in install(top, words.libdir):
+            for line in install(top, libdir):
                 print(f"left out: {line}")
     except (make_library.NotMade, OSError) as fault:
         print(f"install.py: {fault}", file=sys.stderr)

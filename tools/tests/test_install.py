@@ -4,11 +4,18 @@ import contextlib
 import importlib.machinery
 import importlib.util
 import io
+import pathlib
 import subprocess
 import sys
 import unittest.mock
 
 from support import PROGRAM, TOP, ToolCase
+
+sys.path.append(str(TOP / "packaging"))
+import install  # noqa: E402
+import make_columns  # noqa: E402
+import make_library  # noqa: E402
+import make_manual  # noqa: E402
 
 
 class Install(ToolCase):
@@ -22,6 +29,67 @@ class Install(ToolCase):
                                   capture_output=True, text=True, check=False)
             self.assertEqual((done.returncode, done.stderr.count("\n")), (1, 1), done.stderr)
             self.assertRegex(done.stderr, r"^install.py: .*Not a directory: '.*/place/.*'$")
+
+
+def made(folder, *_):
+    """Makes the libraries and zkcolumns in the folder, of nothing."""
+    for name in ("libzk.a", "libzk.so.1", make_columns.NAME):
+        pathlib.Path(folder, name).touch()
+    return pathlib.Path(folder, "libzk.a"), None
+
+
+class Place(ToolCase):
+    """What goes where, of a program and libraries that have no bytes."""
+
+    def setUp(self):
+        super().setUp()
+        self.place, program = self.folder / "a place", self.folder / "program"
+        program.touch()
+        for module, names in ((install, {"PROGRAM": program, "LIBRARY": program, "toolchain": lambda: "rt"}),
+                              (make_library, {"make": made, "missing": list}), (make_columns, {"make": made}),
+                              (make_manual, {"missing": lambda: ["scdoc"]})):
+            patch = unittest.mock.patch.multiple(module, **names)
+            patch.start()
+            self.addCleanup(patch.stop)
+
+    def install(self, *words):
+        """The status, what is said, and the files that are then there."""
+        said, words = io.StringIO(), ["install.py", "--destdir", str(self.place), *words]
+        with unittest.mock.patch.object(sys, "argv", words), contextlib.redirect_stdout(said), \
+                contextlib.redirect_stderr(said):
+            try:
+                status = install.main()
+            except SystemExit as ended:
+                status = ended.code
+        there = [path for path in self.place.rglob("*") if path.is_symlink() or path.is_file()]
+        return status, said.getvalue(), sorted(str(path.relative_to(self.place)) for path in there)
+
+    def test_the_folder_of_the_libraries(self):
+        for libdir, wanted in (("lib64", "lib64"), ("lib/x86_64-linux-gnu/", "lib/x86_64-linux-gnu"),
+                               ("/opt/zk/lib64", "lib64")):
+            words = ("--prefix", "/opt/zk", "--libdir", libdir)
+            with self.subTest(libdir):
+                status, said, there = self.install(*words)
+                self.assertEqual((status, f"opt/zk/{wanted}/libzk.so" in there), (0, True), said)
+                described = (self.place / "opt/zk" / wanted / "pkgconfig" / "zk.pc").read_text()
+                up = "/".join([".."] * len(pathlib.Path(wanted, "pkgconfig").parts))
+                self.assertEqual(described.splitlines()[:2], [f"prefix=${{pcfiledir}}/{up}", f"libdir=${{prefix}}/{wanted}"])
+                self.assertEqual(self.install(*words, "--remove"), (0, "", []))
+
+    def test_no_folder_below_the_prefix(self):
+        """As an absolute one, by which the libraries went there, and not below the --destdir."""
+        for libdir in (str(self.folder / "other"), "../other", "..", ".", ""):
+            for more in ((), ("--remove",)):
+                status, said, there = self.install("--prefix", "/opt/zk", "--libdir", libdir, *more)
+                self.assertEqual((status, there), (2, []), said)
+                self.assertTrue(said.endswith(f"install.py: error: LIB is no folder below /opt/zk: {libdir!r}\n"), said)
+        self.assertFalse((self.folder / "other").exists())
+
+    def test_the_root(self):
+        status, said, there = self.install("--prefix", "")
+        self.assertEqual((status, "bin/zkdump" in there, "lib/libzk.a" in there), (0, True, True), said)
+        with unittest.mock.patch.object(install, "install", lambda top, *_: [top]):
+            self.assertEqual(self.install("--destdir", "", "--prefix", "")[1], "left out: /\n")
 
 
 class Release(ToolCase):
