@@ -87,16 +87,16 @@ def make(folder, libdir, gate):
     """Makes in a folder the files that are made. A line for each part that is left out."""
     if make_library.missing() or not LIBRARY.exists():
         lacking = ", ".join(make_library.missing()) or LIBRARY.relative_to(TOP)
-        yield f"the libraries and {make_columns.NAME}, since {lacking} is missing"
+        yield f"the libraries, zk.pc, the CMake files and {make_columns.NAME}, since {lacking} is missing"
     else:
         make_columns.make(folder, make_library.make(folder)[0])
-    for name, below in TEMPLATES.items():
-        text = (TOP / "packaging" / f"{name}.in").read_text()
-        values = {"UP": os.path.relpath(".", f"{libdir}/{below}"), "LIBDIR": libdir, "VERSION": VERSION,
-                  "MAJOR": VERSION.split(".")[0]}
-        for word, value in values.items():
-            text = text.replace(f"@{word}@", value)
-        (folder / name).write_text(text)
+        for name, below in TEMPLATES.items():
+            text = (TOP / "packaging" / f"{name}.in").read_text()
+            values = {"UP": os.path.relpath(".", f"{libdir}/{below}"), "LIBDIR": libdir, "VERSION": VERSION,
+                      "MAJOR": VERSION.split(".")[0]}
+            for word, value in values.items():
+                text = text.replace(f"@{word}@", value)
+            (folder / name).write_text(text)
     if make_manual.missing():
         yield f"the manual pages, since {make_manual.missing()[0]} is missing"
     else:
@@ -160,7 +160,7 @@ def main():
         else:
             for line in install(top, libdir):
                 print(f"left out: {line}")
-    except (make_library.NotMade, OSError) as fault:
+    except (make_library.NotMade, OSError, subprocess.CalledProcessError) as fault:
         print(f"install.py: {fault}", file=sys.stderr)
         return 1
     return 0

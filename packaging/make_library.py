@@ -20,7 +20,7 @@ from build_library import LIBRARY, TOP, kit
 
 HEADER = TOP / "include" / "zk.h"
 MAP = TOP / "packaging" / "zk.map"
-TOOLS = ("cc", "ld", "objcopy", "nm", "ar")
+TOOLS = ("cc", "ld", "objcopy", "nm", "ar", "rt")
 
 
 class NotMade(Exception):

@@ -5,6 +5,7 @@ import importlib.machinery
 import importlib.util
 import io
 import pathlib
+import shutil
 import subprocess
 import sys
 import unittest.mock
@@ -15,7 +16,6 @@ sys.path.append(str(TOP / "packaging"))
 import install  # noqa: E402
 import make_columns  # noqa: E402
 import make_library  # noqa: E402
-import make_manual  # noqa: E402
 
 
 class Install(ToolCase):
@@ -45,9 +45,10 @@ class Place(ToolCase):
         super().setUp()
         self.place, program = self.folder / "a place", self.folder / "program"
         program.touch()
+        self.lacking = ["scdoc"]
         for module, names in ((install, {"PROGRAM": program, "LIBRARY": program, "toolchain": lambda: "rt"}),
-                              (make_library, {"make": made, "missing": list}), (make_columns, {"make": made}),
-                              (make_manual, {"missing": lambda: ["scdoc"]})):
+                              (make_library, {"make": made}), (make_columns, {"make": made}),
+                              (shutil, {"which": lambda tool: None if tool in self.lacking else f"/bin/{tool}"})):
             patch = unittest.mock.patch.multiple(module, **names)
             patch.start()
             self.addCleanup(patch.stop)
@@ -73,7 +74,8 @@ class Place(ToolCase):
                 self.assertEqual((status, f"opt/zk/{wanted}/libzk.so" in there), (0, True), said)
                 described = (self.place / "opt/zk" / wanted / "pkgconfig" / "zk.pc").read_text()
                 up = "/".join([".."] * len(pathlib.Path(wanted, "pkgconfig").parts))
-                self.assertEqual(described.splitlines()[:2], [f"prefix=${{pcfiledir}}/{up}", f"libdir=${{prefix}}/{wanted}"])
+                self.assertEqual(described.splitlines()[:2],
+                                 [f"prefix=${{pcfiledir}}/{up}", f"libdir=${{prefix}}/{wanted}"])
                 self.assertEqual(self.install(*words, "--remove"), (0, "", []))
 
     def test_no_folder_below_the_prefix(self):
@@ -84,6 +86,22 @@ class Place(ToolCase):
                 self.assertEqual((status, there), (2, []), said)
                 self.assertTrue(said.endswith(f"install.py: error: LIB is no folder below /opt/zk: {libdir!r}\n"), said)
         self.assertFalse((self.folder / "other").exists())
+
+    def test_a_part_that_cannot_be_made(self):
+        """As where the administrator's PATH lacks rt: all else is installed, and nothing says that the library is."""
+        self.lacking.append("rt")
+        status, said, there = self.install()
+        self.assertEqual((status, said.splitlines()),
+                         (0, ["left out: the libraries, zk.pc, the CMake files and zkcolumns, since rt is missing",
+                              "left out: the manual pages, since scdoc is missing"]))
+        self.assertIn("usr/local/bin/zkdump", there)
+        self.assertEqual([name for name in there if name.startswith("usr/local/lib/")], [])
+
+    def test_a_command_that_fails(self):
+        with unittest.mock.patch.object(install, "toolchain", lambda: subprocess.run(["false"], check=True)):
+            status, said, there = self.install()
+        self.assertEqual((status, there), (1, []))
+        self.assertTrue(said.endswith("\ninstall.py: Command '['false']' returned non-zero exit status 1.\n"), said)
 
     def test_the_root(self):
         status, said, there = self.install("--prefix", "")
