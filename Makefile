@@ -2,10 +2,12 @@
 #
 #     make install DESTDIR= PREFIX=/usr/local LIBDIR=lib
 #     make uninstall, with the same arguments
+#
+# They may also be in the environment.
 
-PREFIX = /usr/local
-LIBDIR = lib
-DESTDIR =
+PREFIX ?= /usr/local
+LIBDIR ?= lib
+DESTDIR ?=
 INSTALL = python3 packaging/install.py --destdir "$(DESTDIR)" --prefix "$(PREFIX)" --libdir "$(LIBDIR)"
 
 all:

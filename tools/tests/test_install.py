@@ -4,6 +4,7 @@ import contextlib
 import importlib.machinery
 import importlib.util
 import io
+import os
 import pathlib
 import shutil
 import subprocess
@@ -86,6 +87,16 @@ class Place(ToolCase):
                 self.assertEqual((status, there), (2, []), said)
                 self.assertTrue(said.endswith(f"install.py: error: LIB is no folder below /opt/zk: {libdir!r}\n"), said)
         self.assertFalse((self.folder / "other").exists())
+
+    @unittest.skipUnless(shutil.which("make"), "there is no make")
+    def test_the_environment(self):
+        """By it a package went to /usr/local of the system."""
+        place = {"DESTDIR": "/a place", "PREFIX": "/opt/zk", "LIBDIR": "lib64"}
+        wanted = 'python3 packaging/install.py --destdir "/a place" --prefix "/opt/zk" --libdir "lib64"'
+        for target, more in (("install", ""), ("uninstall", " --remove")):
+            done = subprocess.run(["make", "-n", "-s", "--no-print-directory", "-C", TOP, target], capture_output=True,
+                                  text=True, check=False, env={"PATH": os.environ["PATH"], **place})
+            self.assertEqual(done.stdout, f"{wanted}{more}\n", done.stderr)
 
     def test_a_part_that_cannot_be_made(self):
         """As where the administrator's PATH lacks rt: all else is installed, and nothing says that the library is."""
