@@ -32,6 +32,18 @@ class Install(ToolCase):
             self.assertRegex(done.stderr, r"^install.py: .*Not a directory: '.*/place/.*'$")
 
 
+# What CMake has of both targets.
+FOUND = """cmake_minimum_required(VERSION 3.13)
+project(uses NONE)
+find_package(zk REQUIRED)
+foreach(name zk static)
+    get_target_property(library zk::${name} IMPORTED_LOCATION)
+    get_target_property(header zk::${name} INTERFACE_INCLUDE_DIRECTORIES)
+    message(STATUS "${library} ${header}")
+endforeach()
+"""
+
+
 def made(folder, *_):
     """Makes the libraries and zkcolumns in the folder, of nothing."""
     for name in ("libzk.a", "libzk.so.1", make_columns.NAME):
@@ -97,6 +109,21 @@ class Place(ToolCase):
             done = subprocess.run(["make", "-n", "-s", "--no-print-directory", "-C", TOP, target], capture_output=True,
                                   text=True, check=False, env={"PATH": os.environ["PATH"], **place})
             self.assertEqual(done.stdout, f"{wanted}{more}\n", done.stderr)
+
+    @unittest.skipUnless(shutil.which("cmake"), "there is no cmake")
+    def test_cmake_where_lib_is_a_link_to_usr_lib(self):
+        """As on Debian, where CMake may look below / before /usr."""
+        self.place.mkdir()
+        (self.place / "lib").symlink_to("usr/lib")
+        status, said, _ = self.install("--prefix", "/usr")
+        self.assertEqual(status, 0, said)
+        (self.folder / "CMakeLists.txt").write_text(FOUND)
+        done = subprocess.run(["cmake", f"-DCMAKE_PREFIX_PATH={self.place}", "-B", "made"], cwd=self.folder, text=True,
+                              capture_output=True, check=False)
+        found = [line for line in done.stdout.splitlines() if "zk" in line]
+        usr = self.place / "usr"
+        self.assertEqual(found, [f"-- {usr}/lib/libzk.so.1 {usr}/include", f"-- {usr}/lib/libzk.a {usr}/include"],
+                         done.stderr)
 
     def test_a_part_that_cannot_be_made(self):
         """As where the administrator's PATH lacks rt: all else is installed, and nothing says that the library is."""
