@@ -46,10 +46,16 @@ def commands():
             yield path.stem if "zk" in path.stem else f"zk{path.stem}", path
 
 
+def is_made_or_test(name):
+    """Whether a file or folder of this name is one that a tool has made, of which git says nothing, or has tests."""
+    return (name in ("tests", "__pycache__", "out", "target", "build") or name.startswith(".")
+            or name.endswith((".egg-info", ".log")))
+
+
 def folder_files(name, pattern):
     """The files of a folder of the repository that users need."""
     for path in sorted((TOP / name).rglob(pattern)):
-        if path.is_file() and not {"tests", "__pycache__", "out", "target", "build"} & set(path.relative_to(TOP).parts):
+        if path.is_file() and not any(map(is_made_or_test, path.relative_to(TOP).parts)):
             yield path
 
 

@@ -110,6 +110,18 @@ class Place(ToolCase):
                                   text=True, check=False, env={"PATH": os.environ["PATH"], **place})
             self.assertEqual(done.stdout, f"{wanted}{more}\n", done.stderr)
 
+    def test_what_tools_leave_in_the_tree(self):
+        """A release has the same files for the same commit, also where pytest or pip has been."""
+        for name in ("pytest/conftest.py", "pytest/.pytest_cache/README.md", "pytest/__pycache__/conftest.pyc",
+                     "python/libzk/py.typed", "python/libzk.egg-info/PKG-INFO", "python/build/lib/libzk.py",
+                     "python/.mypy_cache/3.9/libzk.data.json", "rust/target/debug/zk", "proxy.log"):
+            path = self.folder / "tree" / "examples" / name
+            path.parent.mkdir(parents=True, exist_ok=True)
+            path.touch()
+        with unittest.mock.patch.object(install, "TOP", self.folder / "tree"):
+            found = [str(path.relative_to(self.folder / "tree")) for path in install.folder_files("examples", "*")]
+        self.assertEqual(found, ["examples/pytest/conftest.py", "examples/python/libzk/py.typed"])
+
     @unittest.skipUnless(shutil.which("cmake"), "there is no cmake")
     def test_cmake_where_lib_is_a_link_to_usr_lib(self):
         """As on Debian, where CMake may look below / before /usr."""
