@@ -1,21 +1,19 @@
 # Completion of zkdump's arguments for bash.
 _zkdump() {
-    local word=${COMP_WORDS[COMP_CWORD]} before=${COMP_WORDS[COMP_CWORD - 1]} words
+    local word=$2 before=${COMP_WORDS[COMP_CWORD - 1]} words="show check build migrate"
     # bash takes --option=value apart at the sign.
-    if [[ $word == = ]]; then
-        word=
-    elif [[ $before == = ]]; then
-        before=${COMP_WORDS[COMP_CWORD - 2]}
-    fi
+    [[ $before != = ]] || before=${COMP_WORDS[COMP_CWORD - 2]}
     case $before in
-    zkdump | */zkdump) words="show check build migrate" ;;
     # The lines from here on are written by docs/names.py.
     --profile) words="3.4 3.5" ;;
     # Up to here.
     --limit | --waiting | *['<>']) return ;;
     *)
-        words="--limit --waiting --profile"
-        [[ ${COMP_WORDS[1]} != check ]] || words+=" --earliest"
+        # The command, which may come after < and a file.
+        if [[ " ${COMP_WORDS[*]:1:COMP_CWORD - 1} " =~ " "(show|check|build|migrate)" " ]]; then
+            words="--limit --waiting --profile"
+            [[ ${BASH_REMATCH[1]} != check ]] || words+=" --earliest"
+        fi
         ;;
     esac
     mapfile -t COMPREPLY < <(compgen -W "$words" -- "$word")

@@ -58,16 +58,23 @@ target_link_libraries(shared zk::zk)
 add_executable(static uses.c)
 target_link_libraries(static zk::static)
 """
-# What is typed, and what bash offers for its last word.
+# What is typed, and what bash offers for its last word, up to the cursor | where that is within it.
 COMPLETED = (
     (("zkdump", ""), "show check build migrate"),
     (("zkdump", "sh"), "show"),
     (("zkdump", "show", ""), "--limit --waiting --profile"),
     (("zkdump", "check", "--e"), "--earliest"),
     (("zkdump", "show", "--profile", ""), " ".join(source.profiles())),
+    (("zkdump", "show", "--profile", "="), " ".join(source.profiles())),
     (("zkdump", "show", "--profile", "=", "3.5"), "3.5"),
     (("zkdump", "show", "--limit", ""), ""),
     (("zkdump", "show", "<", "c"), ""),
+    (("zkdump", "ch|xx"), "check"),
+    (("zkdump", "check", "--e|arliest"), "--earliest"),
+    (("zkdump", "show", "<", "a file.zkr", "--p"), "--profile"),
+    (("zkdump", "<", "a file.zkr", ""), "show check build migrate"),
+    (("zkdump", "<", "a file.zkr", "check", "--e"), "--earliest"),
+    (("zkdump", "<", "a file.zkr", "show", "--e"), ""),
 )
 
 
@@ -162,8 +169,11 @@ def commands(top):
 def completion():
     script = TOP / "completion" / "zkdump.bash"
     for words, wanted in COMPLETED:
-        text = f'. "{script}"; COMP_WORDS=("$@"); COMP_CWORD=$(($# - 1)); _zkdump; echo "${{COMPREPLY[*]}}"'
-        found = run("bash", "-c", text, "bash", *words).stdout.decode().rstrip("\n")
+        text = (f'. "{script}"; word=$1; shift; COMP_WORDS=("$@"); COMP_CWORD=$(($# - 1)); _zkdump zkdump "$word"; '
+                'echo "${COMPREPLY[*]}"')
+        word, _, rest = words[-1].partition("|")
+        typed = ("" if word == "=" else word, *words[:-1], word + rest)
+        found = run("bash", "-c", text, "bash", *typed).stdout.decode().rstrip("\n")
         yield words, found == wanted, f"completion of {words}: {found}, not {wanted}"
     usage = run(install.PROGRAM).stderr.decode()
     named = re.findall(r"--[a-z]+|[a-z]{4,}|\d\.\d", usage.partition("usage: zkdump ")[2])
