@@ -4,6 +4,7 @@ use std::process::Command;
 
 fn main() {
     println!("cargo:rerun-if-env-changed=LIBZK_DIR");
+    println!("cargo:rerun-if-env-changed=PKG_CONFIG_PATH");
     if let Ok(folder) = std::env::var("LIBZK_DIR") {
         println!("cargo:rustc-link-search=native={folder}");
         println!("cargo:rustc-link-lib=static=zk");
