@@ -88,14 +88,19 @@ mod zk {
 
     /// Calls with the room that the text has, and once more with enough where that was too small.
     fn written(text: &mut Vec<u8>, mut write: impl FnMut(*mut u8, usize) -> Line) -> Result<(), u32> {
-        text.resize(text.capacity().max(256), 0);
-        let mut line = write(text.as_mut_ptr(), text.len());
+        text.clear();
+        text.reserve(256);
+        let mut line = write(text.as_mut_ptr(), text.capacity());
         if line.status == 68 {
-            text.resize(line.length, 0);
-            line = write(text.as_mut_ptr(), text.len());
+            text.reserve(line.length);
+            line = write(text.as_mut_ptr(), text.capacity());
         }
-        text.truncate(line.length);
-        if line.status == 0 { Ok(()) } else { Err(line.status) }
+        if line.status != 0 {
+            return Err(line.status);
+        }
+        // The call has written these bytes of the room, which has no other ones: they would cost time.
+        unsafe { text.set_len(line.length.min(text.capacity())) };
+        Ok(())
     }
 
     impl Drop for Talk {

@@ -264,12 +264,15 @@ pub(crate) fn written(
     text: &mut Vec<u8>,
     mut write: impl FnMut(*mut u8, usize) -> zk_line,
 ) -> Result<(), Fault> {
-    text.resize(text.capacity().max(256), 0);
-    let mut line = write(text.as_mut_ptr(), text.len());
+    text.clear();
+    text.reserve(256);
+    let mut line = write(text.as_mut_ptr(), text.capacity());
     if line.status == ROOM {
-        text.resize(line.length, 0);
-        line = write(text.as_mut_ptr(), text.len());
+        text.reserve(line.length);
+        line = write(text.as_mut_ptr(), text.capacity());
     }
-    text.truncate(if line.status == 0 { line.length } else { 0 });
-    well(line.status, 0)
+    well(line.status, 0)?;
+    // The call has written these bytes of the room, which has no other ones: they would cost time.
+    unsafe { text.set_len(line.length.min(text.capacity())) };
+    Ok(())
 }

@@ -177,7 +177,7 @@ impl Writer {
         &mut self,
         call: impl Fn(&[zk_field], &[u8], &mut [u8]) -> zk_written,
     ) -> Result<&[u8], Fault> {
-        let room = self.frame.capacity().max(256);
+        let room = self.content.len() + 16 * self.fields.len() + 64;
         self.frame.resize(room, 0);
         let mut written = call(&self.fields, &self.content, &mut self.frame);
         if written.status == ROOM {
