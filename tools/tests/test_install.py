@@ -78,6 +78,12 @@ class Place(ToolCase):
         there = [path for path in self.place.rglob("*") if path.is_symlink() or path.is_file()]
         return status, said.getvalue(), sorted(str(path.relative_to(self.place)) for path in there)
 
+    def configured(self):
+        """What CMake says of zk."""
+        done = subprocess.run(["cmake", f"-DCMAKE_PREFIX_PATH={self.place};{self.place / 'usr'}", "-B", "made"],
+                              cwd=self.folder, text=True, capture_output=True, check=False)
+        return [line for line in (done.stdout + done.stderr).splitlines() if "zk" in line]
+
     def test_the_folder_of_the_libraries(self):
         for libdir, wanted in (("lib64", "lib64"), ("lib/x86_64-linux-gnu/", "lib/x86_64-linux-gnu"),
                                ("/opt/zk/lib64", "lib64")):
@@ -130,12 +136,21 @@ class Place(ToolCase):
         status, said, _ = self.install("--prefix", "/usr")
         self.assertEqual(status, 0, said)
         (self.folder / "CMakeLists.txt").write_text(FOUND)
-        done = subprocess.run(["cmake", f"-DCMAKE_PREFIX_PATH={self.place}", "-B", "made"], cwd=self.folder, text=True,
-                              capture_output=True, check=False)
-        found = [line for line in done.stdout.splitlines() if "zk" in line]
         usr = self.place / "usr"
-        self.assertEqual(found, [f"-- {usr}/lib/libzk.so.1 {usr}/include", f"-- {usr}/lib/libzk.a {usr}/include"],
-                         done.stderr)
+        self.assertEqual(self.configured(), [f"-- {usr}/lib/libzk.so.1 {usr}/include",
+                                             f"-- {usr}/lib/libzk.a {usr}/include"])
+
+    @unittest.skipUnless(shutil.which("cmake"), "there is no cmake")
+    def test_the_versions_that_cmake_takes(self):
+        wanted = {"": 1, "0.9": 1, "0.9.0": 1, "0.8": 1, "0.9.1": 0, "1.0": 0, "0.9 EXACT": 1, "0.8 EXACT": 0,
+                  "0.5...0.9": 1, "0.5...1.0": 1, "0.5...0.8": 0, "0.5...<0.9": 0, "0.5...<0.10": 1, "0.10...0.11": 0}
+        with unittest.mock.patch.object(install, "VERSION", "0.9.0"):
+            self.assertEqual(self.install("--prefix", "/usr")[0], 0)
+        asked = [f"find_package(zk {words} QUIET)\nmessage(STATUS \"zk {words}: ${{zk_FOUND}}\")\nunset(zk_DIR CACHE)"
+                 for words in wanted]
+        (self.folder / "CMakeLists.txt").write_text(
+            "\n".join(["cmake_minimum_required(VERSION 3.19)", "project(uses NONE)", *asked]))
+        self.assertEqual(self.configured(), [f"-- zk {words}: {found}" for words, found in wanted.items()])
 
     def test_a_part_that_cannot_be_made(self):
         """As where the administrator's PATH lacks rt: all else is installed, and nothing says that the library is."""
