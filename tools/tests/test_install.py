@@ -210,3 +210,9 @@ class Release(ToolCase):
             with self.subTest(told):
                 self.assertEqual(self.made(make), (1, f"release: {told}\n"))
                 self.assertFalse((self.folder / "dist").exists())
+
+    def test_a_file_where_the_folder_goes(self):
+        (self.folder / "dist").touch()
+        status, said = self.made(lambda *_: [])
+        self.assertEqual((status, said.count("\n")), (1, 1), said)
+        self.assertRegex(said, "^release: .*File exists: '.*/dist'$")
