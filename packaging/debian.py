@@ -62,7 +62,8 @@ License: GPL-2.0-or-later
 # The tools' compiled files are removed with them.
 REMOVAL = f"""#!/bin/sh
 set -e
-find "$DPKG_ROOT/usr/{OWN}/tools" -name __pycache__ -exec rm -rf {{}} +
+tools=$DPKG_ROOT/usr/{OWN}/tools
+[ ! -d "$tools" ] || find "$tools" -name __pycache__ -exec rm -rf {{}} +
 """
 
 

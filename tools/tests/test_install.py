@@ -14,6 +14,7 @@ import unittest.mock
 from support import PROGRAM, TOP, ToolCase
 
 sys.path.append(str(TOP / "packaging"))
+import debian  # noqa: E402
 import install  # noqa: E402
 import make_columns  # noqa: E402
 import make_library  # noqa: E402
@@ -167,6 +168,19 @@ class Place(ToolCase):
             status, said, there = self.install()
         self.assertEqual((status, there), (1, []))
         self.assertTrue(said.endswith("\ninstall.py: Command '['false']' returned non-zero exit status 1.\n"), said)
+
+    def test_what_runs_when_a_package_is_removed(self):
+        """It takes away what Python has compiled, and doesn't fail where the tools are gone: then dpkg removed nothing."""
+        compiled = self.folder / "usr" / install.OWN / "tools" / "report" / "__pycache__"
+        for there in (True, False):
+            if there:
+                compiled.mkdir(parents=True)
+            else:
+                compiled.parent.rmdir()
+                compiled.parent.parent.rmdir()
+            done = subprocess.run(["sh", "-c", debian.REMOVAL], capture_output=True, text=True, check=False,
+                                  env={**os.environ, "DPKG_ROOT": str(self.folder)})
+            self.assertEqual((done.returncode, done.stderr, compiled.exists()), (0, "", False))
 
     def test_the_root(self):
         status, said, there = self.install("--prefix", "")
