@@ -136,4 +136,4 @@ def _typed(calls: ctypes.PyDLL) -> ctypes.PyDLL:
 
 
 # A PyDLL keeps Python's lock while it calls.
-library = _typed(ctypes.PyDLL(os.environ.get("LIBZK", "libzk.so.1")))
+library = _typed(ctypes.PyDLL(os.environ.get("LIBZK") or "libzk.so.1"))

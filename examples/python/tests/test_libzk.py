@@ -7,7 +7,10 @@ import array
 import copy
 import gc
 import mmap
+import os
 import pickle
+import subprocess
+import sys
 import time
 import unittest
 
@@ -205,6 +208,14 @@ class Writing(unittest.TestCase):
             with self.assertRaises(Refused) as caught:
                 talk.feed(Side.CLIENT, libzk.write_request(-1, "exists", [(FieldKind.TEXT, "/a"), (FieldKind.BOOL, 0)]))
         self.assertEqual(caught.exception.name, "XID_OP")
+
+
+class Loading(unittest.TestCase):
+    def test_a_variable_that_is_empty_names_no_file(self):
+        place = os.path.dirname(os.environ.get("LIBZK", ""))
+        done = subprocess.run([sys.executable, "-c", "import libzk"], capture_output=True, text=True, check=False,
+                              env={**os.environ, "LIBZK": "", **({"LD_LIBRARY_PATH": place} if place else {})})
+        self.assertEqual((done.returncode, done.stderr), (0, ""))
 
 
 class Talks(unittest.TestCase):
