@@ -170,7 +170,7 @@ class Place(ToolCase):
         self.assertTrue(said.endswith("\ninstall.py: Command '['false']' returned non-zero exit status 1.\n"), said)
 
     def test_what_runs_when_a_package_is_removed(self):
-        """It takes away what Python has compiled, and doesn't fail where the tools are gone, as then nothing is removed."""
+        """It takes away what Python has compiled, and is no error where the tools are gone."""
         compiled = self.folder / "usr" / install.OWN / "tools" / "report" / "__pycache__"
         for there in (True, False):
             if there:
