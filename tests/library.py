@@ -48,17 +48,22 @@ C_TYPES = {"u8": "uint8_t", "u16": "uint16_t", "u32": "uint32_t", "u64": "uint64
            "Field": "struct zk_field", "ReadAnswer": "struct zk_read", "WriteAnswer": "struct zk_written",
            "WaitingAnswer": "struct zk_waiting", "HeldAnswer": "struct zk_held"}
 INSIDE = {"TalkBox", "PassageBox", "VoiceBox"}
+NAMED = {"uint32_t", "int32_t", "int64_t"}  # parameters of these types have the crate's names
 FIELDS = TOP / "crates" / "zk_fields" / "src"
 
 
-def c_words(word):
-    """The C types of one parameter of an export."""
+def c_words(name, word):
+    """The C types of one parameter of an export; a number has its name, too."""
     slice = re.fullmatch(r"&(mut )?\[(\w+)\]", word)
     if slice:
         return [("" if slice[1] else "const ") + C_TYPES[slice[2]] + " *", "size_t"]
     if word.startswith("&mut "):
         return [C_TYPES[word[5:]] + " *"]
-    return [C_TYPES[word]]
+    return [named(C_TYPES[word], name)]
+
+
+def named(kind, name):
+    return f"{kind} {name}" if kind in NAMED else kind
 
 
 def joined(text):
@@ -73,9 +78,9 @@ def exported():
         text = source.plain(path.read_text())
         for name, words, result in re.findall(r'extern "C" fn (\w+)\((.*?)\)(?: -> ([^\n{]+?))? *[\n{]', text,
                                               flags=re.S):
-            types = [word.split(":", 1)[1].strip() for word in words.split(",") if ":" in word]
+            given = re.findall(r"(\w+): ([^,]+)", words)
             calls[name] = (C_TYPES[result] if result else "void",
-                           [c for t in types if t != "Global" for c in c_words(t)])
+                           [c for word, kind in given if kind != "Global" for c in c_words(word, kind.strip())])
         for name, body in re.findall(r"#\[repr\(C\)\][^{]*struct (\w+) \{(.*?)\n\}", text, flags=re.S):
             if name not in INSIDE:
                 fields = re.findall(r"^\s+(?:pub )?(\w+): ([^,\n]+),", body, flags=re.M)
@@ -89,13 +94,21 @@ def went_numbers():
     return {name.upper(): int(n) for name, n in re.findall(r"Went::(\w+)(?:\(\w+\)| \{[^}]*\})? => \((\d+),", text)}
 
 
+def package_numbers():
+    """The numbers of sides and kinds in the package for Python, whose tests compare them with the library's."""
+    text = "".join((TOP / "examples/python/libzk" / name).read_text() for name in ("_messages.py", "_held.py"))
+    for kind, body in re.findall(r"^class (\w+)\(enum\.IntEnum\):\n((?:    .*\n)+)", text, re.M):
+        for name, number in re.findall(r"^    (\w+) = (\d+)$", body, re.M):
+            yield f"KIND_{name}" if kind == "FieldKind" else name, int(number)
+
+
 def declared():
     """The same of the header."""
     text = source.plain(HEADER.read_text())
     calls, structs = {}, {}
     for result, name, words in re.findall(r"^([a-z][\w ]*?[ *])(zk_\w+)\(([^)]*)\);", text, flags=re.M | re.S):
-        types = [joined(re.sub(r"\w+$", "", word.strip())) for word in words.split(",")]
-        calls[name] = (joined(result), types)
+        given = [re.fullmatch(r"(.*?)(\w+)", word.strip()).groups() for word in words.split(",")]
+        calls[name] = (joined(result), [named(joined(kind), word) for kind, word in given])
     for name, body in re.findall(r"^(struct zk_\w+) \{(.*?)\n\};", text, flags=re.M | re.S):
         fields = re.findall(r"^\s+(.*?)(\w+);", body, flags=re.M)
         structs[name] = [(field, joined(kind)) for kind, field in fields]
@@ -122,7 +135,7 @@ def compare_header():
     for kind in sorted({*ours, *theirs}):
         yield (kind, ours.get(kind) == theirs.get(kind),
                f"names of {kind}: {ours.get(kind)}, the header {theirs.get(kind)}")
-    numbers = {**source.statuses(), **went_numbers()}
+    numbers = {**source.statuses(), **went_numbers(), **dict(package_numbers())}
     numbers.update((f"NAME_{name}", number) for name, number in source.field_names().items())
     for name, number in sorted(numbers.items()):
         yield (name, c_numbers.get(name) == number,
