@@ -26,9 +26,11 @@ def session_of(path):
 
 
 def session_in(payload):
-    """The session of a connect response; None where it has none."""
-    session = payload[8:16]
-    return f"0x{int.from_bytes(session, 'big'):x}" if any(session) and session != MADE_UP else None
+    """The session of a connect response; None where it has none, or where this is no connect response: a server that
+    turns a client down may send a reply's header."""
+    session, password = payload[8:16], int.from_bytes(payload[16:20], "big", signed=True)
+    is_connected = len(payload) - max(0, password) in (20, 21)
+    return f"0x{int.from_bytes(session, 'big'):x}" if is_connected and any(session) and session != MADE_UP else None
 
 
 def times_beside(path, beside=None):

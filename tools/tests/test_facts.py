@@ -299,11 +299,18 @@ class Others(FactsCase):
             self.assertEqual(found["times"], facts.mark_of(f"{path}.times"))
             self.assertEqual(self.run_inside("zkstat.py", path)[0], 0)
 
+    def test_a_connect_response_alone_has_a_session(self):
+        """With the boolean at its end or without; not a reply's header, and not what is cut or has bytes after it."""
+        numbers, password = bytes(8) + (0x1234).to_bytes(8, "big"), b"\0\0\0\x10" + bytes(16)
+        for rest, wanted in ((password, "0x1234"), (password + b"\1", "0x1234"), (b"\xff\xff\xff\xff", "0x1234"),
+                             (b"", None), (b"\0\0\0", None), (password[:-1], None), (password + b"\1\1", None)):
+            self.assertEqual(contents.session_in(numbers + rest), wanted, rest)
+
     def test_what_is_played_of_a_later_part_has_no_session(self):
         """Its connect response was made up: -1 is no session."""
         made_up, sent = (value.to_bytes(8, "big", signed=True) for value in (-1, 0x1234))
         for session, wanted in ((made_up, None), (sent, "0x1234"), (bytes(8), None)):
-            self.assertEqual(contents.session_in(bytes(8) + session + bytes(20)), wanted)
+            self.assertEqual(contents.session_in(bytes(8) + session + b"\0\0\0\x10" + bytes(16)), wanted)
 
     def test_connections_of_the_same_ends(self):
         """Two that began at the same time are two, also where one was recorded twice."""
@@ -336,13 +343,11 @@ class Others(FactsCase):
     def test_every_capture_has_its_session(self):
         for path in CAPTURES:
             connected = path.with_suffix(".show").read_text("ascii").partition("\nS connect ")[2]
-            listing = connected.partition(" session=")[2]
+            listed = int((connected.partition(" session=")[2].split() or [0])[0]) & (1 << 64) - 1
             capture, name = self.folder / f"{path.stem}.pcap", self.folder / path.stem
             with self.subTest(path.stem):
                 self.assertEqual(self.run_inside("zkr2pcap.py", path, capture)[0], 0)
                 self.run_inside("pcap2zkr.py", capture, name)
-                session = self.facts(f"{path.stem}-1").get("session")
-                if listing and not listing.startswith("0 "):
-                    self.assertEqual(int(session, 16), int(listing.split()[0]) & (1 << 64) - 1)
+                self.assertEqual(self.facts(f"{path.stem}-1").get("session"), f"0x{listed:x}" if listed else None)
 
 
