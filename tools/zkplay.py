@@ -39,6 +39,8 @@ import zkr
 
 LONGEST_WAIT = 1_000_000
 MOST_CONNECTIONS = range(1, 10_001)
+# The options of `zkdump build` under which it takes every listing.
+ALL_LISTINGS = ("--profile", max(zkr.PROFILES), "--limit", str(zkr.LIMITS[-1]), "--waiting", str(zkr.WAITINGS[-1]))
 
 
 def clients(listeners, count):
@@ -66,7 +68,7 @@ def opener(parser, path, words):
                              "messages, and a client sends others")
             return lambda: open(path, "rb")
         program.prove_runs(parser, words.zkdump)
-        built = subprocess.run([words.zkdump, "build"], stdin=file, capture_output=True, check=False)
+        built = subprocess.run([words.zkdump, "build", *ALL_LISTINGS], stdin=file, capture_output=True, check=False)
     if built.returncode:
         line = (built.stderr or built.stdout).decode(errors="replace").strip().rpartition("\n")[2]
         raise ValueError(f"{path}: {line or f'zkdump build has ended with status {built.returncode}'}")

@@ -131,6 +131,19 @@ class Zkplay(ToolCase):
             self.assert_played(b"", other, (zkr.CLIENT, PING), (zkr.SERVER, other[:size]), (zkr.SERVER, other[size:]),
                                words=("--wait", "0.5"))
 
+    def test_a_listing_of_any_limits(self):
+        """A newer one, and one with a frame of more than 4 MB: each is played by both ends."""
+        newer, longer = TOP / "captures" / "java_create2.show35", self.folder / "long.show"
+        connect = "".join(self.show(RUN.read_bytes()).splitlines(True)[:2])
+        longer.write_text(f'{connect}C 1 setData path="/a" blob=#{"00" * 4_200_000} version=-1\n')
+        for path, said, heard in ((newer, *map(len, sides(newer.with_suffix(".zkr").read_bytes()))),
+                                  (longer, CONNECT + 26 + 4_200_000, 41)):
+            player, address = self.play(path)
+            client, _ = self.play(path, "--client", address=f"{address[0]}:{address[1]}")
+            for process in (client, player):
+                self.assertEqual(self.ended(process),
+                                 (0, f"played: {said} bytes of the client, {heard} of the server\n", ""))
+
     def test_the_end_in_the_facts(self):
         """Its own, where it refuses the client or waits no longer; and the client's reset."""
         said, way = sides(RUN.read_bytes())[0], ("--record", self.folder / "r", "--wait", "0.5")
