@@ -144,6 +144,12 @@ class Zkplay(ToolCase):
                 self.assertEqual(self.ended(process),
                                  (0, f"played: {said} bytes of the client, {heard} of the server\n", ""))
 
+    def test_a_recording_that_ends_within_a_reply(self):
+        """Its bytes are sent where they may begin another reply than that to a ping which doesn't come."""
+        for size, heard in ((3, PONG[:3]), (7, PONG[:7]), (8, b""), (19, b"")):
+            cut = (zkr.SERVER, (PONG + bytes(12))[:size])
+            self.assert_played(b"", heard, (zkr.CLIENT, PING), cut, words=("--wait", "0.5"))
+
     def test_the_end_in_the_facts(self):
         """Its own, where it refuses the client or waits no longer; and the client's reset."""
         said, way = sides(RUN.read_bytes())[0], ("--record", self.folder / "r", "--wait", "0.5")
