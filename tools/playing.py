@@ -110,6 +110,8 @@ class Play:
                     self.unsaid = part
                     break
                 self.missed -= 1
+                if self.end and at.frame == self.end[0]:
+                    self.end = at.frame + 1, -LENGTH
                 continue
             if at.begins() and at.frame and len(part) >= 16 and part[8] < 0x80:
                 self.zxid = part[8:16]
@@ -141,8 +143,8 @@ class Play:
 
     def before_the_end(self, at, size):
         """How many of a part's bytes are still sent, where the side ends in it."""
-        if self.end and (at.frame, at.place + size) >= self.end:
-            return max(0, self.end[1] - at.place) if at.frame == self.end[0] else 0
+        if self.end and at.frame == self.end[0] and at.place + size >= self.end[1]:
+            return max(0, self.end[1] - at.place)
         return None
 
     def flipped(self, at, part):

@@ -1,5 +1,6 @@
 """Tests of zkplay: it plays to a client that says what was recorded, and refuses any other."""
 
+import contextlib
 import json
 import select
 import socket
@@ -149,6 +150,21 @@ class Zkplay(ToolCase):
         for size, heard in ((3, PONG[:3]), (7, PONG[:7]), (8, b""), (19, b"")):
             cut = (zkr.SERVER, (PONG + bytes(12))[:size])
             self.assert_played(b"", heard, (zkr.CLIENT, PING), cut, words=("--wait", "0.5"))
+
+    def test_an_end_at_a_place_that_its_frame_does_not_have(self):
+        """The server's frame 1 has the places 0 to 15, and is not the last."""
+        path, answer = self.folder / "two.zkr", zkr.Piece(zkr.SERVER, None, pieces(RUN.read_bytes())[3].data)
+        path.write_bytes(RUN.read_bytes() + zkr.Head().piece(zkr.SERVER, 0, answer.data))
+        for place, told in ((16, ""), (17, "zkplay.py: the server's bytes ended before frame=1 place=17, so no fault "
+                                           "was made there: choose an earlier place\n")):
+            for option in ("--cut-at", "--reset-at"):
+                player, address = self.play(path, option, f"1:{place}", "--wait", "1")
+                with socket.create_connection(address, SECONDS) as client:
+                    client.sendall(sides(RUN.read_bytes())[0])
+                    with contextlib.suppress(ConnectionResetError):
+                        receive(client, 81)
+                status, _, err = self.ended(player)
+                self.assertEqual((status, err), (int(bool(told)), told))
 
     def test_the_end_in_the_facts(self):
         """Its own, where it refuses the client or waits no longer; and the client's reset."""
