@@ -91,8 +91,7 @@ class Play:
                           "so no fault was made there: choose an earlier place")
         if not is_end:
             if self.own == zkr.CLIENT:
-                self.ended = self.ended or {"closed": "C"}
-                self.connection.shutdown(socket.SHUT_WR)
+                self.shut()
             self.hear_end()
 
     def counts(self):
@@ -157,23 +156,27 @@ class Play:
 
     def end_here(self):
         """Ends the own side, or resets the connection."""
-        self.ended = self.ended or {"reset" if self.reset else "closed": self.own.decode()}
         if self.reset:
+            self.ended = self.ended or {"reset": self.own.decode()}
             self.connection.setsockopt(socket.SOL_SOCKET, socket.SO_LINGER, struct.pack("ii", 1, 0))
         else:
-            self.connection.shutdown(socket.SHUT_WR)
+            self.shut()
             until = time.monotonic() + self.wait
             while not self.take(until):
                 self.heard.clear()
 
+    def shut(self):
+        """Ends the own side, unless the peer has reset the connection."""
+        try:
+            self.connection.shutdown(socket.SHUT_WR)
+            self.ended = self.ended or {"closed": self.own.decode()}
+        except OSError:
+            self.ended = self.ended or {"reset": self.peer.decode()}
+
     def close(self):
         """Ends the own side, where the connection hasn't ended."""
         if not self.ended:
-            try:
-                self.connection.shutdown(socket.SHUT_WR)
-                self.ended = {"closed": self.own.decode()}
-            except OSError:
-                self.ended = {"reset": self.peer.decode()}
+            self.shut()
 
     def pause(self, seconds):
         """Waits, and answers pings meanwhile."""

@@ -44,10 +44,10 @@ ALL_LISTINGS = ("--profile", max(zkr.PROFILES), "--limit", str(zkr.LIMITS[-1]), 
 
 
 def clients(listeners, count):
-    """`count` connections of clients, one after the other; then the listeners are closed."""
+    """`count` connections of clients with their addresses, one after the other; then the listeners are closed."""
     for _ in range(count):
         ready, _, _ = select.select(listeners, [], [])
-        yield ready[0].accept()[0]
+        yield ready[0].accept()
     for listener in listeners:
         listener.close()
 
@@ -86,16 +86,19 @@ class Bench:
         self.faults = playing.Faults(words.delay, words.flip, words.cut_at or words.reset_at, bool(words.reset_at))
 
     def run(self, connections):
-        """Plays to all these connections."""
+        """Plays to all these connections, each with the peer's address; where no more can be made, to those before."""
         threads = []
-        for number, connection in enumerate(connections):
-            threads.append(threading.Thread(target=self.play, args=(number, connection), daemon=True))
-            threads[-1].start()
+        try:
+            for number, (connection, peer) in enumerate(connections):
+                threads.append(threading.Thread(target=self.play, args=(number, connection, peer), daemon=True))
+                threads[-1].start()
+        except OSError as error:
+            self.fail(error)
         for thread in threads:
             thread.join()
         return self.status
 
-    def play(self, number, connection):
+    def play(self, number, connection, peer):
         """Plays to one connection, and prints the result."""
         head = f"#{number + 1} " if self.words.connections > 1 else ""
         path, open_recording = self.openers[number % len(self.openers)]
@@ -103,7 +106,7 @@ class Bench:
             with connection:
                 writer = self.series.next() if self.series else None
                 play = playing.Play(open_recording, self.own, connection, self.words.wait, self.faults, writer)
-                ends = [addresses.address_text(each()) for each in (connection.getpeername, connection.getsockname)]
+                ends = [addresses.address_text(each) for each in (peer, connection.getsockname())]
                 begun = time.time() * 1000
                 try:
                     play.run()
@@ -113,9 +116,12 @@ class Bench:
                         self.end(writer, play, begun, *(ends if self.own == zkr.SERVER else reversed(ends)))
             self.print(sys.stdout, f"{head}played: {play.counts()}")
         except (ValueError, OSError) as error:
-            self.status = max(self.status, 3 if isinstance(error, OSError) else 1)
-            file = f"{path}: " if isinstance(error, zkr.Damaged) else ""
-            self.print(sys.stderr, f"zkplay.py: {head}{file}{running.described(error)}")
+            self.fail(error, head + (f"{path}: " if isinstance(error, zkr.Damaged) else ""))
+
+    def fail(self, error, head=""):
+        """Prints an error, and notes it for the status."""
+        self.status = max(self.status, 3 if isinstance(error, OSError) else 1)
+        self.print(sys.stderr, running.shown(f"zkplay.py: {head}{running.described(error)}"))
 
     def end(self, writer, play, begun, client, server):
         """Ends a recording, and writes its facts."""
@@ -198,7 +204,7 @@ def main():
     zkr.allow_many_files()
     bench = Bench([(path, opener(parser, path, words)) for path in words.recordings], words)
     if words.client:
-        return bench.run(addresses.connected(words.address) for _ in range(words.connections))
+        return bench.run((addresses.connected(words.address), words.address) for _ in range(words.connections))
     listeners = addresses.listen(words.address)
     print(f"listening on {addresses.address_text(listeners[0].getsockname())}", flush=True)
     return bench.run(clients(listeners, words.connections))

@@ -1,6 +1,9 @@
 """Tests of zkplay: it plays to a client that says what was recorded, and refuses any other."""
 
+import argparse
 import contextlib
+import errno
+import io
 import json
 import select
 import socket
@@ -9,6 +12,8 @@ import subprocess
 import sys
 
 from support import CAPTURES, TOOLS, TOP, ToolCase, pieces, receive, sides, zkr
+import playing
+import zkplay
 
 RUN = TOP / "crates" / "zkdump" / "stdin"       # connect, exists, and their replies: 68 and 61 bytes
 CONNECT, EXISTS = 49, 19                        # the bytes of the client's two frames
@@ -132,19 +137,6 @@ class Zkplay(ToolCase):
             self.assert_played(b"", other, (zkr.CLIENT, PING), (zkr.SERVER, other[:size]), (zkr.SERVER, other[size:]),
                                words=("--wait", "0.5"))
 
-    def test_a_listing_of_any_limits(self):
-        """A newer one, and one with a frame of more than 4 MB: each is played by both ends."""
-        newer, longer = TOP / "captures" / "java_create2.show35", self.folder / "long.show"
-        connect = "".join(self.show(RUN.read_bytes()).splitlines(True)[:2])
-        longer.write_text(f'{connect}C 1 setData path="/a" blob=#{"00" * 4_200_000} version=-1\n')
-        for path, said, heard in ((newer, *map(len, sides(newer.with_suffix(".zkr").read_bytes()))),
-                                  (longer, CONNECT + 26 + 4_200_000, 41)):
-            player, address = self.play(path)
-            client, _ = self.play(path, "--client", address=f"{address[0]}:{address[1]}")
-            for process in (client, player):
-                self.assertEqual(self.ended(process),
-                                 (0, f"played: {said} bytes of the client, {heard} of the server\n", ""))
-
     def test_a_recording_that_ends_within_a_reply(self):
         """Its bytes are sent where they may begin another reply than that to a ping which doesn't come."""
         for size, heard in ((3, PONG[:3]), (7, PONG[:7]), (8, b""), (19, b"")):
@@ -165,6 +157,57 @@ class Zkplay(ToolCase):
                         receive(client, 81)
                 status, _, err = self.ended(player)
                 self.assertEqual((status, err), (int(bool(told)), told))
+
+    def test_a_listing_of_any_limits(self):
+        """A newer one, and one with a frame of more than 4 MB: each is played by both ends."""
+        newer, longer = TOP / "captures" / "java_create2.show35", self.folder / "long.show"
+        connect = "".join(self.show(RUN.read_bytes()).splitlines(True)[:2])
+        longer.write_text(f'{connect}C 1 setData path="/a" blob=#{"00" * 4_200_000} version=-1\n')
+        for path, said, heard in ((newer, *map(len, sides(newer.with_suffix(".zkr").read_bytes()))),
+                                  (longer, CONNECT + 26 + 4_200_000, 41)):
+            player, address = self.play(path)
+            client, _ = self.play(path, "--client", address=f"{address[0]}:{address[1]}")
+            for process in (client, player):
+                self.assertEqual(self.ended(process),
+                                 (0, f"played: {said} bytes of the client, {heard} of the server\n", ""))
+
+    def test_a_client_that_resets_before_it_is_taken(self):
+        player, address = self.play(RUN, "--record", self.folder / "r")
+        with socket.create_connection(address, SECONDS) as client:
+            peer = client.getsockname()
+            client.setsockopt(socket.SOL_SOCKET, socket.SO_LINGER, struct.pack("ii", 1, 0))
+        self.assertEqual(self.ended(player), (1, "", "zkplay.py: client frame=0 offset=1 place=0: expected byte 0x00: "
+                                                     "Connection reset by peer\n"))
+        found = json.loads((self.folder / "r-1.facts.json").read_text())
+        self.assertEqual((found["client"], found["reset"]), (f"{peer[0]}:{peer[1]}", "C"))
+
+    def test_a_server_that_resets_after_its_last_byte(self):
+        recording = b"ZKR1" + zkr.Head().piece(zkr.SERVER, 0, b"last")
+        with socket.create_server(("127.0.0.1", 0)) as listener, \
+                socket.create_connection(listener.getsockname(), SECONDS) as client:
+            with listener.accept()[0] as server:
+                server.sendall(b"last")
+                server.setsockopt(socket.SOL_SOCKET, socket.SO_LINGER, struct.pack("ii", 1, 0))
+            reset = select.poll()
+            reset.register(client, 0)
+            reset.poll(SECONDS * 1000)
+            play = playing.Play(lambda: io.BytesIO(recording), zkr.CLIENT, client, SECONDS)
+            play.run()
+        self.assertEqual(play.ended, {"reset": "S"})
+
+    def test_connections_go_on_where_no_more_can_be_made(self):
+        def connections():
+            yield socket.create_connection(address, SECONDS), address
+            raise OSError(errno.ECONNREFUSED, "Connection refused", "127.0.0.1:1")
+        player, address = self.play(RUN, "--delay", "0.3")
+        words = argparse.Namespace(client=True, connections=2, wait=SECONDS, record=None, delay=0, flip=(), cut_at=None,
+                                   reset_at=None)
+        with contextlib.redirect_stdout(io.StringIO()) as out, contextlib.redirect_stderr(io.StringIO()) as err:
+            status = zkplay.Bench([(RUN, lambda: open(RUN, "rb"))], words).run(connections())
+        self.assertEqual((status, out.getvalue(), err.getvalue()),
+                         (3, "#1 played: 68 bytes of the client, 61 of the server\n",
+                          "zkplay.py: 127.0.0.1:1: Connection refused\n"))
+        self.assertEqual(self.ended(player)[0], 0)
 
     def test_the_end_in_the_facts(self):
         """Its own, where it refuses the client or waits no longer; and the client's reset."""
