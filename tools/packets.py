@@ -1,7 +1,7 @@
 """TCP segments out of capture files, as tcpdump and Wireshark write them: pcap and pcapng, also packed with gzip.
 
-Links: Ethernet and the cooked captures of Linux (SLL), both with any number of VLAN tags, its later ones (SLL2), raw IP,
-and the loopback of BSD and macOS. Networks: IPv4 and IPv6. A packet that was sent in fragments is passed over, and so
+Links: Ethernet and the cooked captures of Linux (SLL and SLL2), all with any number of VLAN tags, raw IP, and the
+loopback of BSD and macOS. Networks: IPv4 and IPv6. A packet that was sent in fragments is passed over, and so
 is what isn't TCP.
 
 A segment is a plain tuple, since there are many of them:
@@ -19,11 +19,11 @@ import struct
 FIN, SYN, RST, ACK = 1, 2, 4, 16
 LARGEST_PACKET, LATEST = 1 << 24, 253_402_300_800_000
 BLOCK = 1 << 18
-# The bytes of the link's header before the IP header, by the number of the link type; and those before the kind of what
-# follows, where tags of VLANs may be before it.
-LINKS = {0: 4, 108: 4, 276: 20, 12: 0, 14: 0, 101: 0, 228: 0, 229: 0}
 ETHERNET = 1
-TAGGED = {ETHERNET: 12, 113: 14}
+# By the number of the link type: where its header has the kind of what follows, or None; and its length. Tags of VLANs
+# may come after it, each with the kind of what follows that.
+LINKS = {0: (None, 4), 108: (None, 4), 12: (None, 0), 14: (None, 0), 101: (None, 0), 228: (None, 0), 229: (None, 0),
+         ETHERNET: (12, 14), 113: (14, 16), 276: (0, 20)}
 VLANS, IP_KINDS = (b"\x81\x00", b"\x88\xa8", b"\x91\x00"), (b"\x08\x00", b"\x86\xdd")
 FRAGMENTED, EXTENSIONS, TCP = 0x3FFF, (0, 43, 60), 6
 IPV4, TCP_HEAD = struct.Struct(">2xH2xHxB"), struct.Struct(">HHIIBB")
@@ -183,14 +183,19 @@ def clock_of(order, options):
 
 def network_place(link, packet, at):
     """Where the IP header begins, of a packet that begins at this place; past its end if it has none."""
-    if link in TAGGED:
-        at += TAGGED[link]
-        while packet[at:at + 2] in VLANS:
-            at += 4
-        return at + 2 if packet[at:at + 2] in IP_KINDS else len(packet)
-    if link not in LINKS:
-        raise NotRead(f"packets of link type {link} can't be read: capture at another interface, such as any or eth0")
-    return at + LINKS[link]
+    try:
+        place, size = LINKS[link]
+    except KeyError:
+        raise NotRead(f"packets of link type {link} can't be read: capture at another interface, such as any or "
+                      "eth0") from None
+    if place is None:
+        return at + size
+    kind, at = packet[at + place:at + place + 2], at + size
+    while kind not in IP_KINDS:
+        if kind not in VLANS:
+            return len(packet)
+        kind, at = packet[at + 2:at + 4], at + 4
+    return at
 
 
 def other_network(packet, at, end):
