@@ -2,6 +2,7 @@
 
 import errno
 import resource
+import select
 import socket
 import subprocess
 import sys
@@ -90,25 +91,28 @@ class Crowd(TroubleCase):
             self.addCleanup(call)
 
     def come(self, count):
-        """As many clients, which all are passed on."""
+        """As many clients, which all are passed on. A turn may take long here: it is the count that bounds it."""
         clients = [self.client(self.passing.listeners[0].getsockname()[1]) for _ in range(count)]
-        for turn in range(1, count // proxy.AT_ONCE + 3):
-            self.passing.turn(1)
-            self.assertLessEqual(len(self.passing.connections), proxy.AT_ONCE * turn)
-            if len(self.passing.connections) == count:
-                return clients
+        with unittest.mock.patch("proxy.MOMENT", SECONDS):
+            for turn in range(1, count // proxy.AT_ONCE + 3):
+                self.passing.turn(1)
+                self.assertLessEqual(len(self.passing.connections), proxy.AT_ONCE * turn)
+                if len(self.passing.connections) == count:
+                    return clients
         self.fail(f"{len(self.passing.connections)} of {count} clients are passed on")
 
-    def pass_on(self):
-        while self.passing.ready.select(0.5):
-            self.passing.turn(0)
+    def assert_answered(self, clients):
+        """That these clients, which have sent hello, have it back."""
+        until = time.monotonic() + SECONDS
+        while len(select.select(clients, [], [], 0)[0]) < len(clients) and time.monotonic() < until:
+            self.passing.turn(0.01)
+        self.assertEqual([receive(client, 5) for client in clients], [b"hello"] * len(clients))
 
     def test_clients_that_come_at_once(self):
         clients = self.come(100)
         for client in clients:
             client.sendall(b"hello")
-        self.pass_on()
-        self.assertEqual([receive(client, 5) for client in clients], [b"hello"] * 100)
+        self.assert_answered(clients)
 
     def test_small_messages_go_at_once_and_an_end_that_is_gone_is_noticed(self):
         self.come(1)
@@ -132,8 +136,7 @@ class Crowd(TroubleCase):
             self.passing.turn(1)
             over.append(before - len(self.passing.connections))
         self.assertLessEqual(max(over), proxy.AT_ONCE)
-        self.pass_on()
-        self.assertEqual(receive(steady, 5), b"hello")
+        self.assert_answered([steady])
 
     def most_at_once(self, count):
         """As many clients, and the most of them that begin in one turn."""
@@ -171,8 +174,7 @@ class Crowd(TroubleCase):
             clients, most = self.most_at_once(5)
         self.assertEqual(most, 1)
         clients[0].sendall(b"hello")
-        self.pass_on()
-        self.assertEqual(receive(clients[0], 5), b"hello")
+        self.assert_answered(clients[:1])
 
 
 class Ends(TroubleCase):
