@@ -44,13 +44,16 @@ class LeftOut:
         self.lines = collections.deque()
         self.frames, self.bytes = dict.fromkeys(zkr.OTHER, 0), dict.fromkeys(zkr.OTHER, 0)
 
-    def take(self, shown):
-        """The lines whose place has come, after this number of messages."""
-        while self.lines and self.lines[0][0] <= shown:
-            _, side, size, line = self.lines.popleft()
-            self.frames[side] += 1
-            self.bytes[side] += size
-            yield line
+    def is_due(self, shown):
+        """Whether there is a line whose place has come, after this number of messages."""
+        return bool(self.lines) and self.lines[0][0] <= shown
+
+    def take(self):
+        """The next line, with which its frame counts."""
+        _, side, size, line = self.lines.popleft()
+        self.frames[side] += 1
+        self.bytes[side] += size
+        return line
 
     def as_it_came(self, ending):
         """An ending line, with the numbers that it has if nothing is left out."""
@@ -102,9 +105,17 @@ class Show:
         self.left.lines.append((self.skipping.stayed, side, len(whole), line))
 
     def say_left_out(self):
-        """Prints the lines of such frames whose place has come."""
-        for line in self.left.take(self.shown):
-            self.watch.say_of(self.number, line)
+        """Prints the lines of such frames whose place has come; those that can't be printed wait."""
+        while self.left.is_due(self.shown):
+            if self.watch.lines.is_full():
+                self.wait()
+                return
+            self.watch.say_of(self.number, self.left.take())
+
+    def wait(self):
+        """Reads on in a moment, once lines can be printed."""
+        self.watch.wait_for(self.process.stdout, 0)
+        self.watch.after(0.05, self.read_on)
 
     def over(self):
         """Ends with the connection: once all is read, and all lines are printed."""
@@ -159,11 +170,11 @@ class Show:
                 self.lines.append(bytes(self.line + line))
                 self.line = bytearray()
             self.line += rest
+        self.say_left_out()
         while self.lines and not printer.is_full():
             self.print_line(self.lines.popleft())
-        if self.lines or not self.is_read and printer.is_full():
-            self.watch.wait_for(stdout, 0)
-            self.watch.after(0.05, self.read_on)
+        if self.lines or self.left.is_due(self.shown) or not self.is_read and printer.is_full():
+            self.wait()
         elif self.is_read:
             for file in (stdout, self.process.stdin):
                 self.watch.wait_for(file, 0)
@@ -180,7 +191,7 @@ class Show:
         self.say_left_out()
 
     def read_on(self):
-        if self.process:
+        if self.process and not self.process.stdout.closed:
             self.watch.wait_for(self.process.stdout, READ, self)
             self.read()
 

@@ -4,6 +4,7 @@ import pathlib
 import re
 import signal
 import socket
+import struct
 import subprocess
 import sys
 import threading
@@ -273,6 +274,17 @@ class Zkwatch(ToolCase):
                   "S 1 setData zxid=5 err=-101/NONODE", "S 2 exists zxid=5 err=-101/NONODE", ". whole unanswered=0"]
         self.assertEqual([line[:40] for line in told], [line[:40] for line in wanted])
         self.assertTrue(told == wanted)
+
+    def test_lines_of_what_is_left_out_wait_for_their_reader(self):
+        """As those of messages do: more than the printer holds, whose reader comes late."""
+        if not PROGRAM.exists():
+            self.skipTest("the program zkdump is not built")
+        numbers = range(1, 30_001)
+        asked = b"".join(struct.pack(">iii", 8, number, NAMED.number) for number in numbers)
+        told = self.watched([(zkr.CLIENT, bytes.fromhex(HELLO)), (zkr.SERVER, bytes.fromhex(WELCOME)),
+                             (zkr.CLIENT, asked)])
+        self.assertEqual(told[2:], [*(f"left out: C frame={n} xid={n} {NAME}, 8 bytes" for n in numbers),
+                                    f". whole unanswered={len(numbers)}"])
 
     def test_what_the_release_lacks_is_left_out(self):
         """Each recording that 3.4 refuses is listed to its end, or to a fault that no release has."""
