@@ -87,6 +87,8 @@ class Conversation:
             message = Message(side, number, milliseconds, frame.payload)
             if side not in self.connected:
                 self.connected.add(side)
+                if side == zkr.SERVER:
+                    self.session = contents.session_in(frame.payload)
                 self.skip(side, message.size())
             elif side == zkr.SERVER and self.unfinished:
                 self.complete(message)

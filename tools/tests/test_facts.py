@@ -194,6 +194,13 @@ class Holes(FactsCase):
         found = json.loads(out)
         self.assertEqual((status, found["unanswered"], len(found["notCaptured"])), (1, [], 2))
 
+    def test_the_session_where_the_connect_request_is_lost(self):
+        sent = made.Talk(1, 1, 20).segments()
+        capture = self.folder / "r.pcap"
+        capture.write_bytes(wire.pcap([(each.milliseconds, wire.packet(each)) for each in sent[:3] + sent[4:]]))
+        self.assertEqual(self.run_inside("pcap2zkr.py", capture, self.folder / "r")[0], 1)
+        self.assertEqual(self.facts("r-1")["session"], "0x5")
+
     def test_each_part_has_its_number(self):
         for depth in (1, 8):
             _, paths = self.recordings(depth, name=f"p{depth}")
