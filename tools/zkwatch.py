@@ -115,7 +115,8 @@ class Show:
     def wait(self):
         """Reads on in a moment, once lines can be printed."""
         self.watch.wait_for(self.process.stdout, 0)
-        self.watch.after(0.05, self.read_on)
+        if self.read_on not in self.watch.due:
+            self.watch.after(0.05, self.read_on)
 
     def over(self):
         """Ends with the connection: once all is read, and all lines are printed."""
