@@ -162,7 +162,7 @@ class Play:
         else:
             self.shut()
             until = time.monotonic() + self.wait
-            while not self.take(until):
+            while time.monotonic() < until and not self.take(until):
                 self.heard.clear()
 
     def shut(self):

@@ -10,6 +10,7 @@ import socket
 import struct
 import subprocess
 import sys
+import unittest.mock
 
 from support import CAPTURES, TOOLS, TOP, ToolCase, pieces, receive, sides, zkr
 import playing
@@ -157,6 +158,12 @@ class Zkplay(ToolCase):
                         receive(client, 81)
                 status, _, err = self.ended(player)
                 self.assertEqual((status, err), (int(bool(told)), told))
+
+    def test_a_client_that_says_more_and_more_after_an_end(self):
+        """It is waited for as long as for a byte, and no longer."""
+        client = unittest.mock.Mock(recv=lambda size: bytes(size))
+        playing.Play(None, zkr.SERVER, client, 0.2).end_here()
+        client.shutdown.assert_called_once_with(socket.SHUT_WR)
 
     def test_a_listing_of_any_limits(self):
         """A newer one, and one with a frame of more than 4 MB: each is played by both ends."""
