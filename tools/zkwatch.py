@@ -158,8 +158,9 @@ class Show:
 
     def read(self):
         """Prints the lines that are there; it waits where they can't be printed."""
-        stdout, printer = self.process.stdout, self.watch.lines
-        if not self.lines and not printer.is_full():
+        stdout = self.process.stdout
+        self.say_left_out()
+        if not self.lines and not self.is_held_up():
             data = stdout.read(BLOCK)
             if data is None:
                 return
@@ -171,16 +172,19 @@ class Show:
                 self.lines.append(bytes(self.line + line))
                 self.line = bytearray()
             self.line += rest
-        self.say_left_out()
-        while self.lines and not printer.is_full():
+        while self.lines and not self.is_held_up():
             self.print_line(self.lines.popleft())
-        if self.lines or self.left.is_due(self.shown) or not self.is_read and printer.is_full():
+        if self.lines or self.left.is_due(self.shown) or not self.is_read and self.is_held_up():
             self.wait()
         elif self.is_read:
             for file in (stdout, self.process.stdin):
                 self.watch.wait_for(file, 0)
                 file.close()
             self.reap()
+
+    def is_held_up(self):
+        """Whether its next line has to wait: for those that come before it, or for the reader."""
+        return self.left.is_due(self.shown) or self.watch.lines.is_full()
 
     def print_line(self, line):
         self.last, text = line, line.decode(errors="backslashreplace")

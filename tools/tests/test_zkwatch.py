@@ -9,10 +9,12 @@ import subprocess
 import sys
 import threading
 import time
+import unittest.mock
 
 from proxied import STAND_IN
 from support import PROGRAM, TOOLS, TOP, ToolCase, pieces, receive, sides, zkr
 from invented import NAMED
+import zkwatch
 
 RUN = TOP / "crates" / "zkdump" / "stdin"
 LISTING = """C connect version=0 zxid=0 timeout=30000 session=0 passwd=#00000000000000000000000000000000 ro=0
@@ -285,6 +287,19 @@ class Zkwatch(ToolCase):
                              (zkr.CLIENT, asked)])
         self.assertEqual(told[2:], [*(f"left out: C frame={n} xid={n} {NAME}, 8 bytes" for n in numbers),
                                     f". whole unanswered={len(numbers)}"])
+
+    def test_what_is_left_out_keeps_its_place(self):
+        """Also where there is room for lines again just after its line had to wait."""
+        told, is_full = [], iter([False, True, *[False] * 9])
+        watch = unittest.mock.Mock(command=["cat"], profile="3.4", head=zkr.Head(), due={})
+        watch.say_of, watch.lines.is_full = lambda _, line: told.append(line), lambda: next(is_full)
+        show = zkwatch.Show(watch, 1)
+        self.addCleanup(show.process.communicate)
+        show.lines.extend([b"C 1 ping", b"S 1 ping"])
+        show.left.lines.append((1, zkr.CLIENT, 12, "left out"))
+        show.read()
+        show.read()
+        self.assertEqual(told, ["C 1 ping", "left out", "S 1 ping"])
 
     def test_what_the_release_lacks_is_left_out(self):
         """Each recording that 3.4 refuses is listed to its end, or to a fault that no release has."""
