@@ -187,6 +187,9 @@ def skip_all(words):
         out = StandardOutput(recording.head)
     try:
         skip(recording, times, out, skipping)
+    except OSError:
+        known = None        # they are of the whole recording
+        raise
     finally:
         out.close()
         if known and words.target:

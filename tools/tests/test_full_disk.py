@@ -9,6 +9,7 @@ import wire
 from captured import PcapCase, packed
 from proxied import SECONDS, TroubleCase
 from support import CAPTURES, TOOLS, pieces, zkr
+import facts
 
 ASK, REPLY = zkr.Piece(zkr.CLIENT, None, bytes(300)), zkr.Piece(zkr.SERVER, None, bytes(300))
 
@@ -69,6 +70,7 @@ class Zkskip(PcapCase):
         frame = zkr.Piece(zkr.SERVER, 0, b"\0\0\1\0" + bytes(256))
         head = zkr.Head()
         source.write_bytes(head.to_bytes() + head.piece(zkr.CLIENT, 0, b"\0\0\0\4cut") + head.piece(*frame) * 1000)
+        facts.write(source, facts.Facts(closed="C"))
         for most, left in ((50_000, None), (100_000, 248)):
             with self.subTest(most=most):
                 done = subprocess.run(["prlimit", f"--fsize={most}:{most}", sys.executable, TOOLS / "zkskip.py", source,
@@ -76,6 +78,7 @@ class Zkskip(PcapCase):
                 self.assertEqual((done.returncode, done.stderr.splitlines()[-1]),
                                  (3, f"zkskip.py: {target}: File too large"))
                 self.assertEqual(target.exists() and len(pieces(target.read_bytes())), left or False)
+                self.assertFalse(target.with_name("plain.facts.json").exists())
 
 
 class Zkr2pcap(PcapCase):
