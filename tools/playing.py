@@ -5,6 +5,7 @@ import struct
 import sys
 import time
 
+import facts
 import zkr
 from frames import LENGTH, NEVER, end_of
 
@@ -65,7 +66,8 @@ class Play:
         self.heard, self.has_ended, self.zxid = bytearray(), False, bytes(8)
         self.pings = self.spare = self.missed = 0
         self.unsaid = b""                       # the beginning of a frame that may be left out
-        self.writer, self.ended = writer, {}    # a recording of what is said, and the facts of the connection's end
+        # A recording of what is said, how the connection ended, and the sides of which the recording lacks bytes.
+        self.writer, self.ended, self.hole = writer, {}, ()
         connection.setsockopt(socket.IPPROTO_TCP, socket.TCP_NODELAY, 1)
 
     def run(self):
@@ -138,7 +140,11 @@ class Play:
     def record(self, side, data):
         """Writes what is said to the recording, if there is one."""
         if self.writer and data:
-            self.writer.piece(side, time.time() * 1000, bytes(data))
+            try:
+                self.writer.piece(side, time.time() * 1000, bytes(data))
+            except OSError:
+                self.hole = facts.SIDES
+                raise
 
     def before_the_end(self, at, size):
         """How many of a part's bytes are still sent, where the side ends in it."""

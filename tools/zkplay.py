@@ -128,7 +128,7 @@ class Bench:
         writer.close()
         writer.write_facts(facts.Facts(
             tool="zkplay", client=client, server=server, connected=begun, begun=begun, ended=time.time() * 1000,
-            session=contents.session_of(writer.path), **play.ended))
+            session=contents.session_of(writer.path), hole=play.hole, **play.ended))
 
     def print(self, stream, line):
         """Prints a line, if the stream is open."""

@@ -81,6 +81,20 @@ class Zkskip(PcapCase):
                 self.assertFalse(target.with_name("plain.facts.json").exists())
 
 
+class Zkplay(PcapCase):
+    def test_a_recording_that_is_not_whole_has_a_hole(self):
+        path, prefix = self.folder / "long.zkr", self.folder / "r"
+        path.write_bytes(b"ZKR1" + zkr.Head().piece(zkr.SERVER, 0, bytes(250)) * 200)
+        player = subprocess.Popen(["prlimit", "--fsize=20000:20000", sys.executable, TOOLS / "zkplay.py", "--record",
+                                   prefix, "0", path], stdout=subprocess.PIPE, stderr=subprocess.PIPE, text=True)
+        self.addCleanup(player.kill)
+        address = player.stdout.readline().split()[-1]
+        self.run_tool("zkplay.py", "--client", address, path)
+        _, err = player.communicate(timeout=SECONDS)
+        self.assertEqual((player.returncode, err), (3, f"zkplay.py: {prefix}-1.zkr: File too large\n"))
+        self.assertEqual(facts.facts_of(f"{prefix}-1.zkr").hole, ("C", "S"))
+
+
 class Zkr2pcap(PcapCase):
     def test_no_part_of_a_capture_is_left(self):
         capture = self.folder / "made.pcap"
