@@ -54,12 +54,18 @@ class Path(list):
     def __init__(self):
         super().__init__([0, 0, -1, None, None])
 
+    def most(self):
+        return self[0]
+
 
 class Watch(list):
     """Of a connection's watches at a path: how many were set and set again, the events by kind, and a message of it."""
 
     def __init__(self):
         super().__init__([0, 0, {}, None])
+
+    def most(self):
+        return max(self[0], sum(self[2].values()))
 
 
 class Connection:

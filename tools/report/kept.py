@@ -164,7 +164,7 @@ def bin_of(ms):
 
 class Counted:
     """Counts by key of many keys. If there are more than `most`, the rarest are forgotten: `short` is how much too
-    small a count can be then. The first element of each entry is its count."""
+    small a count can be then. An entry's `most` is the greatest of its counts."""
 
     def __init__(self, new, most=MOST_PATHS):
         self.new, self.most, self.entries, self.short = new, most, {}, 0
@@ -179,8 +179,8 @@ class Counted:
 
     def forget(self):
         """Forgets the rarer half."""
-        least = sorted(entry[0] for entry in self.entries.values())[self.most // 2]
-        self.entries = {key: entry for key, entry in self.entries.items() if entry[0] > least}
+        least = sorted(entry.most() for entry in self.entries.values())[self.most // 2]
+        self.entries = {key: entry for key, entry in self.entries.items() if entry.most() > least}
         self.short += least
 
     def most_common(self, number):

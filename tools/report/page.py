@@ -45,7 +45,7 @@ def data_of(title, found):
     return {
         "title": title, "warnings": run.warnings, "begun": found.begun, "ended": found.ended, "tables": tables,
         "counts": {**found.counts, "connections": run.whole},
-        "leftOut": found.rows_left_out(), "pathsShort": run.paths.short, "complete": run.kept.is_complete(),
+        "leftOut": found.rows_left_out(), "short": found.short(), "complete": run.kept.is_complete(),
         "connections": [connection_of(each) for each in run.connections],
         "sessions": [session_of(each) for each in found.sessions],
         "requests": requests, "ops": names.ops, "errors": names.errors, "paths": names.paths,

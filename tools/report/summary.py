@@ -268,6 +268,11 @@ class Summary:
                 "unanswered": self.run.kept.unanswered_count - len(self.tables["unanswered"]),
                 "notCaptured": self.run.kept.not_captured_count - len(self.tables.get("notCaptured", ()))}
 
+    def short(self):
+        """By table whose rarest rows were forgotten, how much too low a count of it may be."""
+        return {name: found.short for name, found in (("paths", self.run.paths), ("watches", self.run.watches))
+                if found.short}
+
     def with_holes(self):
         """The connections of which bytes are missing."""
         return [each for each in self.run.connections if {"hole", "lost"} & set(each.source.notes)

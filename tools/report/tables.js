@@ -51,10 +51,10 @@ function drawTable(name, rows) {
   const head = element("tr", {}, ...columns.map(([, title, kind], at) => header(name, title, kind, at)));
   const body = element("tbody", {}, ...sorted(name, rows).map(row => drawRow(columns, row)));
   section.append(element("div", { class: "scroll" }, element("table", {}, element("thead", {}, head), body)));
-  const more = isFiltered() ? 0 : data.leftOut[name];
-  if (more) section.append(element("p", { class: "hint", text: `and ${count(more)} more` }));
-  if (name === "paths" && data.pathsShort) {
-    section.append(element("p", { class: "hint", text: `There were too many paths to count each: counts may be up to ${count(data.pathsShort)} too low.` }));
+  const more = isFiltered() ? 0 : data.leftOut[name], short = data.short[name];
+  if (more) section.append(element("p", { class: "hint", text: `and ${short ? "at least " : ""}${count(more)} more` }));
+  if (short) {
+    section.append(element("p", { class: "hint", text: `There were too many ${name} to count each: counts may be up to ${count(short)} too low.` }));
   }
   return section;
 }

@@ -21,7 +21,7 @@ def lines_of(found):
         yield f"{counts['timed']} of {counts['answered']} replies timed"
     for warning in found.run.warnings:
         yield f"not read: {printable(warning)}"
-    left_out = found.rows_left_out()
+    left_out, short = found.rows_left_out(), found.short()
     for name, rows in found.tables.items():
         if rows:
             yield ""
@@ -29,9 +29,9 @@ def lines_of(found):
             shown = rows if name in WHOLE else rows[:ROWS]
             yield from table(found.columns[name], shown)
             if more := left_out.get(name, 0) + len(rows) - len(shown):
-                yield f"and {more} more"
-    if found.run.paths.short:
-        yield f"Counts of paths may be up to {found.run.paths.short} too low: there were too many paths to count each."
+                yield f"and {'at least ' if name in short else ''}{more} more"
+    for name, most in short.items():
+        yield f"Counts of {name} may be up to {most} too low: there were too many {name} to count each."
 
 
 def table(columns, rows):
