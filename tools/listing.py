@@ -8,6 +8,7 @@ Connection. Joined, in joined.py, gives the same of the lines that zkjson makes;
 import codecs
 import collections
 import contextlib
+import math
 import re
 
 import operations
@@ -80,8 +81,8 @@ class Connection:
     """What is known of a connection, as far as its messages are read.
 
     `name` is what it is called, and `session` the number of its session in hexadecimal: that of the connect response,
-    else that which the client asked for, else None. `begun` and `ended` are the times of its first and its last
-    message, in milliseconds since 1970; `ending` is its ending line, its numbers as numbers; and `backwards` counts the
+    else that which the client asked for, else None. `begun` and `ended` are the least and the greatest time
+    of its messages, in milliseconds since 1970; `ending` is its ending line, its numbers as numbers; and `backwards` counts the
     replies whose time is before that of their request. `known` says that the session no longer changes. `facts` has the
     facts beside its recording, or None.
     """
@@ -108,9 +109,8 @@ class Connection:
 
     def timed(self, moment):
         """Takes a message's time."""
-        self.ended = moment
-        if self.begun is None:
-            self.begun = moment
+        self.begun = moment if self.begun is None else min(self.begun, moment)
+        self.ended = moment if self.ended is None else max(self.ended, moment)
 
 
 class Message:
@@ -245,6 +245,7 @@ class Listing(Conversations):
     def __iter__(self):
         connection, plain, lanes, lines, n = self.connection, self.plain, self.lanes, iter(self.lines), 0
         frames, foreign = self.times and self.times.frames, self.times and self.times.foreign
+        begun, ended = math.inf, -math.inf
         for n, line in enumerate(lines, 1):
             found = BEGINNING.match(line)
             if not found or connection.ending:
@@ -265,9 +266,11 @@ class Listing(Conversations):
                     self.times.refuse(n, of_side, lines)
                 if at is not None:
                     made.at = at
-                    made.moment = connection.ended = float(at)
-                    if connection.begun is None:
-                        connection.begun = made.moment
+                    made.moment = moment = float(at)
+                    if moment > ended:
+                        connection.ended = ended = moment
+                    if moment < begun:
+                        connection.begun = begun = moment
             lane, asked = plain if xid not in lanes else lanes[xid], None
             if side == "C":
                 if op not in ASKED:

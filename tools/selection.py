@@ -83,9 +83,10 @@ class Selection:
         self.all = not self.by_message and not self.sessions
         self.untimed = set()        # the connections with a message without a time, where times choose
 
-    def chosen(self, talk):
-        """The chosen messages, as iterating over `talk` yields messages."""
-        found = self.of_messages(talk) if self.by_message else talk
+    def chosen(self, talk, messages=None):
+        """The chosen ones of `messages`, by default those that iterating over `talk` yields."""
+        messages = talk if messages is None else messages
+        found = self.of_messages(talk, messages) if self.by_message else messages
         return self.of_sessions(found) if self.sessions else found
 
     def left(self, talk):
@@ -99,8 +100,8 @@ class Selection:
         untimed, self.untimed = self.untimed, set()
         return sum(not self.sessions or each.session in self.sessions for each in untimed)
 
-    def of_messages(self, talk):
-        for line, made, asked in talk:
+    def of_messages(self, talk, messages):
+        for line, made, asked in messages:
             if self.needs_times and made.moment is None:
                 self.untimed.add(made.connection)
             if asked:

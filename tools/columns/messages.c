@@ -123,8 +123,8 @@ static void take_time(struct state *state, struct record *record) {
     record->moment = state->recording.moment;
     record->asked_moment = record->microseconds = (double)NAN;
     if (isnan(record->moment)) return;
-    state->head.ended = record->moment;
-    if (isnan(state->head.begun)) state->head.begun = record->moment;
+    state->head.begun = fmin(state->head.begun, record->moment);
+    state->head.ended = fmax(state->head.ended, record->moment);
 }
 
 /* Takes the request of a reply, and how long that took. */

@@ -11,6 +11,8 @@ from report import kept, paths
 
 WATCHING = {operation.name for operation in operations.ALL if "watch:bit" in operation.request.split()}
 WATCH_LISTS = ("dataWatches", "existWatches", "childWatches")
+CLOSE = "closeSession"
+HEARD = {listing.CONNECT, CLOSE}
 NO_CONNECTION = '{"connection": 0'
 MOST_WATCHES = 20_000
 MOST_SILENT = 200       # connections without a message that are kept
@@ -68,6 +70,23 @@ class Watch(list):
         return max(self[0], sum(self[2].values()))
 
 
+class Heard:
+    """What the connect messages of a connection say, and whether the client closed the session, whatever is chosen."""
+
+    asked_session = session = timeout = None
+    is_closed = False
+
+    def take(self, line, made):
+        """Takes a connect message, or one that closes the session."""
+        self.is_closed |= made.op == CLOSE
+        if made.op == listing.CONNECT and not made.made_up:
+            fields = object_of(line, made)
+            if made.side == "C":
+                self.asked_session = fields.get("session")
+            else:
+                self.session, self.timeout = fields.get("session"), fields.get("timeout")
+
+
 class Connection:
     """What is found of one connection, or of a part of it. Times are milliseconds since 1970, and None if there are
     none. `label` is what it is called: the number of the connection, and of a later part that of the part; `first` is
@@ -75,11 +94,9 @@ class Connection:
 
     def __init__(self, number, source, name, label, first):
         self.number, self.source, self.name, self.label, self.first = number, source, name, label, first
-        self.asked_session = self.session = self.timeout = None
-        self.begun = self.ended = self.known = None
+        self.heard, self.known, self.is_silent = Heard(), None, False
         self.messages = self.events = 0
         self.last = None        # the number of its last message
-        self.closing, self.is_late, self.is_silent = None, False, False
         self.operations = collections.defaultdict(Operation)
 
     def total(self, name):
@@ -96,22 +113,22 @@ class Connection:
         """The session as ZooKeeper's logs print it; None if nothing says which it is."""
         if self.first:
             return self.first.session_id()
-        for number in (self.session, self.asked_session):
-            if number not in (None, "0x0") and not self.is_late:
+        for number in (self.heard.session, self.heard.asked_session):
+            if number not in (None, "0x0"):
                 return number
         known = self.known or self.source.facts     # it knows the connect messages, too, if they aren't chosen
         return known and known.session
 
     def span(self):
-        """When it begins and ends, by its capture or else by its messages."""
-        source = self.source
-        begun = self.begun if source.begun is None else source.begun
-        ended = self.ended if source.ended is None else source.ended
-        return begun, max(begun, ended) if ended is not None else begun
+        """When it begins and ends, by its capture or else by its messages, whether or not they are chosen."""
+        source, known = self.source, self.known
+        begun = known and known.begun if source.begun is None else source.begun
+        ended = known and known.ended if source.ended is None else source.ended
+        return begun, begun if None in (begun, ended) else max(begun, ended)
 
     def is_refused(self):
         """Whether the server no longer knew the session."""
-        return self.session == "0x0"
+        return self.heard.session == "0x0"
 
 
 class Run:
@@ -127,17 +144,23 @@ class Run:
 
     def read(self, source, opener, chosen, tracing=None):
         """Reads what is chosen of a source. `tracing` gets the requests and events, for a trace."""
-        readings = {}
+        readings, heard = {}, collections.defaultdict(Heard)
+
+        def messages(talk):
+            for line, made, asked in talk:
+                if made.op in HEARD:
+                    heard[made.connection].take(line, made)
+                yield line, made, asked
 
         def reading(known):
             if known not in readings:
                 name = source.name if known.name == source.path else known.name
                 readings[known] = Reading(self, self.connection(source, name), tracing)
-                readings[known].connection.known = known
+                readings[known].connection.known, readings[known].connection.heard = known, heard[known]
             return readings[known]
         with opener.conversation(source) as talk:
             last = current = None
-            for line, made, asked in chosen.chosen(talk):
+            for line, made, asked in chosen.chosen(talk, messages(talk)):
                 if made.connection is not last:
                     last, current = made.connection, reading(made.connection)
                 current.take(talk, line, made, asked)
@@ -188,17 +211,9 @@ class Reading:
 
     def take(self, talk, line, made, asked):
         """Takes the next message, and the request that it answers."""
-        connection, moment = self.connection, made.moment
-        connection.messages += 1
-        connection.last = made.n
-        if moment is not None:
-            if connection.begun is None:
-                connection.begun = connection.ended = moment
-            elif moment > connection.ended:
-                connection.ended = moment
-            elif moment < connection.begun:
-                connection.begun = moment
-        if made.op == listing.CONNECT and self.connect(line, made):
+        self.connection.messages += 1
+        self.connection.last = made.n
+        if made.made_up:
             return
         if asked:
             self.reply(made, asked)
@@ -206,17 +221,6 @@ class Reading:
             self.event(line, made)
         else:
             self.request(talk, line, made)
-
-    def connect(self, line, made):
-        """Takes a connect message, and says whether it is one that pcap2zkr.py made up."""
-        connection, fields = self.connection, object_of(line, made)
-        if made.made_up:
-            connection.is_late = True
-        elif made.side == "C":
-            connection.asked_session = fields.get("session")
-        else:
-            connection.session, connection.timeout = fields.get("session"), fields.get("timeout")
-        return connection.is_late
 
     def request(self, talk, line, made):
         made.seen, op = True, made.op
@@ -228,8 +232,6 @@ class Reading:
         elif op == "setWatches":
             for path in watched_paths(line):
                 self.set_again(path, made)
-        elif op == "closeSession":
-            self.connection.closing = made.n
 
     def name(self, made):
         """Counts the path of a request, which stays with it in place of its spelling."""
@@ -308,7 +310,7 @@ class Reading:
     def left(self, made):
         """Takes a request without a reply."""
         connection = self.connection
-        if connection.is_late and made.op == listing.CONNECT:
+        if made.made_up:
             return
         operation = connection.operations[made.op]
         operation.asked += 1

@@ -104,7 +104,7 @@ class Session:
         last = self.connections[-1]
         if last.is_refused():
             return "expired"
-        if last.closing:
+        if last.heard.is_closed:
             return "closed by the client"
         return closed_by(last)
 
@@ -128,7 +128,7 @@ def sessions_of(run):
 
 def closed_by(connection):
     """Who ended a connection, as far as that is known."""
-    if connection.closing:
+    if connection.heard.is_closed:
         return "client: closeSession"
     if connection.is_refused():
         return "server: session expired"
@@ -183,7 +183,7 @@ def session_rows(sessions):
     for session in sessions[:MOST_CONNECTIONS]:
         connections = session.connections
         begun, ended = span(connections)
-        timeout = next((each.timeout for each in reversed(connections) if each.timeout), None)
+        timeout = next((each.heard.timeout for each in reversed(connections) if each.heard.timeout), None)
         yield [session.id, timeout, session.count(), begun, ended, sum(each.total("asked") for each in connections),
                sum(each.failed() for each in connections), sum(each.total("unanswered") for each in connections),
                max((gap for _, _, gap in session.gaps()), default=None), session.end(), connections[0].number,

@@ -38,7 +38,7 @@ class Trace:
         if made:
             end, facts = max(made.moment, asked.moment), {"message": made.n, "error": made.error}
         else:
-            end, facts = max(connection.ended, asked.moment), {"answered": False}
+            end, facts = max(connection.known.ended, asked.moment), {"answered": False}
         self.put(ph="e", ts=microseconds(end), args=facts, **where)
 
     def event(self, connection, made, path):

@@ -51,7 +51,7 @@ class Captures(ToolCase):
     def test_parts_of_a_connection_are_of_its_session_and_have_no_gap(self):
         run = self.run_of(LINES.splitlines())
         first, other, later = run.connections[1], run.connections[4], run.connections[2]
-        first.session, other.session, later.session, later.is_late = "0x7", "0x7", "0xffffffffffffffff", True
+        first.heard.session = other.heard.session = "0x7"
         self.assertEqual(later.session_id(), "0x7")
         session = next(each for each in summary.sessions_of(run) if each.id == "0x7")
         self.assertEqual((len(session.connections), session.count()), (3, 2))
@@ -61,7 +61,7 @@ class Captures(ToolCase):
     def test_gaps(self):
         run = self.run_of(LINES.splitlines()[:3:2])
         for each in run.connections:
-            each.session = "0x7"
+            each.heard.session = "0x7"
         session, = summary.sessions_of(run)
         gaps = [(before.label, after.label, ms) for before, after, ms in session.gaps()]
         self.assertEqual(gaps, [("#1", "#2", 1250)])

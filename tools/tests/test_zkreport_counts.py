@@ -1,8 +1,13 @@
 """Tests of what zkreport counts: of more watches than it keeps, and of connections of which a part is chosen."""
 
+import json
+import struct
 import unittest.mock
 
-from support import ToolCase
+import report_lines
+from support import PROGRAM, ToolCase, zkr
+
+import facts  # (support says where)
 
 CONNECTED = ["C connect version=0 zxid=0 timeout=9000 session=0 passwd=#00 ro=0",
              "S connect version=0 timeout=9000 session=72 passwd=#00 ro=0"]
@@ -24,6 +29,55 @@ class Counts(ToolCase):
     def table(self, found, heading):
         """The lines of a table, without its columns' names, and what follows it."""
         return found.partition(f"\n{heading}\n")[2].split("\n\n")[0].splitlines()[1:]
+
+    def test_a_connection_is_the_same_whatever_is_chosen_of_it(self):
+        """Its beginning, its length, its timeout and its end are not those of the messages that are chosen."""
+        path = report_lines.second(self.folder / "a.json")
+        for choice in ((), ("--op", "multi"), ("--path", "/a"), ("--slower", "99")):
+            with self.subTest(choice=choice):
+                found = self.report(*choice, path)
+                row, = (line.split() for line in self.table(found, "Connections"))
+                self.assertEqual((row[4:7], row[-3:]), (["2023-11-14T22:13:25.070Z", "0.131", "s"],
+                                                        ["client:", "closeSession", "whole"]))
+                row, = (line.split() for line in self.table(found, "Sessions"))
+                self.assertEqual((row[:5], row[-5:]), (
+                    ["0x7", "10000", "1", "2023-11-14T22:13:25.070Z", "2023-11-14T22:13:25.201Z"],
+                    "- closed by the client".split()))
+
+    def test_a_session_that_is_refused_whatever_is_chosen(self):
+        lines = report_lines.Lines()
+        lines.connect(0, 1, asked="0x7", given="0x0")
+        lines.event(2, 1, "NodeCreated", "/a")
+        path = lines.write(self.folder / "a.json", ending="whole", unanswered=0)
+        for choice in ((), ("--op", "event")):
+            self.assertIn("  server: session expired  whole\n", self.report(*choice, path))
+
+    def test_a_clock_that_goes_backward(self):
+        """A connection lasts from the least of its times to the greatest, which aren't those of its ends."""
+        head, path = zkr.Head("zkr2"), self.folder / "a.zkr"
+        made = head.to_bytes()
+        for side, at, payload in ((b"C", 2000, struct.pack(">iqiqi", 0, 0, 9, 0, -1)),
+                                  (b"S", 5000, struct.pack(">iiqi", 0, 9, 7, -1)),
+                                  (b"C", 1000, struct.pack(">ii", -2, 11)), (b"S", 1500, struct.pack(">iqi", -2, 5, 0))):
+            made += head.piece(side, at, struct.pack(">i", len(payload)) + payload)
+        path.write_bytes(made)
+        if not PROGRAM.exists():
+            self.skipTest("the program zkdump is not built")
+        begun, ended = "1970-01-01T00:00:01.000Z", "1970-01-01T00:00:05.000Z"
+        lines = self.listing("a.json", *self.run_inside("zkjson.py", path)[1].splitlines())
+        for each in (path, lines):
+            found, = json.loads(self.run_inside("zkstat.py", "--json", each)[1])["connections"]
+            self.assertEqual((found["begun"], found["ended"]), (begun, ended), each)
+            self.assertIn(f"\nfrom {begun} to {ended}\n", self.report(each))
+
+    def test_facts_that_know_the_end_alone(self):
+        path = self.folder / "a.zkr"
+        path.write_bytes(b"ZKR1")
+        facts.write(path, facts.Facts(ended=5000.0, closed="C"))
+        if not PROGRAM.exists():
+            self.skipTest("the program zkdump is not built")
+        self.assertEqual([line.split()[:6] for line in self.table(self.report(path), "Connections")],
+                         [["#1", "-", "a", "-", "-", "-"]])
 
     def test_more_watches_than_are_kept(self):
         """Of five that are kept the rarer ones are forgotten for a sixth; one that was set once and fired three times is
