@@ -87,8 +87,8 @@ def new_file(path):
 def page_of(reader, found, compared, name):
     """The page. The connections are read again, for the messages that the tables lead to."""
     links = found.links()
-    if compared and compared["first"]:
-        links[compared["first"]["connection"], compared["first"]["messages"][0]] = None
+    if compared and compared["first"] and (here := compared["first"]["messages"][0]):
+        links[compared["first"]["connection"], here] = None
     return page.page(name, found, reader.windows(found, links), compared)
 
 

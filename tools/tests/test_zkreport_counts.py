@@ -79,6 +79,16 @@ class Counts(ToolCase):
         self.assertEqual([line.split()[:6] for line in self.table(self.report(path), "Connections")],
                          [["#1", "-", "a", "-", "-", "-"]])
 
+    def test_a_page_of_a_run_that_lacks_a_message(self):
+        """The first difference leads to no message of this run: the other one alone has a request, or a connection."""
+        asked = 'C 1 sync path="/a"', 'S 1 sync zxid=5 path="/a"'
+        less, more = (self.listing(name, *CONNECTED, *lines, WHOLE) for name, lines in (("less", ()), ("more", asked)))
+        for number, (here, there) in enumerate((([less], [more]), ([less, more], [less]), ([less], [less, more]))):
+            page = self.folder / f"{number}.html"
+            others = [word for path in there for word in ("--against", path)]
+            self.assertEqual(self.run_inside("zkreport.py", "-o", page, *here, *others), (1, "", ""))
+            self.assertIn('"compared":{', page.read_text("utf-8"))
+
     def test_more_watches_than_are_kept(self):
         """Of five that are kept the rarer ones are forgotten for a sixth; one that was set once and fired three times is
         none of these."""
