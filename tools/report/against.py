@@ -2,7 +2,8 @@
 
 The connections of both are compared in pairs, in their order. Of each pair the requests are compared in their order,
 each with its reply, however many others were under way; and the events of watches, in theirs. Pings are left out, since
-they depend on time alone.
+they depend on time alone. Where all messages are compared, so is how the two end. Credentials are compared, but a text
+that is shown has none.
 """
 
 import collections
@@ -10,11 +11,12 @@ import itertools
 import json
 import re
 
-from report import gather, summary, text
+from report import gather, messages, summary, text
 
 STAT = re.compile(r'"[^"]*"|stat=\((?:-?\d+,){4}((?:-?\d+,){3})(-?\d+),(-?\d+,-?\d+),-?\d+\)')
 CONNECT_FIELDS = re.compile(r" (?:zxid=-?\d+|session=-?\d+|passwd=\S+)")
 ZXID = re.compile(r" zxid=-?\d+")
+CREDENTIALS = re.compile(r"(auth .* auth=)#([0-9a-f]*)")
 TIMED_FIELDS = {"n", "xid", "zxid", "session", "passwd", "at", "ms", "of", "asked", "connection", "czxid", "mzxid",
                 "pzxid", "ctime", "mtime"}
 LEFT_OUT = ("ping",)
@@ -65,16 +67,25 @@ def plain_object(value):
     return fields
 
 
-class Side:
-    """What is compared of one connection of a run, given as its messages: `events` has those so far."""
+def without_credentials(shown):
+    """The text of a message, with the number of their bytes in place of credentials."""
+    if shown and shown.startswith('{"auth": '):
+        made = json.loads(shown)
+        return json.dumps({**made, "auth": messages.left_out(made["auth"])})
+    found = shown and CREDENTIALS.fullmatch(shown)
+    return f"{found[1]}.. {len(found[2]) // 2} bytes" if found else shown
 
-    def __init__(self, messages, as_objects):
-        self.messages, self.as_objects, self.events = messages, as_objects, []
+
+class Side:
+    """What is compared of one connection of a run: `events` has those so far."""
+
+    def __init__(self, talk, chosen, as_objects):
+        self.talk, self.chosen, self.as_objects, self.events = talk, chosen, as_objects, []
 
     def exchanges(self):
         """The exchanges, in the order of their requests."""
         waiting, by_request = collections.deque(), {}
-        for line, made, asked in self.messages:
+        for line, made, asked in self.chosen.chosen(self.talk):
             if made.op in LEFT_OUT:
                 continue
             if made.side == "C":
@@ -91,6 +102,12 @@ class Side:
             else:
                 self.events.append((plain(line, made, self.as_objects), made.n))
         yield from waiting
+
+    def ending(self):
+        """How the connection ends, once its messages are read; None where that isn't compared, or not known."""
+        found = next((each.ending for each in self.talk.connections()), None) if self.chosen.all else None
+        words = (f"{name}={found[name]}" for name in ("side", "reason") if name in found)
+        return found and " ".join([found["ending"], *words])
 
 
 class Comparison:
@@ -110,7 +127,7 @@ class Comparison:
                 self.differ(number, mine or other, "connection", *names)
                 continue
             with opener.conversation(mine.source) as one, opener.conversation(other.source) as two:
-                self.compare(number, mine, *(Side(chosen.chosen(talk), as_objects) for talk in (one, two)))
+                self.compare(number, mine, *(Side(talk, chosen, as_objects) for talk in (one, two)))
 
     def compare(self, number, connection, mine, other):
         """Compares a pair of connections."""
@@ -127,11 +144,15 @@ class Comparison:
                 self.equal += 1
             else:
                 self.differ(number, connection, "event", one, two)
+        endings = mine.ending(), other.ending()
+        if None not in endings and len(set(endings)) > 1:
+            self.differ(number, connection, "ending", *((each, None) for each in endings))
 
     def differ(self, number, connection, kind, one, two):
         if self.first is None:
             self.first = {"connection": number, "label": connection.label, "kind": kind, "equal": self.equal,
-                          "messages": [one[1], two[1]], "texts": around(one[0], two[0])}
+                          "messages": [one[1], two[1]],
+                          "texts": around(without_credentials(one[0]), without_credentials(two[0]))}
 
 
 def around(one, two):
@@ -175,8 +196,9 @@ def lines_of(compared):
     if first is None:
         yield f"no difference: {compared['equal']} exchanges and events are the same"
         return
-    yield (f"the first difference is a {first['kind']} of connection {first['label']}, after {first['equal']} "
-           "exchanges and events that are the same:")
+    kind = f"an {first['kind']}" if first["kind"].startswith("e") else f"a {first['kind']}"
+    yield (f"the first difference is {kind} of connection {first['label']}, after {first['equal']} exchanges and "
+           "events that are the same:")
     for name, n, each in zip(("here", "there"), first["messages"], first["texts"]):
         where = f" message {n}" if n else ""
         yield f"    {name}{where}: {'nothing' if each is None else text.printable(each)}"

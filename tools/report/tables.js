@@ -63,7 +63,7 @@ function drawTable(name, rows) {
 function drawCompared({ equal, first, columns, rows }) {
   const section = element("section", { id: "t-compared", class: "table" }, element("h2", { text: "Compared with the other run" }));
   if (first) {
-    section.append(element("p", { text: `The first difference is a ${first.kind} of connection ${first.label}, after ${count(first.equal)} exchanges and events that are the same:` }));
+    section.append(element("p", { text: `The first difference is ${first.kind[0] === "e" ? "an" : "a"} ${first.kind} of connection ${first.label}, after ${count(first.equal)} exchanges and events that are the same:` }));
     ["here", "there"].forEach((name, side) => {
       const n = first.messages[side];
       const where = n && side === 0 ? element("a", { href: hashOf({ m: `${first.connection + 1}:${n}` }), text: `here, message ${count(n)}` })

@@ -245,7 +245,7 @@ class Zkreport(ToolCase):
             there = self.listing("there.show", changed.replace(old, new))
             with self.subTest(new=new):
                 found = self.report("--text", here, "--against", there, status=1)
-                self.assertRegex(found, rf"\nthe first difference is a {kind} of connection #1, after \d exchanges ")
+                self.assertRegex(found, rf"\nthe first difference is an? {kind} of connection #1, after \d exchanges ")
                 if one:
                     self.assertIn(f": {one}\n", found)
                     self.assertIn(f": {two}\n", found)

@@ -58,7 +58,8 @@ class Counts(ToolCase):
         made = head.to_bytes()
         for side, at, payload in ((b"C", 2000, struct.pack(">iqiqi", 0, 0, 9, 0, -1)),
                                   (b"S", 5000, struct.pack(">iiqi", 0, 9, 7, -1)),
-                                  (b"C", 1000, struct.pack(">ii", -2, 11)), (b"S", 1500, struct.pack(">iqi", -2, 5, 0))):
+                                  (b"C", 1000, struct.pack(">ii", -2, 11)),
+                                  (b"S", 1500, struct.pack(">iqi", -2, 5, 0))):
             made += head.piece(side, at, struct.pack(">i", len(payload)) + payload)
         path.write_bytes(made)
         if not PROGRAM.exists():
@@ -89,9 +90,40 @@ class Counts(ToolCase):
             self.assertEqual(self.run_inside("zkreport.py", "-o", page, *here, *others), (1, "", ""))
             self.assertIn('"compared":{', page.read_text("utf-8"))
 
+    def test_credentials_that_differ_are_not_shown(self):
+        """Neither as text nor on the page, of a listing and of the lines of zkjson; both have 14 bytes."""
+        listings = [self.listing(name, *CONNECTED, f'C -4 auth kind=0 scheme="digest" auth=#{word.encode().hex()}',
+                                 "S -4 auth zxid=0", WHOLE) for name, word in (("a", "alice:secret-1"),
+                                                                               ("b", "alice:secret-2"))]
+        lines = [self.listing(f"{path.name}.json", *self.run_inside("zkjson.py", path)[1].splitlines())
+                 for path in listings]
+        for number, (here, there) in enumerate((listings, lines)):
+            page = self.folder / f"{number}.html"
+            found = self.report("-o", page, here, "--against", there, status=1)
+            self.assertIn("the first difference is a request of connection #1, after 1 exchanges", found)
+            for shown in (found, page.read_text("utf-8")):
+                self.assertNotRegex(shown, f"secret-|{'secret-'.encode().hex()}")
+        self.assertIn('    here message 3: auth kind=0 scheme="digest" auth=.. 14 bytes\n',
+                      self.report(listings[0], "--against", listings[1], status=1))
+
+    def test_endings_are_compared(self):
+        """By what they say of the connection, and not of the numbers of its frames; where all of it is compared."""
+        whole, cut, later, refused, none = (
+            self.listing(str(number), *CONNECTED, *lines) for number, lines in enumerate((
+                [WHOLE], [". cut side=S frame=1 got=3"], [". cut side=S frame=2 got=9"],
+                [". refused side=S frame=1 offset=49 place=0 reason=Unasked"], [])))
+        for here, there, wanted in ((whole, cut, ("whole", "cut side=S")), (cut, later, None), (whole, none, None),
+                                    (refused, whole, ("refused side=S reason=Unasked", "whole"))):
+            with self.subTest(here=here, there=there):
+                found = self.report(here, "--against", there, status=1 if wanted else 0)
+                self.assertIn("\nthe first difference is an ending of connection #1, after 1 exchanges and events that "
+                              f"are the same:\n    here: {wanted[0]}\n    there: {wanted[1]}\n" if wanted else
+                              "\nno difference: 1 exchanges and events are the same\n", found)
+                self.report("--op", "connect", here, "--against", there)
+
     def test_more_watches_than_are_kept(self):
-        """Of five that are kept the rarer ones are forgotten for a sixth; one that was set once and fired three times is
-        none of these."""
+        """Of five that are kept the rarer ones are forgotten for a sixth; one that was set once and fired three times
+        is none of these."""
         watches = [line for n, path in enumerate("aaabcdef", 1)
                    for line in (f'C {n} exists path="/{path}" watch=1', f"S {n} exists zxid=5 err=-101/NONODE")]
         fired = ['S event zxid=-1 kind=1/NodeCreated state=3 path="/b"'] * 3
