@@ -128,11 +128,12 @@ def captured(path, name, prefix, port, warnings):
     words = [sys.executable, TOOLS / "pcap2zkr.py", "--times", "--late", "--port", str(port), path, prefix]
     done = subprocess.run(words, stdout=subprocess.PIPE, stderr=subprocess.PIPE, check=False)
     lines, error = (os.fsdecode(each).strip() for each in (done.stdout, done.stderr))
-    lines, error = lines.splitlines(), error.removeprefix("pcap2zkr.py: ")
+    lines, troubles = lines.splitlines(), [error.removeprefix("pcap2zkr.py: ")] if error else []
+    if done.returncode < 0:
+        troubles.append(f"{path}: pcap2zkr.py was ended by signal {-done.returncode}, maybe before the capture's end")
     if not lines:
-        raise ValueError(error or f"{path}: the capture has no connection to port {port}")
-    if error:
-        warnings.append(error)
+        raise ValueError("; ".join(troubles) or f"{path}: the capture has no connection to port {port}")
+    warnings += troubles
     parts = {}
     for line in lines:
         yield source_of(line, name, prefix, parts)

@@ -2,6 +2,7 @@
 
 import re
 import subprocess
+import unittest.mock
 
 import wire
 from support import CAPTURES, PROGRAM, TOP, ToolCase, pieces
@@ -88,6 +89,20 @@ class Captures(ToolCase):
         at = of_capture.index("Errors")
         self.assertEqual(of_capture[at:at + 9], of_listings[of_listings.index("Errors"):][:9])
         self.assertIn("from 2023-11-14T22:13:20.000Z to 2023-11-15T00:13", of_capture[1])
+
+    def test_a_capture_whose_reading_is_killed(self):
+        """As by the system, where memory is short: that connections may be missing is reported."""
+        killed = self.folder / "pcap2zkr.py"
+        for said, connections in (("", 0), (LINES.splitlines()[3], 1)):
+            killed.write_text(f"import os\nprint({said!r}, flush=True)\nos.kill(os.getpid(), 9)\n")
+            found, warnings = [], []
+            with unittest.mock.patch("report.sources.TOOLS", self.folder):
+                try:
+                    found += sources.captured("x.pcap", "x.pcap", "/t/x", 2181, warnings)
+                except ValueError as error:
+                    warnings.append(str(error))
+            self.assertEqual((len(found), warnings), (connections, [
+                "x.pcap: pcap2zkr.py was ended by signal 9, maybe before the capture's end"]))
 
     def test_a_capture_that_ends_within_a_packet(self):
         if not PROGRAM.exists():
