@@ -14,6 +14,9 @@ ALL_ONES = listing.hexadecimal(-1)
 MADE_UP = {"C": {"version": -1, "zxid": ALL_ONES, "timeout": -1, "session": ALL_ONES, "passwd": None, "ro": None},
            "S": {"version": -1, "timeout": -1, "session": ALL_ONES, "passwd": None, "ro": None}}
 NEEDED = object()
+# The fields of an ending, as an ending line has them in order; these two are texts.
+ENDING_FIELDS = ("unanswered", "side", "frame", "offset", "place", "reason", "expected", "got")
+ENDING_TEXTS = ("side", "reason")
 
 
 def no_constant(name):
@@ -57,6 +60,19 @@ def error_of(made, number="err"):
     """The name of the error that an object has, or its number; None if it has none."""
     found = value(made, number, (int,), None)
     return word(made, number + "Name", None if found is None else str(found))
+
+
+def ending_of(made):
+    """The ending that an object has, with the fields of an ending line."""
+    found = {name: made[name] for name in ("ending", *ENDING_FIELDS) if name in made}
+    word, *fields = found.items()
+    if word[1] == listing.UNREAD and type(found.get("reason")) is str:
+        return found
+    line = " ".join([f". {word[1]}", *(f"{name}={value}" for name, value in fields)])
+    if not listing.ENDING.fullmatch(line) or any(
+            type(value) is not (str if name in ENDING_TEXTS else int) for name, value in fields):
+        raise ValueError("this is not an ending of zkjson")
+    return found
 
 
 def parts_of(made):
@@ -181,16 +197,10 @@ class Known:
         """Takes the ending."""
         if self.connection.ending:
             raise ValueError("this connection has ended before: two recordings have this name, so read each by itself")
-        waiting, lost = made.pop("waiting", None), made.pop("notCaptured", ())
-        found = made.pop("facts", None)
-        made.pop("connection", None)
-        if made["ending"] not in listing.ENDINGS or not all(
-                type(each) is int or type(each) is str and (WORD.fullmatch(each) or made["ending"] == listing.UNREAD)
-                for each in made.values()):
-            raise ValueError("this is not an ending of zkjson")
-        self.connection.ending = made
-        if found is not None:
-            self.take_facts(found)
+        waiting, lost = made.get("waiting"), made.get("notCaptured", ())
+        self.connection.ending = ending_of(made)
+        if made.get("facts") is not None:
+            self.take_facts(made["facts"])
         if type(waiting) is list and type(lost) in (list, tuple):
             self.lost = {each for each in lost if type(each) is int}
             self.waiting = {each for each in waiting if type(each) is int} | self.lost

@@ -22,7 +22,6 @@ NOT_DONE = ("OK", "RUNTIMEINCONSISTENCY")   # the results of a failed multi's pa
 CONNECT, EVENT = "connect", "event"
 ASKED = {CONNECT, *(operation.name for operation in operations.ALL if operation.release)}
 UNREAD = "unread"       # in place of the ending of one of many recordings, which can't be read
-ENDINGS = ("whole", "cut", "refused", "recording", UNREAD)
 
 # Spellings of a line. A number has no more digits than a long has.
 NUMBER = r"(?:0|-?[1-9]\d{0,18})"

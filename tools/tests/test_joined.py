@@ -63,6 +63,24 @@ class Joined(ToolCase):
             self.assertEqual((found, err), (status, ""))
             self.assertIn(said, out)
 
+    def test_what_is_no_ending(self):
+        """An ending has the fields of its line. Their order is no matter, and others are passed over."""
+        refused = {"ending": "refused", "side": "C", "frame": 3, "offset": 90, "place": 4, "reason": "XidOp"}
+        for made, shown in ((refused, "refused side=C frame=3 offset=90 place=4 reason=XidOp"),
+                            (dict(sorted(refused.items()), host="here"),
+                             "refused side=C frame=3 offset=90 place=4 reason=XidOp"),
+                            ({"ending": "unread", "reason": "a reason"}, "unread: a reason"),
+                            ({"ending": "unread"}, None), ({"ending": "unread", "reason": 5}, None),
+                            ({"ending": "whole"}, None), ({"ending": "whole", "unanswered": "0"}, None),
+                            ({"ending": "cut", "side": "S", "frame": 4}, None),
+                            ({"ending": "cut", "side": 5, "frame": 4, "got": 2}, None),
+                            ({"ending": "whole", "unanswered": True}, None), ({"ending": ["whole"]}, None)):
+            with self.subTest(made=made):
+                status, out, err = self.run_tool("zkstat.py", stdin=json.dumps(made).encode())
+                self.assertEqual((status, err), (1, "zkstat.py: line 1: this is not an ending of zkjson\n")
+                                 if shown is None else (int(made["ending"] == "unread"), ""))
+                self.assertTrue(shown is None or f"  {shown}\n" in out, out)
+
     def test_a_recording_that_could_not_be_read(self):
         """Of zkjson --jobs it has one line; that it is missing is the status, as where the tool itself read it."""
         path = self.folder / "a.json"
