@@ -15,10 +15,10 @@ SESSION = re.compile(r"0x[0-9A-Fa-f]{1,16}|\d{1,20}", re.ASCII)
 OPERATIONS = (*forms.REQUESTS, listing.EVENT)
 
 
-def moment(text):
-    """A time of day as milliseconds since 1970."""
+def microseconds(text):
+    """A time of day as microseconds since 1970."""
     if MILLISECONDS.fullmatch(text):
-        return int(text)
+        return int(text) * 1000
     try:
         found = datetime.datetime.fromisoformat(re.sub("[Zz]$", "+00:00", text))
     except ValueError:
@@ -26,7 +26,18 @@ def moment(text):
                                          "milliseconds since 1970") from None
     if not found.tzinfo:
         found = found.replace(tzinfo=datetime.timezone.utc)
-    return (found - datetime.datetime(1970, 1, 1, tzinfo=datetime.timezone.utc)) // datetime.timedelta(milliseconds=1)
+    return (found - datetime.datetime(1970, 1, 1, tzinfo=datetime.timezone.utc)) // datetime.timedelta(microseconds=1)
+
+
+def begin(text):
+    """Where the times from this one on begin, in milliseconds since 1970."""
+    return microseconds(text) / 1000
+
+
+def end(text):
+    """Where the times up to this one end, in milliseconds since 1970: a whole millisecond with all that is in it."""
+    found = microseconds(text)
+    return (found + (1 if found % 1000 else 1000)) / 1000
 
 
 def latency(text):
@@ -58,10 +69,10 @@ def add_words(parser):
     parser.add_argument("--op", metavar="NAME", choices=OPERATIONS, action="append",
                         help="choose an operation, or event")
     parser.add_argument("--slower", metavar="MS", type=latency, help="choose replies that took more milliseconds")
-    parser.add_argument("--from", metavar="TIME", type=moment, dest="begin",
+    parser.add_argument("--from", metavar="TIME", type=begin, dest="begin",
                         help="choose what was asked at this time or later; TIME as in 2026-11-22T20:31:07.120Z, or in "
                         "milliseconds since 1970")
-    parser.add_argument("--to", metavar="TIME", type=moment, dest="end", help="choose what was asked at this time or "
+    parser.add_argument("--to", metavar="TIME", type=end, dest="end", help="choose what was asked at this time or "
                         "earlier")
 
 
@@ -166,13 +177,13 @@ class Selection:
             mask &= numpy.isin(array["operation"], codes)
         if self.paths:
             mask &= array["flags"] & columns.CHOSEN > 0
-        at = numpy.floor(numpy.where(is_reply, array["asked_moment"], array["moment"]))
+        at = numpy.where(is_reply, array["asked_moment"], array["moment"])
         if self.begin is not None or self.end is not None:
             mask &= at == at
         if self.begin is not None:
             mask &= at >= self.begin
         if self.end is not None:
-            mask &= at <= self.end
+            mask &= at < self.end
         if self.slower is not None:
             mask &= is_reply & (array["microseconds"] > self.slower)
         return mask
@@ -184,8 +195,8 @@ class Selection:
         if self.begin is not None or self.end is not None:
             if made.moment is None:
                 return False
-            at = int(made.moment)
-            if self.begin is not None and at < self.begin or self.end is not None and at > self.end:
+            at = made.moment
+            if self.begin is not None and at < self.begin or self.end is not None and at >= self.end:
                 return False
         return not self.paths or paths is None or any(path and self.takes_path(path) for path in paths)
 

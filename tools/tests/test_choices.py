@@ -30,6 +30,23 @@ class Choices(ToolCase):
                 self.assertEqual((status, err), (0, ""))
                 self.assertEqual(len(json.loads(out)["slowest"]), chosen)
 
+    def test_times_in_microseconds(self):
+        """A time in milliseconds stands for all of that millisecond, one in microseconds for itself."""
+        path, second = self.folder / "a.json", "2026-11-22T07:30:33"
+        path.write_text("".join(json.dumps({"n": n, "side": "C", "xid": n, "op": "sync", "path": "/a",
+                                            "at": ASKED + after}) + "\n"
+                                for n, after in enumerate((0, 0.4, 0.5, 0.501, 1), 1)))
+        for words, chosen in ((["--from", f"{second}.000500Z"], [3, 4, 5]), (["--to", f"{second}.000500Z"], [1, 2, 3]),
+                              (["--from", f"{second}.000401Z", "--to", f"{second}.000501Z"], [3, 4]),
+                              (["--to", f"{second}.000Z"], [1, 2, 3, 4]), (["--to", f"{second}Z"], [1, 2, 3, 4]),
+                              (["--to", str(ASKED)], [1, 2, 3, 4]), (["--to", f"{second}.001Z"], [1, 2, 3, 4, 5]),
+                              (["--from", f"{second}.001Z"], [5]), (["--from", str(ASKED + 1)], [5]),
+                              (["--from", str(ASKED)], [1, 2, 3, 4, 5])):
+            with self.subTest(words=words):
+                status, out, err = self.run_tool("zkstat.py", "--json", *words, path)
+                self.assertEqual((status, err), (0, ""))
+                self.assertEqual([each["n"] for each in json.loads(out)["unanswered"]], chosen)
+
     def test_a_session_of_more_than_64_bits(self):
         """2 ** 64 + 7 is no session, least of all 0x7."""
         for session in (str(2 ** 64 + 7), str(2 ** 64)):
