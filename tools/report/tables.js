@@ -13,7 +13,7 @@ const HELP = {
 function cellText(kind, value) {
   if (value === null || value === undefined) return "–";
   if (kind === "time") return iso(value).replace("T", " ").replace("Z", "");
-  if (kind === "ms") return value < 1 ? String(+value.toFixed(3)) : String(+value.toPrecision(5));
+  if (kind === "ms") return String(+value.toFixed(3));
   if (kind === "length") return duration(value);
   if (kind === "count") return count(value);
   if (kind === "counts") return Object.entries(value).map(([name, many]) => `${visible(name)} ${count(many)}`).join(", ") || "–";

@@ -49,9 +49,9 @@ def cell(kind, value):
     if kind == "time":
         return zkr.clock(value)
     if kind == "ms":
-        return f"{value:.7g}"
+        return tables.exact(value)
     if kind == "length":
-        return f"{value / 1000:.7g} s"
+        return f"{value / 1000:.10g} s"
     if kind == "counts":
         return " ".join(f"{printable(name)}={count}" for name, count in value.items())
     if kind == "path":

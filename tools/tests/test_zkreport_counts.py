@@ -52,6 +52,18 @@ class Counts(ToolCase):
         for choice in ((), ("--op", "event")):
             self.assertIn("  server: session expired  whole\n", self.report(*choice, path))
 
+    def test_long_latencies_and_connections(self):
+        """They are exact: 12,345.678 ms, 2,345,678.901 ms, and 100,000.123 s from the first message to the last."""
+        lines = report_lines.Lines()
+        for n, (at, took) in enumerate(((0, 12_345.678), (20_000, 2_345_678.901), (100_000_121, 2)), 1):
+            lines.ask(at, "sync", n, path="/")
+            lines.answer(at + took, n, zxid="0x1", path="/")
+        found = self.report(lines.write(self.folder / "a.json", ending="whole", unanswered=0))
+        self.assertEqual([line.split()[0] for line in self.table(found, "Slowest requests")],
+                         ["2345678.901", "12345.678", "2"])
+        self.assertIn("2345678.901", self.table(found, "Operations")[0])
+        self.assertIn("  100000.123 s  ", self.table(found, "Connections")[0])
+
     def test_a_clock_that_goes_backward(self):
         """A connection lasts from the least of its times to the greatest, which aren't those of its ends."""
         head, path = zkr.Head("zkr2"), self.folder / "a.zkr"

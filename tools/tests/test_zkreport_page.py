@@ -161,6 +161,20 @@ class Page(PageCase):
 
 
 class Script(ToolCase):
+    def test_latencies_in_tables_are_exact(self):
+        """To the microsecond, as in zkstat's tables and those of --text."""
+        code = ("const document = { getElementById() {} }, data = {};\n"
+                + "".join((TOOLS / "report" / name).read_text("utf-8") for name in ("draw.js", "tables.js"))
+                + "console.log(JSON.stringify([0.001, 1.25, 12345.678, 123456.7, 1e9, null].map(\n"
+                "  each => cellText(\"ms\", each))));")
+        self.assertEqual(self.of_script(code), ["0.001", "1.25", "12345.678", "123456.7", "1000000000", "–"])
+
+    def of_script(self, code):
+        """What a script prints."""
+        if not shutil.which("node"):
+            self.skipTest("node is not here")
+        return json.loads(subprocess.run(["node", "-e", code], capture_output=True, check=True).stdout)
+
     def axis(self, *milliseconds):
         """The axis of latencies: its least and its greatest power of ten, and the place of no time at all."""
         code = ("const document = { getElementById() {} }, data = { complete: true, density: {} }, filter = {}, "
@@ -168,9 +182,7 @@ class Script(ToolCase):
                 + "".join((TOOLS / "report" / name).read_text("utf-8") for name in ("draw.js", "latency.js"))
                 + "const axis = latencyAxis(requests.ms.map((_, i) => i));\n"
                 "console.log(JSON.stringify(axis && [axis.from, axis.to, axis.y(0) === axis.y(10 ** axis.from)]));")
-        if not shutil.which("node"):
-            self.skipTest("node is not here")
-        return json.loads(subprocess.run(["node", "-e", code], capture_output=True, check=True).stdout)
+        return self.of_script(code)
 
     def test_the_axis_of_latencies(self):
         """Latencies of no milliseconds, as whole ones often are, have an axis; where there are none there is none."""
