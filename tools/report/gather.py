@@ -7,7 +7,7 @@ import listing
 import operations
 import zkjson
 from histogram import Histogram
-from report import kept, paths
+from report import kept, paths, sources
 
 WATCHING = {operation.name for operation in operations.ALL if "watch:bit" in operation.request.split()}
 WATCH_LISTS = ("dataWatches", "existWatches", "childWatches")
@@ -90,10 +90,13 @@ class Heard:
 class Connection:
     """What is found of one connection, or of a part of it. Times are milliseconds since 1970, and None if there are
     none. `label` is what it is called: the number of the connection, and of a later part that of the part; `first` is
-    the part that the connection begins with."""
+    the part that the connection begins with. `about` is the source that says what is known beside the messages: its
+    own, or one that is made of the facts that its ending has in the lines of zkjson."""
 
-    def __init__(self, number, source, name, label, first):
-        self.number, self.source, self.name, self.label, self.first = number, source, name, label, first
+    label = first = None
+
+    def __init__(self, number, source, name):
+        self.number, self.source, self.about, self.name = number, source, source, name
         self.heard, self.known, self.is_silent = Heard(), None, False
         self.messages = self.events = 0
         self.last = None        # the number of its last message
@@ -116,19 +119,25 @@ class Connection:
         for number in (self.heard.session, self.heard.asked_session):
             if number not in (None, "0x0"):
                 return number
-        known = self.known or self.source.facts     # it knows the connect messages, too, if they aren't chosen
+        known = self.known or self.about.facts      # it knows the connect messages, too, if they aren't chosen
         return known and known.session
 
     def span(self):
         """When it begins and ends, by its capture or else by its messages, whether or not they are chosen."""
-        source, known = self.source, self.known
-        begun = known and known.begun if source.begun is None else source.begun
-        ended = known and known.ended if source.ended is None else source.ended
+        about, known = self.about, self.known
+        begun = known and known.begun if about.begun is None else about.begun
+        ended = known and known.ended if about.ended is None else about.ended
         return begun, begun if None in (begun, ended) else max(begun, ended)
 
     def is_refused(self):
         """Whether the server no longer knew the session."""
         return self.heard.session == "0x0"
+
+    def take_facts(self, parts):
+        """Takes the facts that its ending has."""
+        if self.known.facts:
+            self.about = sources.Source(self.source.path, self.source.name)
+            self.about.take_facts(self.known.facts, parts)
 
 
 class Run:
@@ -139,12 +148,13 @@ class Run:
         self.connections, self.by_source, self.warnings, self.whole, self.silent = [], {}, [], 0, 0
         self.untimed = 0        # the connections with messages that choices by time left out
         self.kept, self.density = kept.Kept(), kept.Density()
+        self.parts = {}         # of the lines of zkjson, as Source.take_facts has them
         self.paths = kept.Counted(Path)
         self.watches = kept.Counted(Watch, MOST_WATCHES)
 
     def read(self, source, opener, chosen, tracing=None):
         """Reads what is chosen of a source. `tracing` gets the requests and events, for a trace."""
-        readings, heard = {}, collections.defaultdict(Heard)
+        readings, heard, whole = {}, collections.defaultdict(Heard), self.whole
 
         def messages(talk):
             for line, made, asked in talk:
@@ -168,6 +178,11 @@ class Run:
                 reading(made.connection).left(made)
             silent = [known for known in talk.connections() if known not in readings] if chosen.all else []
         self.untimed += chosen.take_untimed()
+        if source.has_objects:
+            self.whole = whole
+            for each in readings.values():
+                each.connection.take_facts(self.parts)
+                self.place(each.connection)
         if chosen.all and not readings:
             silent = silent or [None]
         for known in silent:
@@ -186,21 +201,21 @@ class Run:
     def connection(self, source, name):
         """The next connection, or the next part of one. Of a part of which nothing is chosen there is none: the next
         one takes its place."""
-        first = self.by_source.get(source.first)
-        self.whole += first is None
-        label = first.label.partition(".")[0] if first else f"#{self.whole}"
-        label += f".{source.part}" if source.first else ""
-        found = Connection(len(self.connections), source, name, label, first)
-        self.put(found)
+        found = Connection(len(self.connections), source, name)
+        self.place(found)
         self.connections.append(found)
         return found
 
-    def put(self, connection):
-        """Takes a connection as that of its source, and if it is the first part that there is, of the first part's."""
-        source = connection.source
-        self.by_source[source] = connection
-        if source.first and not connection.first:
-            self.by_source[source.first] = connection
+    def place(self, connection):
+        """Says what a connection is called and which part is its first: the first that there is."""
+        about = connection.about
+        connection.first = first = self.by_source.get(about.first)
+        self.whole += first is None
+        connection.label = first.label.partition(".")[0] if first else f"#{self.whole}"
+        connection.label += f".{about.part}" if about.first else ""
+        self.by_source[about] = connection
+        if about.first and not first:
+            self.by_source[about.first] = connection
 
 
 class Reading:

@@ -32,10 +32,11 @@ class Merged:
         run, numbers, silent = self.run, {}, 0
         for each in other.connections:
             numbers[each.number] = len(run.connections)
-            made = run.connection(each.source, each.name)
-            each.number, each.label, each.first = made.number, made.label, made.first
-            run.connections[-1] = each
-            run.put(each)
+            each.number = len(run.connections)
+            if each.about is not each.source:
+                each.about.join(self.parts)
+            run.place(each)
+            run.connections.append(each)
             for operation in each.operations.values():
                 if operation.slowest:
                     operation.slowest = moved(operation.slowest, numbers, 1)

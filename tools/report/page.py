@@ -100,12 +100,12 @@ def requests_of(found, names):
 
 
 def connection_of(each):
-    source, ending = each.source, each.ending()
+    about, ending = each.about, each.ending()
     begun, ended = each.span()
-    return {"name": each.name, "label": each.label, "server": source.server, "begun": begun, "ended": ended,
+    return {"name": each.name, "label": each.label, "server": about.server, "begun": begun, "ended": ended,
             "messages": each.messages, "refused": each.is_refused(), "closed": summary.closed_by(each),
             "end": summary.ending_of(each), "first": each.first and each.first.number,
-            "hole": "hole" in source.notes or bool(ending) and ending["ending"] != "whole"}
+            "hole": "hole" in about.notes or bool(ending) and ending["ending"] != "whole"}
 
 
 def session_of(session):

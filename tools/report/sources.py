@@ -39,10 +39,10 @@ class Source:
         for word, equals, value in (each.partition("=") for each in words):
             self.notes[word] = ",".join(filter(None, (self.notes.get(word), value))) if equals else None
 
-    def take_facts(self, parts):
-        """Takes the facts beside the recording. `parts` has the first part of each connection that has several, and
-        which parts there are."""
-        self.facts = known = facts.facts_of(self.path)
+    def take_facts(self, known, parts):
+        """Takes the facts of the recording, or None. `parts` has the first part of each connection that has several,
+        and which parts there are."""
+        self.facts = known
         if known:
             self.server, self.begun, self.ended, self.part = known.server, known.begun, known.ended, known.part
             self.take_words(known.words())
@@ -112,7 +112,7 @@ def sources_of(paths, folder, port, warnings):
         name = os.path.basename(path)
         if mark in zkr.MARKS:
             found = Source(path, name.removesuffix(".zkr"))
-            found.take_facts(parts)
+            found.take_facts(facts.facts_of(path), parts)
             yield found
         elif mark.startswith(zkr.CAPTURES):
             yield from captured(path, name, os.path.join(tempfile.mkdtemp(dir=folder), "capture"), port, warnings)

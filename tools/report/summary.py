@@ -132,7 +132,7 @@ def closed_by(connection):
         return "client: closeSession"
     if connection.is_refused():
         return "server: session expired"
-    notes = connection.source.notes
+    notes = connection.about.notes
     for word, how in (("reset", "reset"), ("closed", "FIN")):
         if word in notes:
             return f"{SIDES[notes[word]]}: {how}"
@@ -144,10 +144,10 @@ def closed_by(connection):
 def ending_of(connection):
     """How the recording of a connection ends, and what is missing of it."""
     ending = connection.ending()
-    notes = [f"{word}={value}" if value else word for word, value in connection.source.notes.items()
+    notes = [f"{word}={value}" if value else word for word, value in connection.about.notes.items()
              if word not in PLAIN_NOTES and value not in NOTHING]
     if ending is None:
-        how = "no ending line" if connection.source.path else "nothing recorded"
+        how = "no ending line" if connection.about.path else "nothing recorded"
     else:
         how = " ".join([ending["ending"], *(f"{name}={value}" for name, value in ending.items()
                                              if name not in ("ending", "unanswered", "waiting"))])
@@ -194,7 +194,7 @@ def connection_rows(run):
     for each in run.connections[:MOST_CONNECTIONS]:
         begun, ended = each.span()
         lasted = None if begun is None else round(ended - begun, 3)
-        yield [each.label, each.session_id(), each.name, each.source.server, begun, lasted, each.total("asked"),
+        yield [each.label, each.session_id(), each.name, each.about.server, begun, lasted, each.total("asked"),
                each.failed(), each.total("unanswered"), each.events, closed_by(each), ending_of(each), each.number,
                each.last]
 
@@ -275,7 +275,7 @@ class Summary:
 
     def with_holes(self):
         """The connections of which bytes are missing."""
-        return [each for each in self.run.connections if {"hole", "lost"} & set(each.source.notes)
+        return [each for each in self.run.connections if {"hole", "lost"} & set(each.about.notes)
                 or each.known and each.known.has_hole()]
 
     def links(self):

@@ -52,6 +52,28 @@ class Counts(ToolCase):
         for choice in ((), ("--op", "event")):
             self.assertIn("  server: session expired  whole\n", self.report(*choice, path))
 
+    def test_parts_of_a_connection_in_the_lines_of_zkjson(self):
+        """Their endings have the facts: which parts there are, what is missing between these, and who ended it."""
+        known = {"client": "10.0.0.1:40001", "server": "10.0.0.2:2181", "connected": report_lines.T}
+        text = []
+        for name, at, more in (("a", 0, {**known, "ended": report_lines.T + 20, "hole": ["S"]}),
+                               ("a.2", 50, {**known, "part": 2, "lost": {"C": 0, "S": 9}, "closed": "C"}),
+                               ("b", 90, None)):
+            lines = report_lines.Lines()
+            lines.connect(at, 1)
+            ending = {"ending": "whole", "unanswered": 0, **({"facts": more} if more else {})}
+            text += [json.dumps({"connection": name, **each}) for each in (*lines.objects, ending)]
+        path = self.listing("a.json", *text)
+        found = self.report(path, status=1)
+        self.assertRegex(found, "^2 connections, 1 sessions, 6 messages, ")
+        self.assertEqual([" ".join(line.split()) for line in self.table(found, "Connections")], [
+            "#1 0x7 a 10.0.0.2:2181 2023-11-14T22:13:20.000Z 0.02 s 1 0 0 0 not known: bytes are missing whole, hole=S",
+            "#1.2 0x7 a.2 10.0.0.2:2181 2023-11-14T22:13:20.050Z 0.001 s 1 0 0 0 client: FIN whole, lost=C:0,S:9",
+            "#2 0x7 b - 2023-11-14T22:13:20.090Z 0.001 s 1 0 0 0 not recorded whole"])
+        session, = self.table(found, "Sessions")
+        self.assertEqual((session.split()[2], session.split()[8:10]), ("2", ["0.039", "s"]))
+        self.assertEqual(self.report("--jobs", 2, path, status=1), found)
+
     def test_long_latencies_and_connections(self):
         """They are exact: 12,345.678 ms, 2,345,678.901 ms, and 100,000.123 s from the first message to the last."""
         lines = report_lines.Lines()
