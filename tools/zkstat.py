@@ -258,7 +258,7 @@ def partial(options, paths):
     together = Statistics(selection.Selection(words))
 
     def one(path):
-        words.inputs, found = [path], Statistics(together.selection)
+        words.inputs, found = [path], Statistics(selection.Selection(words))
         read(parser, words, found, zkr.Progress("zkstat", False))
         return found.partial()
     for path in paths:

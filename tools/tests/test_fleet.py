@@ -118,6 +118,16 @@ class FleetCase(ToolCase):
                          (1, len(self.names) + 4, {"recording": 1, "refused": REFUSED, "unread": 2,
                                                    "whole": len(self.names) + 1 - REFUSED}))
 
+    def test_what_is_unread_has_no_messages_without_times(self):
+        """Of these listings, which have no times, the first is none from its second line on."""
+        paths = self.folder / "bad.show", self.folder / "good.show"
+        for path, more in zip(paths, ("no line\n", "")):
+            path.write_text('C 1 sync path="/a"\n' + more)
+        for tool in ("zkstat.py", "zkjson.py"):
+            status, _, err = self.run_tool(tool, "--jobs", 1, "--slower", 1, *paths)
+            self.assertRegex(err, f"^{tool}: connections with messages without times: 1;", tool)
+            self.assertEqual(status, 1)
+
     def test_inputs_that_name_no_recording(self):
         """An empty folder or list isn't many good recordings, and a recording is no list of paths."""
         folder, names, copy = self.folder / "none", self.folder / "names", self.folder / "copy"
