@@ -164,9 +164,16 @@ function rowsOf(name, indices) {
   return filter.op === "" ? rows : rows.filter(row => row[0] === filter.op);
 }
 
-// The note of tables that can't follow the filters, since the page has not every request.
+// The note of tables that can't follow the filters: a request has one path, and of a long run the page has not every
+// request.
 function shortcoming() {
-  if (data.complete || !isFiltered()) return "";
+  if (!isFiltered()) return "";
+  const multis = data.ops.includes("multi") && (data.complete || filter.path) ? "The filters go by a request's own path: they find no multi by those of its parts, which then don't count." : "";
+  return [multis, lacking()].filter(Boolean).join(" ");
+}
+
+function lacking() {
+  if (data.complete) return "";
   const others = filter.path || filter.outcome || filter.slower !== null || filter.from !== null || filter.to !== null;
   const told = `This page has ${count(requests.count)} of ${count(data.counts.asked)} requests: the slowest, the unanswered, and the failed or some of them.`;
   return others ? `${told} The filters by session and operation apply to operations and errors, and the filter by path to the busiest paths. For the other filters, make a report of a part of the run.` : told;

@@ -169,6 +169,21 @@ class Script(ToolCase):
                 "  each => cellText(\"ms\", each))));")
         self.assertEqual(self.of_script(code), ["0.001", "1.25", "12345.678", "123456.7", "1000000000", "–"])
 
+    def test_filters_say_that_they_leave_out_the_paths_of_multis(self):
+        """A multi of /a and /b counts for both, but under filters for neither."""
+        path = self.folder / "a.html"
+        lines = report_lines.second(self.folder / "a.json")
+        self.assertEqual(self.run_inside("zkreport.py", "-o", path, lines), (0, "", ""))
+        data = re.search('id="data">(.*?)</script>', path.read_text("utf-8"))[1]
+        code = (f"const document = {{ getElementById: () => ({{ textContent: {json.dumps(data)} }}) }};\n"
+                + "".join((TOOLS / "report" / name).read_text("utf-8") for name in ("model.js", "draw.js"))
+                + "const told = name => (filter[name] = name === 'op' ? 'setData' : '/b', "
+                "[rowsOf('paths', matching()).length, shortcoming().split(':')[0]]);\n"
+                "console.log(JSON.stringify([[rowsOf('paths', matching()).length, shortcoming()], told('path'), "
+                "(filter.path = '', told('op'))]));")
+        note = "The filters go by a request's own path"
+        self.assertEqual(self.of_script(code), [[2, ""], [0, note], [1, note]])
+
     def of_script(self, code):
         """What a script prints."""
         if not shutil.which("node"):
