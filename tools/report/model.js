@@ -103,6 +103,11 @@ function link(i) {
   return [requests.connection[i], requests.n[i]];
 }
 
+// When a request was sent; null where that isn't known.
+function timeOf(i) {
+  return timed && !Number.isNaN(requests.x[i]) ? data.begun + requests.x[i] : null;
+}
+
 function slowestOf(indices) {
   let best = indices[0];
   for (const i of indices) if (requests.ms[i] > requests.ms[best] || Number.isNaN(requests.ms[best])) best = i;
@@ -128,7 +133,7 @@ const derive = {
   },
   slowest(indices) {
     return indices.filter(i => !Number.isNaN(requests.ms[i])).sort((a, b) => requests.ms[b] - requests.ms[a])
-      .slice(0, 20).map(i => [requests.ms[i], timed ? data.begun + requests.x[i] : null, connectionName(requests.connection[i]),
+      .slice(0, 20).map(i => [requests.ms[i], timeOf(i), connectionName(requests.connection[i]),
         requests.n[i], data.ops[requests.op[i]], data.errors[requests.error[i]] ?? null, data.paths[requests.path[i]] ?? null,
         ...link(i)]);
   },
@@ -143,7 +148,7 @@ const derive = {
   },
   unanswered(indices, kind = UNANSWERED) {
     return indices.filter(i => outcome(i) === kind).slice(0, 50).map(i => [
-      timed && !Number.isNaN(requests.x[i]) ? data.begun + requests.x[i] : null, connectionName(requests.connection[i]),
+      timeOf(i), connectionName(requests.connection[i]),
       requests.n[i], data.ops[requests.op[i]], data.paths[requests.path[i]] ?? null, ...link(i)]);
   },
 };

@@ -4,7 +4,6 @@ import html.parser
 import json
 import pathlib
 import re
-import shutil
 import signal
 import subprocess
 import sys
@@ -158,53 +157,6 @@ class Page(PageCase):
         self.assertEqual((data["counts"]["messages"], data["counts"]["asked"], data["complete"]), (3, 3, True))
         shown = [message["n"] for message in data["messages"]["0"]]
         self.assertEqual(shown, [*range(1, 8), *range(10, 22), *range(10_010, 10_022), *range(20_010, 20_022)])
-
-
-class Script(ToolCase):
-    def test_latencies_in_tables_are_exact(self):
-        """To the microsecond, as in zkstat's tables and those of --text."""
-        code = ("const document = { getElementById() {} }, data = {};\n"
-                + "".join((TOOLS / "report" / name).read_text("utf-8") for name in ("draw.js", "tables.js"))
-                + "console.log(JSON.stringify([0.001, 1.25, 12345.678, 123456.7, 1e9, null].map(\n"
-                "  each => cellText(\"ms\", each))));")
-        self.assertEqual(self.of_script(code), ["0.001", "1.25", "12345.678", "123456.7", "1000000000", "–"])
-
-    def test_filters_say_that_they_leave_out_the_paths_of_multis(self):
-        """A multi of /a and /b counts for both, but under filters for neither."""
-        path = self.folder / "a.html"
-        lines = report_lines.second(self.folder / "a.json")
-        self.assertEqual(self.run_inside("zkreport.py", "-o", path, lines), (0, "", ""))
-        data = re.search('id="data">(.*?)</script>', path.read_text("utf-8"))[1]
-        code = (f"const document = {{ getElementById: () => ({{ textContent: {json.dumps(data)} }}) }};\n"
-                + "".join((TOOLS / "report" / name).read_text("utf-8") for name in ("model.js", "draw.js"))
-                + "const told = name => (filter[name] = name === 'op' ? 'setData' : '/b', "
-                "[rowsOf('paths', matching()).length, shortcoming().split(':')[0]]);\n"
-                "console.log(JSON.stringify([[rowsOf('paths', matching()).length, shortcoming()], told('path'), "
-                "(filter.path = '', told('op'))]));")
-        note = "The filters go by a request's own path"
-        self.assertEqual(self.of_script(code), [[2, ""], [0, note], [1, note]])
-
-    def of_script(self, code):
-        """What a script prints."""
-        if not shutil.which("node"):
-            self.skipTest("node is not here")
-        return json.loads(subprocess.run(["node", "-e", code], capture_output=True, check=True).stdout)
-
-    def axis(self, *milliseconds):
-        """The axis of latencies: its least and its greatest power of ten, and the place of no time at all."""
-        code = ("const document = { getElementById() {} }, data = { complete: true, density: {} }, filter = {}, "
-                f"requests = {{ ms: [{', '.join(map(str, milliseconds))}] }};\n"
-                + "".join((TOOLS / "report" / name).read_text("utf-8") for name in ("draw.js", "latency.js"))
-                + "const axis = latencyAxis(requests.ms.map((_, i) => i));\n"
-                "console.log(JSON.stringify(axis && [axis.from, axis.to, axis.y(0) === axis.y(10 ** axis.from)]));")
-        return self.of_script(code)
-
-    def test_the_axis_of_latencies(self):
-        """Latencies of no milliseconds, as whole ones often are, have an axis; where there are none there is none."""
-        for milliseconds, wanted in (((), None), (("NaN",), None), ((0, "NaN", 0), [0, 1, True]),
-                                     ((0, 3), [0, 1, True]),
-                                     ((0.02, 30), [-2, 2, True])):
-            self.assertEqual(self.axis(*milliseconds), wanted, milliseconds)
 
 
 @unittest.skipIf(browser.MISSING, browser.MISSING)

@@ -1,0 +1,72 @@
+"""Tests of the scripts of zkreport's page, without a browser."""
+
+import json
+import re
+import shutil
+import subprocess
+
+import report_lines
+from support import TOOLS, ToolCase
+
+
+class Scripts(ToolCase):
+    def test_latencies_in_tables_are_exact(self):
+        """To the microsecond, as in zkstat's tables and those of --text."""
+        code = ("const document = { getElementById() {} }, data = {};\n"
+                + "".join((TOOLS / "report" / name).read_text("utf-8") for name in ("draw.js", "tables.js"))
+                + "console.log(JSON.stringify([0.001, 1.25, 12345.678, 123456.7, 1e9, null].map(\n"
+                "  each => cellText(\"ms\", each))));")
+        self.assertEqual(self.of_script(code), ["0.001", "1.25", "12345.678", "123456.7", "1000000000", "–"])
+
+    def of_page(self, code, *inputs):
+        """What a script prints that comes after those that know the data of the page of these files."""
+        path = self.folder / "a.html"
+        self.assertEqual(self.run_inside("zkreport.py", "-o", path, *inputs), (0, "", ""))
+        data = re.search('id="data">(.*?)</script>', path.read_text("utf-8"))[1]
+        return self.of_script(f"const document = {{ getElementById: () => ({{ textContent: {json.dumps(data)} }}) }};\n"
+                              + "".join((TOOLS / "report" / name).read_text("utf-8")
+                                        for name in ("model.js", "draw.js", "tables.js")) + code)
+
+    def test_filters_say_that_they_leave_out_the_paths_of_multis(self):
+        """A multi of /a and /b counts for both, but under filters for neither."""
+        code = ("const told = name => (filter[name] = name === 'op' ? 'setData' : '/b', "
+                "[rowsOf('paths', matching()).length, shortcoming().split(':')[0]]);\n"
+                "console.log(JSON.stringify([[rowsOf('paths', matching()).length, shortcoming()], told('path'), "
+                "(filter.path = '', told('op'))]));")
+        note = "The filters go by a request's own path"
+        found = self.of_page(code, report_lines.second(self.folder / "a.json"))
+        self.assertEqual(found, [[2, ""], [0, note], [1, note]])
+
+    def test_a_latency_without_a_time_under_filters(self):
+        """As where a program took the times from the lines of one of two connections."""
+        timed, other = report_lines.second(self.folder / "a.json"), self.folder / "b.json"
+        lines = [json.loads(line) for line in timed.read_text().splitlines()]
+        for each in lines:
+            each.pop("at", None)
+        other.write_text("".join(json.dumps(each) + "\n" for each in lines))
+        code = ("filter.op = 'multi'; console.log(JSON.stringify(rowsOf('slowest', matching()).map(\n"
+                "  row => row.slice(0, 3).map((each, at) => cellText(['ms', 'time', 'text'][at], each)))));")
+        self.assertEqual(sorted(self.of_page(code, timed, other)),
+                         [["1", "2023-11-14 22:13:25.195", "#1"], ["1", "–", "#2"]])
+
+    def of_script(self, code):
+        """What a script prints."""
+        if not shutil.which("node"):
+            self.skipTest("node is not here")
+        return json.loads(subprocess.run(["node", "-e", code], capture_output=True, check=True).stdout)
+
+    def axis(self, *milliseconds):
+        """The axis of latencies: its least and its greatest power of ten, and the place of no time at all."""
+        code = ("const document = { getElementById() {} }, data = { complete: true, density: {} }, filter = {}, "
+                f"requests = {{ ms: [{', '.join(map(str, milliseconds))}] }};\n"
+                + "".join((TOOLS / "report" / name).read_text("utf-8") for name in ("draw.js", "latency.js"))
+                + "const axis = latencyAxis(requests.ms.map((_, i) => i));\n"
+                "console.log(JSON.stringify(axis && [axis.from, axis.to, axis.y(0) === axis.y(10 ** axis.from)]));")
+        return self.of_script(code)
+
+    def test_the_axis_of_latencies(self):
+        """Latencies of no milliseconds, as whole ones often are, have an axis; where there are none there is none."""
+        for milliseconds, wanted in (((), None), (("NaN",), None), ((0, "NaN", 0), [0, 1, True]),
+                                     ((0, 3), [0, 1, True]),
+                                     ((0.02, 30), [-2, 2, True])):
+            self.assertEqual(self.axis(*milliseconds), wanted, milliseconds)
