@@ -31,7 +31,7 @@ class Choices(ToolCase):
                 self.assertEqual(len(json.loads(out)["slowest"]), chosen)
 
     def test_times_in_microseconds(self):
-        """A time in milliseconds stands for all of that millisecond, one in microseconds for itself."""
+        """A time in milliseconds is all of that millisecond, and one in microseconds is just that."""
         path, second = self.folder / "a.json", "2026-11-22T07:30:33"
         path.write_text("".join(json.dumps({"n": n, "side": "C", "xid": n, "op": "sync", "path": "/a",
                                             "at": ASKED + after}) + "\n"
