@@ -13,7 +13,7 @@ from report import gather
 SLOWEST, ROWS, MOST_CONNECTIONS, MOST_SESSIONS = 20, 50, 300, 200
 SIDES = {"C": "client", "S": "server"}
 NOTHING = ("0", "C:0,S:0")
-PLAIN_NOTES = ("client", "server", "packets", "closed", "reset", "open")
+PLAIN_NOTES = ("client", "server", "packets", "closed", "reset", "broken", "open")
 
 
 class Column(NamedTuple):
@@ -136,6 +136,9 @@ def closed_by(connection):
     for word, how in (("reset", "reset"), ("closed", "FIN")):
         if word in notes:
             return f"{SIDES[notes[word]]}: {how}"
+    if "broken" in notes:
+        side, _, error = notes["broken"].partition(":")
+        return f"{SIDES.get(side, side)}: {error}"
     if "open" in notes:
         return "open at the end"
     return "not known: bytes are missing" if "hole" in notes else "not recorded"

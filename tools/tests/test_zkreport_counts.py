@@ -106,13 +106,14 @@ class Counts(ToolCase):
             self.assertIn(f"\nfrom {begun} to {ended}\n", self.report(each))
 
     def test_facts_that_know_the_end_alone(self):
+        """The time of the end, and that an error on the server's side was it."""
         path = self.folder / "a.zkr"
         path.write_bytes(b"ZKR1")
-        facts.write(path, facts.Facts(ended=5000.0, closed="C"))
+        facts.write(path, facts.Facts(ended=5000.0, broken="S:ETIMEDOUT"))
         if not PROGRAM.exists():
             self.skipTest("the program zkdump is not built")
-        self.assertEqual([line.split()[:6] for line in self.table(self.report(path), "Connections")],
-                         [["#1", "-", "a", "-", "-", "-"]])
+        row, = self.table(self.report(path), "Connections")
+        self.assertEqual(" ".join(row.split()), "#1 - a - - - 0 0 0 0 server: ETIMEDOUT whole")
 
     def test_a_page_of_a_run_that_lacks_a_message(self):
         """The first difference leads to no message of this run: the other one alone has a request, or a connection."""
