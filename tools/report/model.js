@@ -155,6 +155,11 @@ const derive = {
 
 derive.notCaptured = indices => derive.unanswered(indices, NOT_CAPTURED);
 
+// The rows of operations and errors of the session that the filter names, which the busiest ones have.
+function ofSession() {
+  return data.bySession[sessionKeys.indexOf(filter.session)];
+}
+
 // The rows of a table under the filters, and what they don't go by, if anything.
 function rowsOf(name, indices) {
   const table = data.tables[name], column = table.columns.findIndex(each => each[0] === "path");
@@ -165,7 +170,7 @@ function rowsOf(name, indices) {
   if (name === "watches") return table.rows.filter(row => bySession(row) && byPath(row));
   if (data.complete || ["slowest", "unanswered", "notCaptured"].includes(name)) return derive[name](indices);
   if (name === "paths") return table.rows.filter(byPath);
-  const rows = filter.session === "" ? table.rows : data.bySession[sessionKeys.indexOf(filter.session)]?.[name] ?? [];
+  const rows = filter.session === "" ? table.rows : ofSession()?.[name] ?? derive[name](indices);
   return filter.op === "" ? rows : rows.filter(row => row[0] === filter.op);
 }
 
@@ -181,5 +186,6 @@ function lacking() {
   if (data.complete) return "";
   const others = filter.path || filter.outcome || filter.slower !== null || filter.from !== null || filter.to !== null;
   const told = `This page has ${count(requests.count)} of ${count(data.counts.asked)} requests: the slowest, the unanswered, and the failed or some of them.`;
+  if (filter.session && !ofSession()) return `${told} Of this session, operations and errors are those of these requests alone.`;
   return others ? `${told} The filters by session and operation apply to operations and errors, and the filter by path to the busiest paths. For the other filters, make a report of a part of the run.` : told;
 }

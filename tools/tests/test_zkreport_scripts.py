@@ -4,6 +4,7 @@ import json
 import re
 import shutil
 import subprocess
+import unittest.mock
 
 import report_lines
 from support import TOOLS, ToolCase
@@ -36,6 +37,23 @@ class Scripts(ToolCase):
         note = "The filters go by a request's own path"
         found = self.of_page(code, report_lines.second(self.folder / "a.json"))
         self.assertEqual(found, [[2, ""], [0, note], [1, note]])
+
+    def test_a_session_that_is_not_one_of_the_busiest(self):
+        """The page counts its requests that it has, and says so; of a busier one it counts all."""
+        lines = report_lines.Lines()
+        lines.connect(0, 500, given="0x8")
+        lines.ask(600, "sync", 1, path="/a")
+        lines.answer(1600, 1, zxid="0x1", path="/a")
+        paths = report_lines.second(self.folder / "a.json"), lines.write(self.folder / "b.json", ending="whole",
+                                                                         unanswered=0)
+        code = ("const told = id => (filter.session = id, [rowsOf('operations', matching()).map(row => row.slice(0, 2)),\n"
+                "  / alone\\.$/.test(shortcoming())]);\n"
+                "console.log(JSON.stringify([told('0x7'), told('0x8')]));")
+        with unittest.mock.patch("report.kept.SLOWEST", 2), unittest.mock.patch("report.summary.MOST_SESSIONS", 1):
+            busy, other = self.of_page(code, *paths)
+        self.assertEqual(busy, [[[name, 1] for name in ("closeSession", "connect", "multi", "setData", "setWatches")],
+                                False])
+        self.assertEqual(other, [[["connect", 1], ["sync", 1]], True])
 
     def test_a_latency_without_a_time_under_filters(self):
         """As where a program took the times from the lines of one of two connections."""
