@@ -174,6 +174,14 @@ function rowsOf(name, indices) {
   return filter.op === "" ? rows : rows.filter(row => row[0] === filter.op);
 }
 
+// What is said of the rows that a table lacks.
+function rest(name) {
+  const more = data.leftOut[name] ? `${data.short[name] ? "at least " : ""}${count(data.leftOut[name])} more` : "";
+  if (!more || !isFiltered()) return more && `and ${more}`;
+  const byRow = ["sessions", "connections", "watches"].includes(name) || name === "paths" && !data.complete;
+  return byRow ? `The filters go through the rows of this table, and not through ${more}.` : "";
+}
+
 // The note of tables that can't follow the filters: a request has one path, and of a long run the page has not every
 // request.
 function shortcoming() {

@@ -47,12 +47,13 @@ function drawTable(name, rows) {
   const section = element("section", { id: `t-${name}`, class: "table" },
     element("h2", {}, `${heading} `, element("small", { text: rows.length ? count(rows.length) : "none" })));
   if (HELP[name] && rows.length) section.append(element("p", { class: "hint", text: HELP[name] }));
+  const more = rest(name), short = data.short[name];
+  if (!rows.length && more) section.append(element("p", { class: "hint", text: more }));
   if (!rows.length) return section;
   const head = element("tr", {}, ...columns.map(([, title, kind], at) => header(name, title, kind, at)));
   const body = element("tbody", {}, ...sorted(name, rows).map(row => drawRow(columns, row)));
   section.append(element("div", { class: "scroll" }, element("table", {}, element("thead", {}, head), body)));
-  const more = isFiltered() ? 0 : data.leftOut[name], short = data.short[name];
-  if (more) section.append(element("p", { class: "hint", text: `and ${short ? "at least " : ""}${count(more)} more` }));
+  if (more) section.append(element("p", { class: "hint", text: more }));
   if (short) {
     section.append(element("p", { class: "hint", text: `There were too many ${name} to count each: counts may be up to ${count(short)} too low.` }));
   }

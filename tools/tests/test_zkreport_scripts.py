@@ -46,14 +46,29 @@ class Scripts(ToolCase):
         lines.answer(1600, 1, zxid="0x1", path="/a")
         paths = report_lines.second(self.folder / "a.json"), lines.write(self.folder / "b.json", ending="whole",
                                                                          unanswered=0)
-        code = ("const told = id => (filter.session = id, [rowsOf('operations', matching()).map(row => row.slice(0, 2)),\n"
-                "  / alone\\.$/.test(shortcoming())]);\n"
+        code = ("const told = id => (filter.session = id,\n"
+                "  [rowsOf('operations', matching()).map(row => row.slice(0, 2)), / alone\\.$/.test(shortcoming())]);\n"
                 "console.log(JSON.stringify([told('0x7'), told('0x8')]));")
         with unittest.mock.patch("report.kept.SLOWEST", 2), unittest.mock.patch("report.summary.MOST_SESSIONS", 1):
             busy, other = self.of_page(code, *paths)
         self.assertEqual(busy, [[[name, 1] for name in ("closeSession", "connect", "multi", "setData", "setWatches")],
                                 False])
         self.assertEqual(other, [[["connect", 1], ["sync", 1]], True])
+
+    def test_rows_that_a_table_lacks(self):
+        """Filters can't choose these, and say so."""
+        lines = report_lines.Lines()
+        lines.connect(6000, 500, given="0x8")
+        paths = report_lines.second(self.folder / "a.json"), lines.write(self.folder / "b.json", ending="whole",
+                                                                         unanswered=0)
+        code = ("const told = id => (filter.session = id, ['sessions', 'connections', 'operations'].map(name =>\n"
+                "  [rowsOf(name, matching()).length, rest(name)]));\n"
+                "console.log(JSON.stringify([told(''), told('0x8')]));")
+        with unittest.mock.patch("report.summary.MOST_CONNECTIONS", 1):
+            every, other = self.of_page(code, *paths)
+        self.assertEqual(every, [[1, "and 1 more"], [1, "and 1 more"], [5, ""]])
+        filtered = "The filters go through the rows of this table, and not through 1 more."
+        self.assertEqual(other, [[0, filtered], [0, filtered], [1, ""]])
 
     def test_a_latency_without_a_time_under_filters(self):
         """As where a program took the times from the lines of one of two connections."""
