@@ -94,9 +94,9 @@ for name in ("kazoo_basic", "refused_c_path_not_utf8"):
         source = self.folder / "src"
         source.mkdir()
         script = "import library, pathlib, sys; library.CRATE = pathlib.Path(sys.argv[1]); print(library.exported()[0])"
-        for result, told in (("", "{'zk_x': ('void', ['uint32_t'])}\n"),
-                             (" -> bool", "{'zk_x': ('bool', ['uint32_t'])}\n"),
-                             (" -> *mut u8", "{'zk_x': ('void *', ['uint32_t'])}\n"),
+        for result, told in (("", "{'zk_x': ('void', ['uint32_t number'])}\n"),
+                             (" -> bool", "{'zk_x': ('bool', ['uint32_t number'])}\n"),
+                             (" -> *mut u8", "{'zk_x': ('void *', ['uint32_t number'])}\n"),
                              (" -> Other", "KeyError: 'Other'\n"), (" -> Option<u32>", "KeyError: 'Option<u32>'\n")):
             for end in ("\n    ensures all { }\n{\n}\n", " {\n}\n"):
                 (source / "x.rt").write_text(f'pub extern "C" fn zk_x(number: u32){result}{end}')
