@@ -105,3 +105,13 @@ class Odd:
             for name, row in counts.items():
                 below = re.search(rf"^ {name} .*\n  (\S+) ", tree, re.M)
                 yield below and below[1] == row, f"{there} bytes, {name}: {below and below[1]}"
+
+    def test_a_frame_far_in_a_segment(self):
+        """After a loss, a frame is found that begins at byte 1,156 of a segment of 1,448 and goes on in the next ones.
+        Of twelve frames of 2,026 bytes, the second segment has the end of the first and the front of the second."""
+        text = "00000005 00000002 2f61 000007d0" + "62" * 2000 + "ffffffff"
+        asked = b"".join(piece(zkr.CLIENT, f"{xid:08x} {text}").data for xid in range(1, 13))
+        sent = list(wire.conversation([*HEADS, zkr.Piece(zkr.CLIENT, 0, asked)]))
+        found = self.plugin.frames(wire.pcap(packed(sent[:6] + sent[7:])))
+        shown = [int(each["xid"][0]) for each in found if each["kind"] == ["2"]]
+        yield shown == list(range(3, 13)), f"{shown}"

@@ -16,7 +16,8 @@
 /* Of TCP's conversation_completeness, whose numbers packet-tcp.c keeps to itself: the client's SYN, the server's. */
 static const guint8 began[] = {[ZK_CLIENT] = 0x01, [ZK_SERVER] = 0x02};
 
-/* No more gaps of a side are kept; and bytes in which no frame is found wait for others up to here. */
+/* No more gaps of a side are kept. Bytes in which no frame is found wait for others; of those that TCP has put together,
+ * which it does anew with each segment, only up to here. */
 enum { MOST_GAPS = 256, MOST_BEFORE = 1 << 10 };
 
 static guint hash_of_kept(gconstpointer of) {
@@ -171,7 +172,7 @@ static struct kept *keep(struct connection *connection, packet_info *pinfo, cons
 static struct kept *look_for_frames(struct connection *connection, packet_info *pinfo, const struct piece *piece,
                                     struct way *way, guint32 *place) {
     struct hole_end end = hole_end(piece->side, piece->bytes, piece->there, pref_limit);
-    gboolean may_wait = piece->may_wait && piece->before < MOST_BEFORE;
+    gboolean may_wait = piece->may_wait && (!piece->tcp->is_reassembled || piece->before < MOST_BEFORE);
     if (end.found) {
         way->sought = FALSE;
         way->since = pinfo->num;
