@@ -115,3 +115,12 @@ class Odd:
         found = self.plugin.frames(wire.pcap(packed(sent[:6] + sent[7:])))
         shown = [int(each["xid"][0]) for each in found if each["kind"] == ["2"]]
         yield shown == list(range(3, 13)), f"{shown}"
+
+    def test_replies_out_of_order(self):
+        """Of each reply the oldest request before it that has no reply yet is noted, and nothing where there is none:
+        of those to 3 and 2 that is 1. What was passed so is noted no more of later replies."""
+        pieces = [piece(zkr.CLIENT, f"{xid:08x} 00000003 00000002 2f61 01") for xid in range(1, 6)]
+        pieces += [piece(zkr.SERVER, f"{xid:08x} 0000000000000005 ffffff9b") for xid in (3, 2, 1, 5, 4)]
+        found = self.plugin.frames(capture_of([*HEADS, *pieces]))
+        noted = [(each["xid"], each["expected_xid"], len(each["order"])) for each in found if each["kind"] == ["4"]]
+        yield noted == [(["3"], ["1"], 1), (["2"], ["1"], 1), (["1"], [], 0), (["5"], ["4"], 1), (["4"], [], 0)], noted

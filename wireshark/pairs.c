@@ -17,9 +17,15 @@ static struct queue *queue_of(struct connection *connection, gint32 xid) {
     return (struct queue *)wmem_map_lookup(connection->waiting, GINT_TO_POINTER(xid));
 }
 
-static void unlink_call(struct connection *connection, struct call *call) {
-    *(call->before ? &call->before->behind : &connection->oldest) = call->behind;
-    *(call->behind ? &call->behind->before : &connection->newest) = call->before;
+static void link_call(struct calls *calls, struct call *call) {
+    call->before = calls->newest;
+    *(call->before ? &call->before->behind : &calls->oldest) = call;
+    calls->newest = call;
+}
+
+static void unlink_call(struct calls *calls, struct call *call) {
+    *(call->before ? &call->before->behind : &calls->oldest) = call->behind;
+    *(call->behind ? &call->behind->before : &calls->newest) = call->before;
     call->before = call->behind = NULL;
 }
 
@@ -32,9 +38,7 @@ static void wait_for_reply(struct connection *connection, struct call *call) {
     *(queue->last ? &queue->last->same : &queue->first) = call;
     queue->last = call;
     if (is_own(call->xid)) {
-        call->before = connection->newest;
-        *(call->before ? &call->before->behind : &connection->oldest) = call;
-        connection->newest = call;
+        link_call(&connection->calls, call);
     }
 }
 
@@ -123,19 +127,16 @@ void call_answer(struct connection *connection, packet_info *pinfo, struct frame
     if (!is_own(call->xid)) {
         return;
     }
-    if (call->passed) {
+    struct calls *calls = call->passed ? &connection->passed : &connection->calls;
+    if (calls->oldest != call) {
         frame->disordered = TRUE;
-        frame->expected = connection->oldest ? connection->oldest->xid : call->xid;
-        return;
+        frame->expected = calls->oldest->xid;
     }
-    while (connection->oldest != call) {
-        struct call *passed = connection->oldest;
-        if (!frame->disordered) {
-            frame->disordered = TRUE;
-            frame->expected = passed->xid;
-        }
+    while (!call->passed && calls->oldest != call) {
+        struct call *passed = calls->oldest;
         passed->passed = TRUE;
-        unlink_call(connection, passed);
+        unlink_call(calls, passed);
+        link_call(&connection->passed, passed);
     }
-    unlink_call(connection, call);
+    unlink_call(calls, call);
 }

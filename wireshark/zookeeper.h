@@ -38,7 +38,7 @@ struct call {
     guint32 count;           /* of parts */
     gint32 *parts;
     gboolean is_known;       /* all of it was read */
-    gboolean passed;
+    gboolean passed;         /* a later one was answered before it */
     struct call *same;       /* the next that waits with this xid */
     struct call *before, *behind;
 };
@@ -85,6 +85,11 @@ struct queue {
     struct call *first, *last;
 };
 
+/* Requests in the order in which they were asked. */
+struct calls {
+    struct call *oldest, *newest;
+};
+
 struct connection {
     address server;
     guint32 port;
@@ -98,7 +103,7 @@ struct connection {
     struct judge judge;
     guint32 refused;         /* in this packet; 0: nowhere */
     wmem_map_t *waiting;     /* by xid, a queue */
-    struct call *oldest, *newest; /* of those with xids of their own */
+    struct calls calls, passed; /* of those with xids of their own, and of them those that were passed */
     wmem_map_t *early;       /* by xid, a reply that was captured before its request */
     wmem_map_t *kept;
 };
