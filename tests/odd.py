@@ -124,3 +124,13 @@ class Odd:
         found = self.plugin.frames(capture_of([*HEADS, *pieces]))
         noted = [(each["xid"], each["expected_xid"], len(each["order"])) for each in found if each["kind"] == ["4"]]
         yield noted == [(["3"], ["1"], 1), (["2"], ["1"], 1), (["1"], [], 0), (["5"], ["4"], 1), (["4"], [], 0)], noted
+
+    def test_words_in_segments(self):
+        """A word of four letters is one in whatever segments it comes; so is a connect request."""
+        for cuts in ((1, 2, 3), (2,), (3, 4), (4,)):
+            for data, shown in ((b"ruok\n", "four letters: ruok"), (HEADS[0].data, "connect")):
+                parts = [zkr.Piece(zkr.CLIENT, 0, data[at:to]) for at, to in zip((0, *cuts), (*cuts, len(data)))]
+                for words in ((), ("-2",)):
+                    told = self.plugin.read(capture_of(parts), *words, "-Y", "zookeeper.side", "-T", "fields", "-e",
+                                            "_ws.col.Info")
+                    yield told.startswith(shown), f"{data[:5]}, cut at {cuts}: {told}"

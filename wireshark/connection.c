@@ -20,6 +20,9 @@ static const guint8 began[] = {[ZK_CLIENT] = 0x01, [ZK_SERVER] = 0x02};
  * which it does anew with each segment, only up to here. */
 enum { MOST_GAPS = 256, MOST_BEFORE = 1 << 10 };
 
+/* The letters of a word that a client says in place of frames. */
+enum { WORD = 4 };
+
 static guint hash_of_kept(gconstpointer of) {
     const struct kept *kept = (const struct kept *)of;
     return kept->packet * 2654435761u ^ kept->number;
@@ -88,7 +91,7 @@ static gboolean is_connect(const struct piece *piece) {
 /* Whether a client's first bytes are a word of four letters. Where the client may have said more before them, letters
  * and more are within a message. */
 static gboolean is_word(const struct way *way, const struct piece *piece) {
-    enum { WORD = 4, WITH_LINE_END = 6 };
+    enum { WITH_LINE_END = WORD + 2 };
     if (piece->side != ZK_CLIENT || piece->there < WORD || !(is_first(way, piece) || piece->size <= WITH_LINE_END)) {
         return FALSE;
     }
@@ -314,6 +317,9 @@ const struct kept *kept_of(struct connection *connection, packet_info *pinfo, co
         return (const struct kept *)wmem_map_lookup(connection->kept, &wanted);
     }
     if (!way->begun && !connection->words) {
+        if (piece.there < WORD && piece.may_wait) { /* which may be a word's first letters */
+            return keep(connection, pinfo, &piece, MORE, DESEGMENT_ONE_MORE_SEGMENT);
+        }
         begin(connection, pinfo, way, &piece);
     }
     if (connection->words) {
