@@ -269,9 +269,11 @@ class Tests(Connections, Odd):
     def test_other_ports(self):
         path = TOP / "captures" / "kazoo_multi.zkr"
         capture = capture_of(pieces_of(path), server=9999)
-        for words in ((), ("-d", "tcp.port==9999,zookeeper"), ("-o", "zookeeper.tcp.port:2181,9999")):
-            found = self.plugin.frames(capture, *words)
-            yield len(found) == len(path.with_suffix(".show").read_text().splitlines()) - 1, f"{words}: {len(found)}"
+        lines = path.with_suffix(".show").read_text().splitlines()[:-1]
+        for words in ((), ("-d", "tcp.port==9999,zookeeper"), ("-o", "zookeeper.tcp.port:2181,9999"),
+                      ("-d", "tcp.port==41822,zookeeper")):  # the client's
+            found = [line for each in self.plugin.frames(capture, *words) for line in each["line"]]
+            yield found == lines, f"{words}: {found[:2]}"
 
     def test_the_page_lists_the_fields(self):
         """wireshark/README.md has just the fields that tshark has."""

@@ -38,6 +38,18 @@ static wmem_flag forget(wmem_allocator_t *allocator _U_, wmem_cb_event_t event _
     return FALSE;
 }
 
+static const struct tcp_analysis *tcp_of(packet_info *pinfo) {
+    return (const struct tcp_analysis *)conversation_get_proto_data(find_or_create_conversation(pinfo), proto_tcp);
+}
+
+/* Whether a packet goes to the server, whose port TCP knows by the SYN. Without that it is the port that ZooKeeper was
+ * found by, which may be the client's where a user names that in Decode As. */
+static gboolean is_to_server(packet_info *pinfo) {
+    const struct tcp_analysis *tcp = tcp_of(pinfo);
+    guint32 port = tcp && tcp->server_port ? tcp->server_port : pinfo->match_uint;
+    return port == pinfo->destport || (port != pinfo->srcport && pinfo->destport < pinfo->srcport);
+}
+
 struct connection *connection_of(packet_info *pinfo) {
     conversation_t *conversation = find_or_create_conversation(pinfo);
     struct connection *connection =
@@ -46,8 +58,7 @@ struct connection *connection_of(packet_info *pinfo) {
         return connection;
     }
     connection = wmem_new0(wmem_file_scope(), struct connection);
-    gboolean to_server = pinfo->match_uint == pinfo->destport ||
-                         (pinfo->match_uint != pinfo->srcport && pinfo->destport < pinfo->srcport);
+    gboolean to_server = is_to_server(pinfo);
     copy_address_wmem(wmem_file_scope(), &connection->server, to_server ? &pinfo->dst : &pinfo->src);
     connection->port = to_server ? pinfo->destport : pinfo->srcport;
     connection->waiting = wmem_map_new(wmem_file_scope(), g_direct_hash, g_direct_equal);
@@ -105,8 +116,7 @@ static gboolean is_word(const struct way *way, const struct piece *piece) {
 
 /* A side's first bytes. */
 static void begin(struct connection *connection, packet_info *pinfo, struct way *way, const struct piece *piece) {
-    const struct tcp_analysis *tcp = (const struct tcp_analysis *)conversation_get_proto_data(
-        find_or_create_conversation(pinfo), proto_tcp);
+    const struct tcp_analysis *tcp = tcp_of(pinfo);
     way->begun = TRUE;
     way->first = piece->number;
     way->since = pinfo->num;
