@@ -50,13 +50,16 @@ class Odd:
             yield found == ["ruok", "imok"], f"{found}"
 
     def test_secrets_that_are_not_read_are_hidden(self):
-        """A credential after a fault, as of an auth under another xid, and the front of one that was cut."""
+        """A credential after a fault, as of an auth under another xid, the front of one that was cut, and SASL's."""
         secret, password = "736563726574", "000102030405060708090a0b0c0d0e0f"
         auth = f"00000064 00000000 00000006 646967657374 0000000c {secret * 2}"
         welcome = "00000000 00007530 0100000000000001 00000010" + password
         pieces = [HEADS[0], piece(zkr.SERVER, welcome), piece(zkr.CLIENT, "00000001" + auth)]
         cut = [HEADS[0], piece(zkr.SERVER, welcome), piece(zkr.CLIENT, "fffffffc" + auth)]
-        for given, snap in ((pieces, 65535), (cut, 54 + 36)):  # 54 bytes before TCP's data
+        token = f"0000000c {secret * 2}"
+        sasl = [HEADS[0], HEADS[1], piece(zkr.CLIENT, f"00000001 00000066 {token}"),
+                piece(zkr.SERVER, f"00000001 0000000000000005 00000000 {token}")]
+        for given, snap in ((pieces, 65535), (cut, 54 + 36), (sasl, 65535)):  # 54 bytes before TCP's data
             capture = wire.pcap(packed(wire.conversation(given)), snap=snap)
             for hide in (True, False):
                 found = [value.replace(":", "") for each in self.plugin.frames(capture, hide=hide)

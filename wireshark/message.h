@@ -13,7 +13,9 @@
 #include "zk.h"
 
 /* Operations that this plugin has to know by their numbers. */
-enum { OP_PING = 11, OP_MULTI = 14, OP_AUTH = 100, OP_SET_WATCHES = 101, OP_CLOSE = -11, OP_FAILED = -1 };
+enum {
+    OP_PING = 11, OP_MULTI = 14, OP_AUTH = 100, OP_SET_WATCHES = 101, OP_SASL = 102, OP_CLOSE = -11, OP_FAILED = -1
+};
 
 /* The profile that has the most operations. */
 enum { NEWEST_PROFILE = ZK_PROFILE_35 };

@@ -239,8 +239,11 @@ static void read_fields(struct shown *shown) {
     shown->op = call ? call->op : shown->frame->kind == ZK_REQUEST ? shown->message.read.operation : 0;
 }
 
-/* Whether the bytes that weren't read may have a password or a credential. */
+/* Whether the bytes that weren't read may have a password or a credential; tokens of SASL, of either side, are these. */
 static gboolean has_unread_secret(const struct shown *shown) {
+    if (shown->op == OP_SASL) {
+        return TRUE;
+    }
     if (shown->frame->kind == ZK_CONNECT || shown->frame->kind == ZK_CONNECTED) {
         return !shown_field(shown, ZK_NAME_PASSWD);
     }
