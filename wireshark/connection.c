@@ -16,8 +16,8 @@
 /* Of TCP's conversation_completeness, whose numbers packet-tcp.c keeps to itself: the client's SYN, the server's. */
 static const guint8 began[] = {[ZK_CLIENT] = 0x01, [ZK_SERVER] = 0x02};
 
-/* No more gaps of a side are kept. Bytes in which no frame is found wait for others; of those that TCP put together, which
- * it does anew with each segment, only up to here. */
+/* No more gaps of a side are kept. Bytes in which no frame is found wait for others; of those that TCP put together,
+ * which it does anew with each segment, only up to here. */
 enum { MOST_GAPS = 256, MOST_BEFORE = 1 << 10 };
 
 /* The letters of a word that a client says in place of frames. */

@@ -239,7 +239,7 @@ static void read_fields(struct shown *shown) {
     shown->op = call ? call->op : shown->frame->kind == ZK_REQUEST ? shown->message.read.operation : 0;
 }
 
-/* Whether the bytes that weren't read may have a password or a credential; tokens of SASL, of either side, are these. */
+/* Whether the bytes that weren't read may have a password or a credential, which SASL's tokens of both sides are. */
 static gboolean has_unread_secret(const struct shown *shown) {
     if (shown->op == OP_SASL) {
         return TRUE;
