@@ -4,6 +4,7 @@ import re
 import struct
 
 from dissected import capture_of, packed, wire, zkr
+import invented
 import wanted
 
 HEADS = [zkr.Piece(side.encode(), 0, len(data := bytes.fromhex(digits)).to_bytes(4, "big") + data)
@@ -108,6 +109,16 @@ class Odd:
             for name, row in counts.items():
                 below = re.search(rf"^ {name} .*\n  (\S+) ", tree, re.M)
                 yield below and below[1] == row, f"{there} bytes, {name}: {below and below[1]}"
+
+    def test_times_of_operations_without_a_name(self):
+        """Their response times are in the statistics, in a row of their own."""
+        body = "00000002 2f61 01"
+        pieces = [piece(zkr.CLIENT, f"{xid:08x} {op} {body}") for xid, op in ((1, invented.DIGITS), (2, "00000003"),
+                                                                             (3, "000001f4"))]
+        pieces += [piece(zkr.SERVER, f"{xid:08x} 0000000000000005 fffffffa") for xid in (1, 2, 3)]
+        times = self.plugin.read(capture_of([*HEADS, *pieces]), "-q", "-z", "zookeeper,srt")
+        found = re.findall(r"^ +-?\d+ +(\w+) +(\d+) .* ([\d.]+)$", times, re.M)
+        yield found == [("exists", "1", "0.003000"), ("others", "2", "0.006000")], f"{found}"
 
     def test_a_frame_far_in_a_segment(self):
         """After a loss, a frame is found that begins at byte 1,156 of a segment of 1,448 and goes on in the next ones.

@@ -11,22 +11,29 @@
 
 #include "names.h"
 
+/* The row of an operation: those that have no name share the last one. */
+static int row_of(gint32 op) {
+    int row = op_row(op);
+    return row >= 0 ? row : op_rows();
+}
+
 static void times_init(struct register_srt *srt _U_, GArray *tables) {
     /* The sixth word would be a filter of the row's number, which is no field. */
-    srt_stat_table *table = init_srt_table("ZooKeeper", NULL, tables, op_rows(), "Operation", NULL, NULL);
+    srt_stat_table *table = init_srt_table("ZooKeeper", NULL, tables, op_rows() + 1, "Operation", NULL, NULL);
     for (int row = 0; row < op_rows(); row++) {
         init_srt_table_row(table, row, op_names[row].strptr);
     }
+    init_srt_table_row(table, op_rows(), "others");
 }
 
 static tap_packet_status times_packet(void *data, packet_info *pinfo, epan_dissect_t *dissect _U_, const void *of,
                                       tap_flags_t flags _U_) {
     const struct told *told = (const struct told *)of;
-    if (!told->call || op_row(told->op) < 0 || nstime_cmp(&pinfo->abs_ts, &told->call->when) < 0) {
+    if (!told->call || nstime_cmp(&pinfo->abs_ts, &told->call->when) < 0) {
         return TAP_PACKET_DONT_REDRAW;
     }
     srt_stat_table *table = g_array_index(((srt_data_t *)data)->srt_array, srt_stat_table *, 0);
-    add_srt_table_data(table, op_row(told->op), &told->call->when, pinfo);
+    add_srt_table_data(table, row_of(told->op), &told->call->when, pinfo);
     return TAP_PACKET_REDRAW;
 }
 
