@@ -148,3 +148,12 @@ class Odd:
                     told = self.plugin.read(capture_of(parts), *words, "-Y", "zookeeper.side", "-T", "fields", "-e",
                                             "_ws.col.Info")
                     yield told.startswith(shown), f"{data[:5]}, cut at {cuts}: {told}"
+
+    def test_a_capture_that_begins_in_disorder(self):
+        """What comes before the first captured bytes of a side was not captured before. TCP's own analysis drops it."""
+        pieces = [piece(zkr.CLIENT, f"{xid:08x} 00000003 00000002 2f61 01") for xid in range(1, 6)]
+        sent = list(wire.conversation([*HEADS, *pieces]))[5:-3]
+        found = self.plugin.frames(wire.pcap(packed([sent[at] for at in (2, 0, 1, 3, 4)])), "-o",
+                                   "tcp.analyze_sequence_numbers:FALSE")
+        shown = [each["xid"] for each in found if not each["again"]]
+        yield shown == [["3"], ["1"], ["2"], ["4"], ["5"]], f"{shown}"

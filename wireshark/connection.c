@@ -150,15 +150,19 @@ static struct gap *gap_at(const struct way *way, guint32 number) {
     return NULL;
 }
 
-/* The way goes on at this number, and not where its last frame ended. */
-static void leap(struct connection *connection, packet_info *pinfo, struct way *way, guint32 number) {
+static void add_gap(struct way *way, guint32 from, guint32 to) {
     struct gap *gap = wmem_new(wmem_file_scope(), struct gap);
-    gap->from = way->next;
-    gap->to = number;
+    gap->from = from;
+    gap->to = to;
     wmem_list_prepend(way->gaps, gap);
     if (wmem_list_count(way->gaps) > MOST_GAPS) {
         wmem_list_remove_frame(way->gaps, wmem_list_tail(way->gaps));
     }
+}
+
+/* The way goes on at this number, and not where its last frame ended. */
+static void leap(struct connection *connection, packet_info *pinfo, struct way *way, guint32 number) {
+    add_gap(way, way->next, number);
     /* If only one frame isn't whole, the next one begins after it. */
     way->sought |= way->end == way->next || way->end != number;
     way->next = way->end = number;
@@ -295,8 +299,12 @@ static struct kept *look_again(struct connection *connection, packet_info *pinfo
     return keep(connection, pinfo, piece, rest ? REST : AGAIN, MIN(known, piece->size));
 }
 
-/* What was captured before, or is in a gap. */
+/* What was captured before, or is in a gap; as what is before the first bytes of a side that begins before the capture. */
 static struct kept *look_back(struct connection *connection, packet_info *pinfo, struct piece *piece, struct way *way) {
+    if (!way->whole && (gint32)(piece->number - way->first) < 0) {
+        add_gap(way, piece->number, way->first);
+        way->first = piece->number;
+    }
     struct gap *gap = gap_at(way, piece->number);
     if (!gap) {
         return look_again(connection, pinfo, piece, way);
