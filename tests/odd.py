@@ -31,6 +31,12 @@ class Odd:
                 shown = [(each["length"], each["kind"]) for each in found[2:3]]
                 yield not trouble and shown == [([str(length)], [])], f"{length}, limit {limit}: {shown}, {trouble}"
 
+    def test_what_is_no_message_is_not_counted(self):
+        """Of a connect request, its response, and a length that no payload has, two are messages."""
+        capture = capture_of([*HEADS, piece(zkr.CLIENT, "00000001", -1)])
+        counts = re.findall(r"^Messages +(\d+) ", self.plugin.read(capture, "-q", "-z", "zookeeper,tree"), re.M)
+        yield counts == ["2"], f"{counts}"
+
     def test_letters_within_a_message(self):
         """Where a capture begins within a data of letters, the messages after it are shown."""
         text = "00000001 00000005 00000002 2f61 00001000" + "61" * 4096 + "ffffffff"

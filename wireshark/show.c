@@ -330,7 +330,9 @@ void show_frame(tvbuff_t *tvb, packet_info *pinfo, proto_tree *top, const struct
         show_fields(&shown);
     }
     show_more(&shown);
-    tell(&shown);
+    if (frame->kind) {
+        tell(&shown);
+    }
 }
 
 void show_bytes(tvbuff_t *tvb, packet_info *pinfo, proto_tree *top, enum what what, guint32 side) {
