@@ -74,6 +74,14 @@ class Odd:
                 leaks = [value for value in found if secret in value or password[:24] in value]
                 yield found and bool(leaks) != hide, f"hidden: {hide}, of packets of {snap} bytes: {leaks}"
 
+    def test_credentials_in_lines(self):
+        """A line's credential alone is hidden, whatever its scheme has; and nothing where the credential is null."""
+        for digits, shown in (("00000001 41", "(hidden)"), ("00000000", "(hidden)"), ("ffffffff", "~")):
+            scheme = b" auth=#41"
+            auth = f"fffffffc 00000064 00000000 {len(scheme):08x} {scheme.hex()} {digits}"
+            line, = self.plugin.frames(capture_of([*HEADS, piece(zkr.CLIENT, auth)]), hide=True)[2]["line"]
+            yield line == f'C -4 auth kind=0 scheme=" auth=#41" auth={shown}', line
+
     def test_times_before_1970(self):
         """A node's times are longs, which may be negative."""
         stat = "0000000000000001 0000000000000002 {:016x} {:016x}" + "00000000" * 9

@@ -53,9 +53,9 @@ static const char *line_of(const struct shown *shown) {
     if (shown->frame->kind == ZK_CONNECT || shown->frame->kind == ZK_CONNECTED) {
         secret = strstr(line, " passwd=#");
     } else if (shown->frame->kind == ZK_REQUEST && shown->op == OP_AUTH) {
-        secret = g_strrstr(line, " auth=#"); /* the last item, which has no blank */
+        secret = strrchr(line, ' '); /* the last item, which has no blank */
     }
-    if (!secret || !pref_hide) {
+    if (!secret || !strchr(secret, '#') || !pref_hide) {
         return line;
     }
     int before = (int)(strchr(secret, '#') - line);
