@@ -99,7 +99,7 @@ class Plugin:
     def trouble(self, out=""):
         """What is wrong with the last run, or nothing."""
         found = [word for word in BAD if word in self.said or word in out]
-        if self.status not in (0, 2) or found:
+        if self.status != 0 or found:
             return f"status {self.status}, {found}: {self.said[-300:]}"
         return ""
 
