@@ -6,6 +6,7 @@
 
 An INPUT is a capture of tcpdump or Wireshark, a recording, or a listing of one, also as the lines of zkjson; a capture
 has any number of connections. Captures have times; recordings have them within (ZKR2) or beside (RECORDING.times).
+They are read by the newest profile and the greatest limit, or by what the head of a ZKR2 recording says.
 
 -o writes one page that needs no other file and no network: the sessions in time, the latency of requests, and tables,
 each row of which leads to the messages around it. --text writes the tables to standard output. --trace writes the
