@@ -79,8 +79,9 @@ class Odd:
         for digits, shown in (("00000001 41", "(hidden)"), ("00000000", "(hidden)"), ("ffffffff", "~")):
             scheme = b" auth=#41"
             auth = f"fffffffc 00000064 00000000 {len(scheme):08x} {scheme.hex()} {digits}"
-            line, = self.plugin.frames(capture_of([*HEADS, piece(zkr.CLIENT, auth)]), hide=True)[2]["line"]
-            yield line == f'C -4 auth kind=0 scheme=" auth=#41" auth={shown}', line
+            found = self.plugin.frames(capture_of([*HEADS, piece(zkr.CLIENT, auth)]), hide=True)
+            lines = [line for each in found[2:] for line in each["line"]]
+            yield lines == [f'C -4 auth kind=0 scheme=" auth=#41" auth={shown}'], f"{lines}"
 
     def test_times_before_1970(self):
         """A node's times are longs, which may be negative."""
