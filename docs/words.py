@@ -134,7 +134,7 @@ def lost(path, text):
             yield f"{name_of(path)}: the link {name} to {target} leads nowhere"
     for name in PATH.findall(text):
         is_there = (TOP / name).exists() or (path.parent / name).exists()
-        if not is_there and not (MADE | ANY_NAME) & set(re.split(r"[/.]", name)):
+        if not is_there and MADE.isdisjoint(name.split("/")) and ANY_NAME.isdisjoint(re.split(r"[/.]", name)):
             yield f"{name_of(path)}: there is no {name}"
 
 

@@ -33,10 +33,12 @@ class Clauses(ToolCase):
 
 class Paths(ToolCase):
     def test_a_path_that_is_not_there_is_named(self):
-        page = ("`tests/devices.py`, `tests/device.py`, `docs/*.py`, `tools/NAME.py`, `tests/golden`, `bin/zkdump`, "
-                "`crates/CRATE/must-fail/NAME.edit`, `crates/zk_c/out/libzk_c.a`, `crates/zk_gone/src`")
+        page = ("`tests/devices.py`, `tests/device.py`, `tools/build.py`, `docs/*.py`, `tools/NAME.py`, "
+                "`tests/golden`, `bin/zkdump`, `crates/CRATE/must-fail/NAME.edit`, `crates/zk_c/out/libzk_c.a`, "
+                "`crates/zk_gone/src`")
         self.assertEqual([*words.lost(TOP / "wireshark" / "README.md", page)], [
-            "wireshark/README.md: there is no tests/device.py", "wireshark/README.md: there is no crates/zk_gone/src"])
+            f"wireshark/README.md: there is no {name}" for name in (
+                "tests/device.py", "tools/build.py", "crates/zk_gone/src")])
 
 
 class Definitions(ToolCase):
