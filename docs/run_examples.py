@@ -166,7 +166,7 @@ class Folder:
             process = self.begin(["sh", "-c", command], output, stderr=output)
             try:
                 if listens:
-                    self.play(ports[listens[0]], example.played, process)
+                    self.play(ports[listens[0]], example.played, process, SERVER in example.command)
                 process.wait(self.seconds)
             except subprocess.TimeoutExpired:
                 return None, None
@@ -176,15 +176,15 @@ class Folder:
             found = re.sub(rf"\b{free}\b", port, found)
         return found.splitlines(), process.returncode
 
-    def play(self, port, played, process):
-        """Plays a client to the command that listens on this port, once it does, and then ends it."""
+    def play(self, port, played, process, goes_on):
+        """Plays a client to the command that listens on this port, once it does, and then ends it where it goes on."""
         until = time.monotonic() + self.seconds
         refused = 3
         while refused == 3 and process.poll() is None and time.monotonic() < until:
             refused = self.begin([PLAYER, "--client", f"127.0.0.1:{port}", played], subprocess.DEVNULL,
                                  stderr=subprocess.DEVNULL).wait(self.seconds)
         try:
-            process.wait(1)
+            process.wait(1 if goes_on else self.seconds)
         except subprocess.TimeoutExpired:
             process.send_signal(signal.SIGINT)
 

@@ -57,6 +57,7 @@ class RunExamples(ToolCase):
         self.assert_counts("    $ test -f no\n", 0, 1)
         played = "tools/zkplay.py 2181 crates/zkdump/stdin"
         self.assert_counts(LISTENS.replace(played, f"sh -c '{played}; exit 2'"), 0, 1)
+        self.assert_counts(LISTENS.replace(played, f"sh -c '{played}; sleep 2'"), 1, 0)
 
     def test_what_is_marked_is_reported_and_what_is_not_fails(self):
         status, out = self.run_page(MARKED)
