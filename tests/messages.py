@@ -144,7 +144,7 @@ def compare_recording(caller, content, cut, count):
 
 
 def compare_passage(caller, content, is_whole):
-    """Which of the client's frames each reply of a passage answers, and which should; whether it is refused."""
+    """Which of the client's frames each reply of a passage answers, and which should. A whole one isn't refused."""
     handle, library = caller.talk.Handle(), caller.library
     came, lanes = [bytearray(), bytearray()], Lanes()
     yield library.zk_through_new(handle, 1 << 22, 1 << 22, 1 << 16, 34), 0
