@@ -145,8 +145,8 @@ def reasons(*head):
     """The line and the name of each number of a reason in a table of docs/REASONS.md; where the table has no numbers, of
     each place in it."""
     for place, (line, cells) in enumerate(formats.rows(*head, page=TOP / "docs" / "REASONS.md"), 1):
-        number, name = cells[:2] if head[0] == "Number" else (place, cells[0])
-        yield int(number), (line, name)
+        number, name = cells[:2] if head[0] == "Number" else (str(place), cells[0])
+        yield int(number) if number.isdecimal() else number, (line, name)
 
 
 def compare_faults(head, *enum):

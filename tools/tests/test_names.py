@@ -2,6 +2,7 @@
 
 import re
 import shutil
+import signal
 import subprocess
 import sys
 
@@ -79,6 +80,8 @@ COMPARED = (
      ("docs/FORMATS.md:{line}: the sources have no operation gone",)),
     ("docs/REASONS.md", "| 9 | BadPart |", "| 9 | NoPart |",
      ("docs/REASONS.md:{line}: 9 is NoPart, and in the sources BadPart",)),
+    ("docs/REASONS.md", "| 9 | BadPart |", "| nine | BadPart |",
+     ("docs/REASONS.md: no row of 9 BadPart", "docs/REASONS.md:{line}: nine is BadPart, and in the sources nothing")),
     ("docs/REASONS.md", "| BadSide |", "| NoSide |",
      ("docs/REASONS.md:{line}: 3 is NoSide, and in the sources BadSide",)),
     ("docs/REASONS.md", "| 8 | Ending |", "| 9 | Ending |",
@@ -187,7 +190,8 @@ class Names(ToolCase):
             (shutil.copytree if (TOP / name).is_dir() else shutil.copy)(TOP / name, to)
 
     def run_names(self, word):
-        """The status and the lines of docs/names.py."""
+        """The status and the lines of docs/names.py. Each run has a minute, as a test has many."""
+        signal.alarm(60)
         done = subprocess.run([sys.executable, self.folder / "docs" / "names.py", word], capture_output=True, text=True,
                               check=False)
         self.assertEqual(done.stderr, "")
