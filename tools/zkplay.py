@@ -52,6 +52,17 @@ def clients(listeners, count):
         listener.close()
 
 
+def servers(address, count):
+    """`count` connections to a server with its addresses, one after the other."""
+    for _ in range(count):
+        connection = addresses.connected(address)
+        try:
+            peer = connection.getpeername()
+        except OSError:     # it has reset the connection already
+            peer = address
+        yield connection, peer
+
+
 def opener(parser, path, words):
     """A function that opens the recording at this path, or the one that is made of a listing there."""
     with open(path, "rb", buffering=0) as file:
@@ -204,7 +215,7 @@ def main():
     zkr.allow_many_files()
     bench = Bench([(path, opener(parser, path, words)) for path in words.recordings], words)
     if words.client:
-        return bench.run((addresses.connected(words.address), words.address) for _ in range(words.connections))
+        return bench.run(servers(words.address, words.connections))
     listeners = addresses.listen(words.address)
     print(f"listening on {addresses.address_text(listeners[0].getsockname())}", flush=True)
     return bench.run(clients(listeners, words.connections))

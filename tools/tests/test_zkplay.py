@@ -151,7 +151,7 @@ class Zkplay(ToolCase):
         for place, told in ((16, ""), (17, "zkplay.py: the server's bytes ended before frame=1 place=17, so no fault "
                                            "was made there: choose an earlier place\n")):
             for option in ("--cut-at", "--reset-at"):
-                player, address = self.play(path, option, f"1:{place}", "--wait", "1")
+                player, address = self.play(path, option, f"1:{place}")
                 with socket.create_connection(address, SECONDS) as client:
                     client.sendall(sides(RUN.read_bytes())[0])
                     with contextlib.suppress(ConnectionResetError):
@@ -232,6 +232,14 @@ class Zkplay(ToolCase):
                 self.assertEqual(self.ended(player)[0], status)
             found = json.loads((self.folder / f"r-{number}.facts.json").read_text())
             self.assertEqual({name: found[name] for name in ("closed", "reset", "open") if name in found}, end)
+
+    def test_the_facts_have_the_address_of_the_server(self):
+        """Of a host with a name that is the one which it has there."""
+        player, address = self.play(RUN)
+        client, _ = self.play(RUN, "--client", "--record", self.folder / "r", address=f"127.1:{address[1]}")
+        self.assertEqual([self.ended(each)[0] for each in (client, player)], [0, 0])
+        found = json.loads((self.folder / "r-1.facts.json").read_text())
+        self.assertEqual(found["server"], f"127.0.0.1:{address[1]}")
 
     def test_pings_before_a_frame_that_was_recorded_in_parts(self):
         for size in (1, 3, 4):
