@@ -178,11 +178,6 @@ class Run:
                 reading(made.connection).left(made)
             silent = [known for known in talk.connections() if known not in readings] if chosen.all else []
         self.untimed += chosen.take_untimed()
-        if source.has_objects:
-            self.whole = whole
-            for each in readings.values():
-                each.connection.take_facts(self.parts)
-                self.place(each.connection)
         if chosen.all and not readings:
             silent = silent or [None]
         for known in silent:
@@ -191,6 +186,11 @@ class Run:
             found.is_silent = True
             if self.silent > MOST_SILENT:
                 self.connections.pop()
+        if source.has_objects and readings:
+            self.whole = whole
+            for each in readings.values():
+                each.connection.take_facts(self.parts)
+                self.place(each.connection)
         for each in readings.values():
             each.end()
 

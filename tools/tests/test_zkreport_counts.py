@@ -74,6 +74,19 @@ class Counts(ToolCase):
         self.assertEqual((session.split()[2], session.split()[8:10]), ("2", ["0.039", "s"]))
         self.assertEqual(self.report("--jobs", 2, path, status=1), found)
 
+    def test_facts_of_a_connection_without_a_message(self):
+        """Its ending alone, in the lines of zkjson, says when it was and who ended it."""
+        known = {"server": "10.0.0.2:2181", "begun": report_lines.T, "ended": report_lines.T + 20, "closed": "S"}
+        endings = ({"connection": "a", "ending": "whole", "unanswered": 0, "facts": known},
+                   {"connection": "b", "ending": "whole", "unanswered": 0})
+        path = self.listing("a.json", *map(json.dumps, endings))
+        found = self.report(path)
+        self.assertRegex(found, "^2 connections, 0 sessions, 0 messages, ")
+        self.assertEqual([" ".join(line.split()) for line in self.table(found, "Connections")], [
+            "#1 - a 10.0.0.2:2181 2023-11-14T22:13:20.000Z 0.02 s 0 0 0 0 server: FIN whole",
+            "#2 - b - - - 0 0 0 0 not recorded whole"])
+        self.assertEqual(self.report("--jobs", 2, path), found)
+
     def test_long_latencies_and_connections(self):
         """They are exact: 12,345.678 ms, 2,345,678.901 ms, and 100,000.123 s from the first message to the last."""
         lines = report_lines.Lines()
