@@ -130,7 +130,7 @@ function drawBar(plot, { number, span }, to, top, high, marks) {
 function endOf(each) {
   if (each.hole) return "hole";
   if (each.closed.startsWith("client: closeSession")) return "closed";
-  if (/: (reset|E[A-Z]+$)/.test(each.closed) || each.refused) return "reset";
+  if (/: (reset|lost|E[A-Z]+)$/.test(each.closed) || each.refused) return "reset";
   return /^(open|not)/.test(each.closed) ? "still" : "closed";
 }
 

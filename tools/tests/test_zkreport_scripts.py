@@ -19,6 +19,13 @@ class Scripts(ToolCase):
                 "  each => cellText(\"ms\", each))));")
         self.assertEqual(self.of_script(code), ["0.001", "1.25", "12345.678", "123456.7", "1000000000", "–"])
 
+    def test_how_a_connection_ended(self):
+        """By an error with a name or without one as by a reset, whatever else has such a word."""
+        code = (f"{(TOOLS / 'report' / 'sessions.js').read_text('utf-8')}\n"
+                "console.log(JSON.stringify(['client: reset', 'server: lost', 'server: ETIMEDOUT', 'server: FIN',\n"
+                "  'open at the end', 'not recorded', 'client: closeSession'].map(closed => endOf({ closed }))));")
+        self.assertEqual(self.of_script(code), [*["reset"] * 3, "closed", "still", "still", "closed"])
+
     def of_page(self, code, *inputs):
         """What a script prints that comes after those that know the data of the page of these files."""
         path = self.folder / "a.html"
