@@ -10,6 +10,7 @@ import listing
 import zkr
 
 MILLISECONDS = re.compile(r"\d{1,15}", re.ASCII)
+MICROSECONDS = re.compile(r"[.,]\d{6}", re.ASCII)
 LATENCY = re.compile(r"\d{1,15}(?:\.\d{1,9})?", re.ASCII)
 SESSION = re.compile(r"0x[0-9A-Fa-f]{1,16}|\d{1,20}", re.ASCII)
 OPERATIONS = (*forms.REQUESTS, listing.EVENT)
@@ -35,9 +36,10 @@ def begin(text):
 
 
 def end(text):
-    """Where the times up to this one end, in milliseconds since 1970: a whole millisecond with all that is in it."""
+    """Where the times up to this one end, in milliseconds since 1970: one without microseconds with all that are in its
+    millisecond."""
     found = microseconds(text)
-    return (found + (1 if found % 1000 else 1000)) / 1000
+    return (found + (1 if found % 1000 or MICROSECONDS.search(text) else 1000)) / 1000
 
 
 def latency(text):

@@ -39,6 +39,7 @@ class Choices(ToolCase):
         for words, chosen in ((["--from", f"{second}.000500Z"], [3, 4, 5]), (["--to", f"{second}.000500Z"], [1, 2, 3]),
                               (["--from", f"{second}.000401Z", "--to", f"{second}.000501Z"], [3, 4]),
                               (["--to", f"{second}.000Z"], [1, 2, 3, 4]), (["--to", f"{second}Z"], [1, 2, 3, 4]),
+                              (["--to", f"{second}.000000Z"], [1]), (["--to", f"{second}.001000Z"], [1, 2, 3, 4, 5]),
                               (["--to", str(ASKED)], [1, 2, 3, 4]), (["--to", f"{second}.001Z"], [1, 2, 3, 4, 5]),
                               (["--from", f"{second}.001Z"], [5]), (["--from", str(ASKED + 1)], [5]),
                               (["--from", str(ASKED)], [1, 2, 3, 4, 5])):
