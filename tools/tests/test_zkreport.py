@@ -234,18 +234,18 @@ class Zkreport(ToolCase):
         here = self.listing("here.show", LISTING.format(**HERE))
         changed = LISTING.format(**THERE)
         for old, new, kind, one, two in (
-                ("(90,90,2000,2000,1,", "(90,90,2000,2000,2,", "reply",
+                ("(90,90,2000,2000,1,", "(90,90,2000,2000,2,", "a reply",
                  'exists stat=(1,0,0,owner,3,0)', 'exists stat=(2,0,0,owner,3,0)'),
-                ("8 exists path=\"/a\"", "8 exists path=\"/b\"", "request",
+                ("8 exists path=\"/a\"", "8 exists path=\"/b\"", "a request",
                  'exists path="/a" watch=0', 'exists path="/b" watch=0'),
-                ("(1,2,3,4,5", "(1,2,3,4,6", "request", None, None),
-                ("kind=1/NodeCreated", "kind=2/NodeDeleted", "event", None, None),
-                (" flags=1", " flags=3", "request", None, None)):
+                ("(1,2,3,4,5", "(1,2,3,4,6", "a request", None, None),
+                ("kind=1/NodeCreated", "kind=2/NodeDeleted", "an event", None, None),
+                (" flags=1", " flags=3", "a request", None, None)):
             self.assertIn(old, changed)
             there = self.listing("there.show", changed.replace(old, new))
             with self.subTest(new=new):
                 found = self.report("--text", here, "--against", there, status=1)
-                self.assertRegex(found, rf"\nthe first difference is an? {kind} of connection #1, after \d exchanges ")
+                self.assertRegex(found, rf"\nthe first difference is {kind} of connection #1, after \d exchanges ")
                 if one:
                     self.assertIn(f": {one}\n", found)
                     self.assertIn(f": {two}\n", found)
