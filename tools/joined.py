@@ -188,7 +188,8 @@ class Known:
         if asked is None:
             asked = listing.Message(self.connection, of, "C", message.xid, message.op, path_of(made, "asked"), None)
             if message.moment is not None and message.microseconds is not None:
-                asked.moment = message.moment - message.microseconds / 1000
+                # (to the microsecond, as times are)
+                asked.moment = round(message.moment - message.microseconds / 1000, 3)
         elif message.microseconds is None and None not in (message.moment, asked.moment):
             self.connection.backwards += message.moment < asked.moment
         return asked

@@ -48,6 +48,16 @@ class Choices(ToolCase):
                 self.assertEqual((status, err), (0, ""))
                 self.assertEqual([each["n"] for each in json.loads(out)["unanswered"]], chosen)
 
+    def test_the_time_of_a_request_that_is_not_there(self):
+        """It is that of the reply less the latency, of which the microseconds are no binary fractions."""
+        path, millisecond = self.folder / "a.json", "2026-11-22T07:30:33.000"
+        path.write_text(json.dumps({"n": 2, "side": "S", "xid": 1, "op": "sync", "zxid": "0x5", "path": "/a",
+                                    "at": ASKED + 0.014, "ms": 0.006, "of": 1, "asked": "/a"}) + "\n")
+        for begin, end, chosen in (("008", "008", 1), ("000", "007", 0), ("009", "999", 0)):
+            status, out, err = self.run_tool("zkstat.py", "--json", "--from", f"{millisecond}{begin}Z", "--to",
+                                             f"{millisecond}{end}Z", path)
+            self.assertEqual((status, err, len(json.loads(out)["slowest"])), (0, "", chosen), begin)
+
     def test_a_session_of_more_than_64_bits(self):
         """2 ** 64 + 7 is no session, least of all 0x7."""
         for session in (str(2 ** 64 + 7), str(2 ** 64)):
