@@ -13,7 +13,7 @@ class Trace:
     """A trace that is written to a new file, as it is given what happens."""
 
     def __init__(self, out):
-        self.out, self.ids, self.sessions = out, 0, {}
+        self.out, self.ids, self.sessions, self.places = out, 0, {}, {}
         self.out.waiting += b'{"displayTimeUnit":"ms","traceEvents":[\n'
         self.before = b""
         self.events = 0
@@ -51,10 +51,13 @@ class Trace:
                  **self.place(connection))
 
     def place(self, connection):
-        """The process and the thread of a connection."""
-        session = connection.session_id()
-        process = self.sessions.setdefault(session or (connection.first or connection).number, len(self.sessions) + 1)
-        return {"pid": process, "tid": connection.number + 1}
+        """The process and the thread of a connection: of all its messages those of the first, since in lines of zkjson
+        it may be the ending that has the session."""
+        if connection not in self.places:
+            session = connection.session_id() or (connection.first or connection).number
+            process = self.sessions.setdefault(session, len(self.sessions) + 1)
+            self.places[connection] = {"pid": process, "tid": connection.number + 1}
+        return self.places[connection]
 
     def end(self, connection):
         """Takes the end of a connection, once all its messages are taken."""

@@ -1,4 +1,4 @@
-"""Tests of what zkreport counts: of more watches than it keeps, and of connections of which a part is chosen."""
+"""Tests of what zkreport counts, of what it says of a connection, and of runs that it compares."""
 
 import json
 import struct
@@ -86,6 +86,18 @@ class Counts(ToolCase):
             "#1 - a 10.0.0.2:2181 2023-11-14T22:13:20.000Z 0.02 s 0 0 0 0 server: FIN whole",
             "#2 - b - - - 0 0 0 0 not recorded whole"])
         self.assertEqual(self.report("--jobs", 2, path), found)
+
+    def test_a_trace_has_all_of_a_connection_in_one_process(self):
+        """Also where its session comes with its ending alone."""
+        lines = report_lines.Lines()
+        lines.ask(50, "sync", 1, path="/a")
+        lines.answer(51, 1, zxid="0x1", path="/a")
+        path = lines.write(self.folder / "a.json", ending="whole", unanswered=0, facts={"session": "0x7"})
+        trace = self.folder / "a.trace"
+        self.assertEqual(self.run_inside("zkreport.py", "--trace", trace, path), (0, "", ""))
+        events = json.loads(trace.read_text())["traceEvents"]
+        self.assertEqual({(each["pid"], each["tid"]) for each in events}, {(1, 1)})
+        self.assertIn({"name": "session 0x7"}, [each["args"] for each in events if each["ph"] == "M"])
 
     def test_long_latencies_and_connections(self):
         """They are exact: 12,345.678 ms, 2,345,678.901 ms, and 100,000.123 s from the first message to the last."""
