@@ -102,9 +102,9 @@ int main(int count, char **words) {
     unsigned long port = strtoul(word, &end, 10);
     if (count > 2) return failed("usage: server [PORT]");
     if (!isdigit((unsigned char)*word) || *end != 0 || port > UINT16_MAX) return failed("PORT is no number up to 65535");
-    if (zk_talk_new(&talk, LIMIT, LIMIT, WAITING, ZK_PROFILE_34) != ZK_WELL) return failed("out of memory");
     int client = first_client(port);
     if (client < 0) return failed(ferror(stdout) ? "standard output can't be written" : strerror(errno));
+    if (zk_talk_new(&talk, LIMIT, LIMIT, WAITING, ZK_PROFILE_34) != ZK_WELL) return failed("out of memory");
     ssize_t came = 0;
     bool good = true;
     while (good && (came = recv(client, bytes, sizeof bytes, 0)) > 0) good = serve(&talk, client, bytes, (size_t)came);
