@@ -4,8 +4,8 @@
     install.py [--destdir FOLDER] [--prefix PREFIX] [--libdir LIB] [--remove]
 
 PREFIX is /usr/local if no other is named, and LIB is a folder below it, lib if no other is named. LIB may have PREFIX
-before it. Everything goes below FOLDER, for whoever makes a package. The program has to be built. Any other part that can't be made is left out, which
-is reported. The same arguments with --remove take away what was installed.
+before it. Everything goes below FOLDER, for whoever makes a package. The program has to be built. Any other part that
+can't be made is left out, which is reported. The same arguments with --remove take away what was installed.
 """
 
 import argparse

@@ -40,7 +40,7 @@ find_package(zk REQUIRED)
 foreach(name zk static)
     get_target_property(library zk::${name} IMPORTED_LOCATION)
     get_target_property(header zk::${name} INTERFACE_INCLUDE_DIRECTORIES)
-    message(STATUS "${library} ${header}")
+    message(STATUS "zk ${library} ${header}")
 endforeach()
 """
 
@@ -83,7 +83,7 @@ class Place(ToolCase):
         """What CMake says of zk."""
         done = subprocess.run(["cmake", f"-DCMAKE_PREFIX_PATH={self.place};{self.place / 'usr'}", "-B", "made"],
                               cwd=self.folder, text=True, capture_output=True, check=False)
-        return [line for line in (done.stdout + done.stderr).splitlines() if "zk" in line]
+        return [line for line in (done.stdout + done.stderr).splitlines() if line.startswith("-- zk ")]
 
     def test_the_folder_of_the_libraries(self):
         for libdir, wanted in (("lib64", "lib64"), ("lib/x86_64-linux-gnu/", "lib/x86_64-linux-gnu"),
@@ -137,9 +137,9 @@ class Place(ToolCase):
         status, said, _ = self.install("--prefix", "/usr")
         self.assertEqual(status, 0, said)
         (self.folder / "CMakeLists.txt").write_text(FOUND)
-        usr = self.place / "usr"
-        self.assertEqual(self.configured(), [f"-- {usr}/lib/libzk.so.1 {usr}/include",
-                                             f"-- {usr}/lib/libzk.a {usr}/include"])
+        usr = (self.place / "usr").resolve()
+        self.assertEqual(self.configured(), [f"-- zk {usr}/lib/libzk.so.1 {usr}/include",
+                                             f"-- zk {usr}/lib/libzk.a {usr}/include"])
 
     @unittest.skipUnless(shutil.which("cmake"), "there is no cmake")
     def test_the_versions_that_cmake_takes(self):
