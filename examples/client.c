@@ -10,6 +10,7 @@
 #define _POSIX_C_SOURCE 200809L
 #include "zk.h"
 
+#include <ctype.h>
 #include <errno.h>
 #include <inttypes.h>
 #include <netdb.h>
@@ -293,7 +294,7 @@ static void measure_sessions(const char *host, const char *port, long rounds) {
 int main(int given, char **words) {
     char *rest = NULL;
     long rounds = given == 6 ? strtol(words[5], &rest, 10) : 0;
-    if ((given != 5 && given != 6) || (rest != NULL && *rest != 0) || rounds < 0)
+    if ((given != 5 && given != 6) || (rest != NULL && (!isdigit((unsigned char)*words[5]) || *rest != 0)))
         fail(2, "usage: client SERVER PORT PATH DATA [ROUNDS]");
     struct zk_read read = begin(words[1], words[2]);
     printf("connected: time_out=%" PRId64 "\n", field(&read, ZK_NAME_TIME_OUT)->number);

@@ -278,7 +278,8 @@ def complain(programs):
         ("server", ["1", "2"], "server: usage: server [PORT]"),
         *(("server", [port], "server: PORT is no number up to 65535") for port in ("65536", "-1", "2181x", "")),
         ("client", ["127.0.0.1", "65536", "/a", ""], "client: PORT is above 65535"),
-        ("client", ["127.0.0.1", "1", "/a", "", "20x"], "client: usage: client SERVER PORT PATH DATA [ROUNDS]"),
+        *(("client", ["127.0.0.1", "1", "/a", "", rounds], "client: usage: client SERVER PORT PATH DATA [ROUNDS]")
+          for rounds in ("20x", "-1", "")),
         ("proxy", ["0"], "proxy: usage: proxy PORT SERVER SERVERPORT"),
         ("proxy", ["65536", "127.0.0.1", "1"], "proxy: 65536: no port"),
         ("proxy", ["x", "127.0.0.1", "1"], "proxy: x: no port"),
