@@ -211,7 +211,7 @@ def is_silent(end):
     end.settimeout(0.3)
     try:
         return end.recv(1) is None
-    except TimeoutError:
+    except socket.timeout:  # which is a TimeoutError since Python 3.10
         return True
     finally:
         end.settimeout(PATIENCE)
