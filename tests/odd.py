@@ -172,3 +172,25 @@ class Odd:
                                    "tcp.analyze_sequence_numbers:FALSE")
         shown = [each["xid"] for each in found if not each["again"]]
         yield shown == [["3"], ["1"], ["2"], ["4"], ["5"]], f"{shown}"
+
+    def test_bytes_before_the_first_captured_ones(self):
+        """In them no frame is known to begin, though later frames follow one another: the second and third segment of a
+        frame of four come after its last one, and after a reply."""
+        pieces = [piece(zkr.CLIENT, "00000001 00000005 00000002 2f61 00001388" + "61" * 5000 + "ffffffff")]
+        for xid in range(1, 4):
+            pieces += [piece(zkr.SERVER, f"{xid:08x} 0000000000000005 ffffff9b"),
+                       piece(zkr.CLIENT, f"{xid + 1:08x} 00000003 00000002 2f61 01")]
+        sent = list(wire.conversation([*HEADS, *pieces]))
+        found = self.plugin.frames(wire.pcap(packed(sent[8:12] + sent[6:8] + sent[12:-3])), "-o",
+                                   "tcp.analyze_sequence_numbers:FALSE")
+        shown = [each["xid"] for each in found if each["length"]]
+        yield shown == [["1"], ["2"], ["2"], ["3"], ["3"], ["4"]], f"{shown}"
+
+    def test_more_than_two_gigabytes(self):
+        """Of a capture that lacks most of a connection: the last bytes are 3 GB after the first, and captured twice."""
+        pieces = [piece(zkr.CLIENT, f"{xid:08x} 00000003 00000002 2f61 01") for xid in range(1, 6)]
+        sent = [each._replace(number=each.number + at // 2 * 1_500_000_000)
+                for at, each in enumerate(list(wire.conversation([*HEADS, *pieces]))[5:-3])]
+        found = self.plugin.frames(wire.pcap(packed([*sent, sent[-1]])), "-o", "tcp.analyze_sequence_numbers:FALSE")
+        shown = [(each["xid"], len(each["again"])) for each in found]
+        yield shown == [(["1"], 0), (["2"], 0), (["3"], 0), (["4"], 0), (["5"], 0), ([], 1)], f"{shown}"

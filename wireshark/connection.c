@@ -150,10 +150,9 @@ static struct gap *gap_at(const struct way *way, guint32 number) {
     return NULL;
 }
 
-static void add_gap(struct way *way, guint32 from, guint32 to) {
+static void add_gap(struct way *way, guint32 from, guint32 to, gboolean unsure) {
     struct gap *gap = wmem_new(wmem_file_scope(), struct gap);
-    gap->from = from;
-    gap->to = to;
+    *gap = (struct gap){from, to, unsure};
     wmem_list_prepend(way->gaps, gap);
     if (wmem_list_count(way->gaps) > MOST_GAPS) {
         wmem_list_remove_frame(way->gaps, wmem_list_tail(way->gaps));
@@ -162,7 +161,7 @@ static void add_gap(struct way *way, guint32 from, guint32 to) {
 
 /* The way goes on at this number, and not where its last frame ended. */
 static void leap(struct connection *connection, packet_info *pinfo, struct way *way, guint32 number) {
-    add_gap(way, way->next, number);
+    add_gap(way, way->next, number, FALSE);
     /* If only one frame isn't whole, the next one begins after it. */
     way->sought |= way->end == way->next || way->end != number;
     way->next = way->end = number;
@@ -265,10 +264,11 @@ static struct kept *look_at_frame(struct connection *connection, packet_info *pi
     return kept;
 }
 
-/* What is where a frame may begin; `place` is where the next one does. */
+/* What is where a frame may begin; `place` is where the next one does. `gap`: the bytes are in it, NULL: in none. */
 static struct kept *look(struct connection *connection, packet_info *pinfo, const struct piece *piece, struct way *way,
-                         guint32 *place, gboolean filling) {
-    if (!way->sure && !is_first(way, piece) &&
+                         guint32 *place, const struct gap *gap) {
+    gboolean filling = gap != NULL, sure = way->sure && !(gap && gap->unsure);
+    if (!sure && !is_first(way, piece) &&
         !frame_is_plausible(piece->side, piece->bytes, piece->there, pref_limit)) {
         struct kept *kept = look_unsure(connection, pinfo, piece, way, place, filling);
         if (kept) {
@@ -299,10 +299,11 @@ static struct kept *look_again(struct connection *connection, packet_info *pinfo
     return keep(connection, pinfo, piece, rest ? REST : AGAIN, MIN(known, piece->size));
 }
 
-/* What was captured before, or is in a gap; as what is before the first bytes of a side that begins before the capture. */
+/* What was captured before, or is in a gap. So are the bytes before the first ones of a side that begins before the
+ * capture; all that was captured is between these and `next`. */
 static struct kept *look_back(struct connection *connection, packet_info *pinfo, struct piece *piece, struct way *way) {
-    if (!way->whole && (gint32)(piece->number - way->first) < 0) {
-        add_gap(way, piece->number, way->first);
+    if (!way->whole && piece->number - way->first >= way->next - way->first) {
+        add_gap(way, piece->number, way->first, TRUE);
         way->first = piece->number;
     }
     struct gap *gap = gap_at(way, piece->number);
@@ -320,7 +321,7 @@ static struct kept *look_back(struct connection *connection, packet_info *pinfo,
         piece->size = most;
         piece->there = MIN(piece->there, most);
     }
-    struct kept *kept = look(connection, pinfo, piece, way, &gap->from, TRUE);
+    struct kept *kept = look(connection, pinfo, piece, way, &gap->from, gap);
     if ((gint32)(gap->from - gap->to) >= 0) {
         wmem_list_remove(way->gaps, gap);
     }
@@ -358,7 +359,7 @@ const struct kept *kept_of(struct connection *connection, packet_info *pinfo, co
             return kept;
         }
     }
-    struct kept *kept = look(connection, pinfo, &piece, way, &way->next, FALSE);
+    struct kept *kept = look(connection, pinfo, &piece, way, &way->next, NULL);
     if (kept->what != MORE) {
         way->end = way->next;
     }

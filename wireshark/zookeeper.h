@@ -69,12 +69,13 @@ struct kept {
 /* Bytes of a side that weren't captured when those after them were. */
 struct gap {
     guint32 from, to;
+    gboolean unsure;         /* no frame is known to begin at `from` */
 };
 
 struct way {
-    gboolean begun, whole;   /* whole: the place of its first byte is known, `first` */
+    gboolean begun, whole;   /* whole: the place of its first byte is known */
     gboolean sure, sought;   /* frames are known to begin at `next`; they have to be found first */
-    guint32 first;
+    guint32 first;           /* that place, or that of the first byte that was captured */
     guint32 next, end;       /* after the last frame; after the one that begins there, if that is known */
     guint32 since;           /* since this packet frames follow one another */
     struct gap rest;         /* a frame that isn't whole where its front was captured */
