@@ -98,7 +98,7 @@ mod zk {
         if line.status != 0 {
             return Err(line.status);
         }
-        // The call has written these bytes of the room, which has no other ones: they would cost time.
+        // The call has written these bytes. The rest of the room is never filled, which would cost time.
         unsafe { text.set_len(line.length.min(text.capacity())) };
         Ok(())
     }

@@ -47,7 +47,7 @@ def commands():
 
 
 def is_made_or_test(name):
-    """Whether a file or folder of this name is one that a tool has made, of which git says nothing, or has tests."""
+    """Whether a file or folder of this name is made by a tool, or has tests."""
     return (name in ("tests", "__pycache__", "out", "target", "build") or name.startswith(".")
             or name.endswith((".egg-info", ".log")))
 

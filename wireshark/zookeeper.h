@@ -104,7 +104,7 @@ struct connection {
     struct judge judge;
     guint32 refused;         /* in this packet; 0: nowhere */
     wmem_map_t *waiting;     /* by xid, a queue */
-    struct calls calls, passed; /* of those with xids of their own, and of them those that were passed */
+    struct calls calls, passed; /* that wait, with xids of their own: those that weren't passed, and those that were */
     wmem_map_t *early;       /* by xid, a reply that was captured before its request */
     wmem_map_t *kept;
 };

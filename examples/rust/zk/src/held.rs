@@ -272,7 +272,7 @@ pub(crate) fn written(
         line = write(text.as_mut_ptr(), text.capacity());
     }
     well(line.status, 0)?;
-    // The call has written these bytes of the room, which has no other ones: they would cost time.
+    // The call has written these bytes. The rest of the room is never filled, which would cost time.
     unsafe { text.set_len(line.length.min(text.capacity())) };
     Ok(())
 }
