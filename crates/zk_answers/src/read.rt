@@ -14,7 +14,7 @@ use crate::frame::ServerFrame;
 use std::alloc::Global;
 use zk_asks::Asked;
 use zk_jute::{ItemFault, int_at, long_at};
-use zk_records::{Own, ReplyHeader};
+use zk_records::{ReplyHeader, copied};
 
 /// The header that `payload`, a reply or an event, begins with (`ReplyHeader`, 16 bytes). Nothing is allocated.
 pub fn reply_head(payload: &[u8]) -> Result<ReplyHeader, ItemFault>
@@ -44,7 +44,7 @@ pub fn read_connected(alloc: Global, payload: &[u8]) -> Result<ServerFrame, Item
     // Else the first case that applies is reported, unless memory is refused.
     ensures fault { IfErr result (λ e. IsTold (IsConnectedFault payload.now) e) }
 {
-    Ok(borrow_connected(payload)?.own(alloc)?)
+    copied(borrow_connected(payload), alloc)
 }
 
 /// A reply to the request `form`: a header, and after it nothing if it has an error, else the body that the request fixes
@@ -68,7 +68,7 @@ pub fn read_reply<F: Asked>(
     // Else the first case that applies is reported, unless memory is refused.
     ensures fault { IfErr result (λ e. IsTold (IsReplyFault (F.operation form.now) (F.part_ops form.now) payload.now) e) }
 {
-    Ok(borrow_reply(form, payload)?.own(alloc)?)
+    copied(borrow_reply(form, payload), alloc)
 }
 
 /// An event: a header with the xid -1 and the error 0, and a `WatcherEvent` (`ClientCnxn.SendThread.readResponse`). The
@@ -88,5 +88,5 @@ pub fn read_event(alloc: Global, payload: &[u8]) -> Result<ServerFrame, ItemFaul
     // Else the first case that applies is reported, unless memory is refused.
     ensures fault { IfErr result (λ e. IsTold (IsEventFault payload.now) e) }
 {
-    Ok(borrow_event(payload)?.own(alloc)?)
+    copied(borrow_event(payload), alloc)
 }

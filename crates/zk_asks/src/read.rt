@@ -10,7 +10,7 @@ use crate::borrow::{borrow_ask, borrow_first};
 use crate::frame::ClientFrame;
 use std::alloc::Global;
 use zk_jute::ItemFault;
-use zk_records::{Own, Profile};
+use zk_records::{Profile, copied};
 
 /// The first payload of a client: a `ConnectRequest`, and one boolean if more bytes follow it
 /// (`ZooKeeperServer.processConnectRequest`).
@@ -28,7 +28,7 @@ pub fn read_first(alloc: Global, payload: &[u8]) -> Result<ClientFrame, ItemFaul
     // Else the first case that applies is reported, unless memory is refused.
     ensures fault { IfErr result (λ e. IsTold (IsFirstFault payload.now) e) }
 {
-    Ok(borrow_first(payload)?.own(alloc)?)
+    copied(borrow_first(payload), alloc)
 }
 
 /// A later payload of a client: a `RequestHeader`, and the record of its operation
@@ -48,5 +48,5 @@ pub fn read_ask(alloc: Global, profile: Profile, payload: &[u8]) -> Result<Clien
     // Else the first case that applies is reported, unless memory is refused.
     ensures fault { IfErr result (λ e. IsTold (IsAskFault profile payload.now) e) }
 {
-    Ok(borrow_ask(profile, payload)?.own(alloc)?)
+    copied(borrow_ask(profile, payload), alloc)
 }

@@ -67,7 +67,7 @@ pub use event::{WatcherEvent, WatcherEventOf, WatcherEventRef};
 pub use header::{MultiHeader, ReplyHeader, RequestHeader};
 pub use names::{code_name, event_name, op_name, part_name};
 pub use op::{Op, PartOp, number_laws, op_number, op_of, part_number, part_of};
-pub use own::Own;
+pub use own::{Own, copied};
 pub use profile::Profile;
 pub use query::{PathAsk, PathAskOf, PathAskRef, WatchAsk, WatchAskOf, WatchAskRef};
 pub use session::{

@@ -1,6 +1,7 @@
 //! `Own`: copies, with memory of their own, of what is borrowed from a payload.
-ghost use Rattle.std.specs.Prelude.{◌≡◌, List, map, IfOk};
+ghost use Rattle.std.specs.Prelude.{◌≡◌, List, map, Err, IfOk, IfErr};
 ghost use Rattle.std.specs.Iterator.{Drains, IsFinite};
+ghost use Rattle.zk_jute.specs.Told.{IsReadAs};
 ghost use Rattle.zk_records.specs.Owned.{each};
 
 use crate::acl::{Acl, AclList, AclOf, AclRef, Id, IdOf, IdRef};
@@ -27,7 +28,8 @@ use crate::session::{
 use crate::stat::Stat;
 use std::alloc::{AllocError, Global};
 use zk_jute::{
-    Blob, BlobRef, Bytes, Chars, Items, KnownIn, List, Sequence, Series, Text, TextList, TextRef,
+    Blob, BlobRef, Bytes, Chars, ItemFault, Items, KnownIn, List, Sequence, Series, Text, TextList,
+    TextRef,
 };
 
 /// A borrowed value that can be copied.
@@ -45,6 +47,22 @@ pub trait Own {
     /// `AllocError` if memory is refused.
     fn own(&self, alloc: Global) -> Result<Self::Owned, AllocError>
         ensures { IfOk result (λ copy. copy ≡ same self.now) };
+}
+
+/// A copy of what was judged, unless that is a fault.
+///
+/// # Errors
+///
+/// The fault; `NoMemory`, at place 0, if memory is refused.
+#[inline(always)]
+pub fn copied<T: Own + Drop>(
+    judged: Result<T, ItemFault>,
+    alloc: Global,
+) -> Result<T::Owned, ItemFault>
+    ensures copy { IfOk judged (λ x. IsReadAs (T.same x) result) }
+    ensures fault { IfErr judged (λ e. result ≡ Err e) }
+{
+    Ok(judged?.own(alloc)?)
 }
 
 /// Copies of all items that are left, in order.
