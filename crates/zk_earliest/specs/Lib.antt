@@ -4,5 +4,4 @@ pub mod Stops
 pub mod Numbers
 pub mod Runs
 pub mod Utf8
-pub mod Repeats
 pub mod Marks

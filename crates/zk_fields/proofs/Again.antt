@@ -10,6 +10,7 @@ use Rattle.std.proofs.lemmas.Int.{ints}
 use Rattle.std.proofs.lemmas.Option.{slice_get_within, get_or_from_slice_get}
 use Rattle.std.proofs.lemmas.Bool.Decides.{nat_tests}
 use Rattle.zk_jute.specs.Item.{Item, AnInt, ALong, ABoolean, AUstring, ABuffer, ACount, HaveBytes, bytes_of}
+use Rattle.zk_jute.specs.Layout.{Groups}
 use Rattle.zk_jute.proofs.Layouts.{have_parts}
 use Rattle.zk_records.specs.Records.{multi_header}
 use Rattle.zk_records.specs.Codes.{op_number}
@@ -30,7 +31,7 @@ use Rattle.zk_fields.specs.declared.value.Heads.TheVariants as head
 use Rattle.zk_fields.specs.declared.write.Unwritten.{Unwritten}
 use Rattle.zk_fields.specs.declared.write.Unwritten.TheVariants as unwritten
 use Rattle.zk_fields.specs.Fields.{Entry, Under, Head, entry_items, items_of, size_of, size_all, field_of, fields_from}
-use Rattle.zk_fields.specs.Named.{Shape, Nothing, An, Both, Many, Times, IsOf, Named}
+use Rattle.zk_fields.specs.Named.{Shape, Nothing, An, Both, Many, IsOf, Named}
 use Rattle.zk_fields.specs.Contents.{content_of, IsAt, AreAt}
 use Rattle.zk_fields.specs.Heads.{plain_head, headed_shape, record_entries, part_entries, result_entries, done_entries}
 use Rattle.zk_fields.specs.Rows.{ask_entries, body_entries}
@@ -77,7 +78,7 @@ each heads f are [] more = tt
 each heads f are (x ∷ xs) more = both heads (f x) (flat_map f xs) (are x) (each heads f are xs) more
 
 -- entries of a shape have no headers
-times : (heads : Heads) (P : List Entry → Type 0) → ((es : List Entry) → P es → AreTold heads es) → (n : ℕ) (es : List Entry) → Times P n es → AreTold heads es
+times : (heads : Heads) (P : List Entry → Type 0) → ((es : List Entry) → P es → AreTold heads es) → (n : ℕ) (es : List Entry) → Groups P n es → AreTold heads es
 times heads P are zero es p = subst (AreTold heads) (sym p) (λ more. tt)
 times heads P are (suc n) es p = subst (AreTold heads) (sym p.4) (both heads p.0 p.1 (are p.0 p.2) (times heads P are n p.1 p.3))
 

@@ -6,7 +6,7 @@ use Rattle.std.proofs.lemmas.List.{append-nil, length-append, take_all, drop_at}
 use Rattle.std.proofs.lemmas.Bool.Decides.{nat_tests}
 use Rattle.zk_jute.specs.Item.{Kind, Int, Long, Boolean, Ustring, Buffer, Count, Item, ABoolean, ACount, HaveBytes, bytes_of, item_bytes, int_bytes, kind_of}
 use Rattle.zk_jute.specs.declared.fault.Reason.TheVariants.{Short}
-use Rattle.zk_jute.specs.Layout.{One, End}
+use Rattle.zk_jute.specs.Layout.{One, End, Groups}
 use Rattle.zk_jute.specs.Reading.{Fault, int_at, size_at, item_at, items_at}
 use Rattle.zk_jute.proofs.Steps.{BytesAt-from}
 use Rattle.zk_jute.proofs.Runs.{int_again, size_again}
@@ -29,7 +29,7 @@ use Rattle.zk_fields.specs.declared.opened.Headed.{Headed}
 use Rattle.zk_fields.specs.declared.opened.Opened.{Opened}
 use Rattle.zk_fields.specs.declared.name.TheConstants.{READ_ONLY}
 use Rattle.zk_fields.specs.Fields.{Entry, Under, Head, items_of, fields_from}
-use Rattle.zk_fields.specs.Named.{Shape, Nothing, An, Both, Many, Times, IsOf, Named, items_both}
+use Rattle.zk_fields.specs.Named.{Shape, Nothing, An, Both, Many, IsOf, Named, items_both}
 use Rattle.zk_fields.specs.Records.{connect_request, connect_response, watcher_event, read_only}
 use Rattle.zk_fields.specs.Heads.{OfHead, headed_part, headed_result, headed_shape, record_entries, part_entries, result_entries, done_entries}
 use Rattle.zk_fields.specs.Rows.{body_entries, body_behind, Content, Fields, Heads, ask_content, body_content}
@@ -67,11 +67,11 @@ then_meets src f g x y p q more place have le e =
 item_meets : (src : List ℕ) (name : ℕ) (kind : Kind) (i : Item) → kind_of i ≡ kind → Meets src (λ place. item_met name (items_at (One kind End) src place)) (Under name i ∷ [])
 item_meets src name kind i is more place have le e = ap (item_met name) (items_again (One kind End) src (i ∷ []) more place (i, [], is, refl, refl) have le e)
 
-times_meet : (src : List ℕ) (f : ℕ → Met) (P : List Entry → Type 0) → ((es : List Entry) → P es → Meets src f es) → (n : ℕ) (es : List Entry) → Times P n es → Meets src (times_met f n) es
+times_meet : (src : List ℕ) (f : ℕ → Met) (P : List Entry → Type 0) → ((es : List Entry) → P es → Meets src f es) → (n : ℕ) (es : List Entry) → Groups P n es → Meets src (times_met f n) es
 times_meet src f P each zero es p = subst (Meets src (λ place. record { entries = []; end = Some place })) (sym p) (nothing_meets src)
 times_meet src f P each (suc n) es p = subst (Meets src (λ place. met_then (f place) (times_met f n))) (sym p.4) (then_meets src f (times_met f n) p.0 p.1 (each p.0 p.2) (times_meet src f P each n p.1 p.3))
 
-list_meets : (src : List ℕ) (name : ℕ) (f : ℕ → Met) (P : List Entry → Type 0) → ((es : List Entry) → P es → Meets src f es) → (n : Option ℕ) (inside : List Entry) → Times P (unwrap_or n 0) inside
+list_meets : (src : List ℕ) (name : ℕ) (f : ℕ → Met) (P : List Entry → Type 0) → ((es : List Entry) → P es → Meets src f es) → (n : Option ℕ) (inside : List Entry) → Groups P (unwrap_or n 0) inside
     → Meets src (λ place. list_met name f (size_at src place)) (Under name (ACount n) ∷ inside)
 list_meets src name f P each None inside p more place have le e =
     let read = size_again None src (bytes_of (items_of inside) ++ more) place have.0 (e ∙ append_assoc (item_bytes (ACount None)) (bytes_of (items_of inside)) more) in

@@ -5,7 +5,7 @@ use Rattle.std.specs.List.{flat_map}
 use Rattle.zk_jute.specs.Held.{Text, Blob, Vector}
 use Rattle.zk_jute.specs.declared.value.Nullable.TheVariants as nullable
 use Rattle.zk_jute.specs.Item.{Kind, Int, Long, Boolean, Ustring, Buffer, Item, ACount, kind_of}
-use Rattle.zk_jute.specs.Layout.{One, End, Unfolds}
+use Rattle.zk_jute.specs.Layout.{One, End, Groups, Unfolds}
 use Rattle.zk_jute.specs.Values.{list_items}
 use Rattle.zk_jute.specs.Wired.{Wired, int, long, boolean, ustring, buffer}
 use Rattle.zk_fields.specs.Fields.{Entry, Under, entry_items, items_of, named}
@@ -21,17 +21,12 @@ pub data Shape : Type 0 where
   Both : Shape → Shape → Shape
   Many : ℕ → Shape → Shape
 
--- n of them, one after the other
-abbrev pub Times : (List Entry → Type 0) → ℕ → List Entry → Type 0
-Times P zero es = es ≡ []
-Times P (suc n) es = (x : List Entry) × (y : List Entry) × P x × Times P n y × (es ≡ x ++ y)
-
 -- the entries are of the shape; a list that is null has no elements
 abbrev pub IsOf : Shape → List Entry → Type 0
 IsOf Nothing es = es ≡ []
 IsOf (An name kind) es = (i : Item) × (kind_of i ≡ kind) × (es ≡ Under name i ∷ [])
 IsOf (Both a b) es = (x : List Entry) × (y : List Entry) × IsOf a x × IsOf b y × (es ≡ x ++ y)
-IsOf (Many name s) es = (n : Option ℕ) × (inside : List Entry) × Times (IsOf s) (unwrap_or n 0) inside × (es ≡ Under name (ACount n) ∷ inside)
+IsOf (Many name s) es = (n : Option ℕ) × (inside : List Entry) × Groups (IsOf s) (unwrap_or n 0) inside × (es ≡ Under name (ACount n) ∷ inside)
 
 -- they are those of the value's items, in order
 pub record Named (X : Type 0) : Type 0 where
@@ -102,7 +97,7 @@ pub list_same : {X : Type 0} (k : Named X) (name : ℕ) (v : Vector X) → items
 list_same k name nullable.Null = refl
 list_same k name (nullable.Full xs) = ap (λ (items : List Item). ACount (Some (length xs)) ∷ items) (each_same k name xs)
 
-each_formed : {X : Type 0} (k : Named X) (name : ℕ) (xs : List X) → Times (IsOf (k.shape name)) (length xs) (flat_map (k.entries name) xs)
+each_formed : {X : Type 0} (k : Named X) (name : ℕ) (xs : List X) → Groups (IsOf (k.shape name)) (length xs) (flat_map (k.entries name) xs)
 each_formed k name [] = refl
 each_formed k name (x ∷ xs) = (k.entries name x, flat_map (k.entries name) xs, k.formed name x, each_formed k name xs, refl)
 

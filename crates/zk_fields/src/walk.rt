@@ -1,7 +1,7 @@
 //! `Walk`: the fields of a payload that may be cut, item by item, as far as the items are whole.
-ghost use Rattle.std.specs.Prelude.{◌≡◌, ◌≤◌, ℕ, List, length, [], Some, IfOk, IfSome, refl};
+ghost use Rattle.std.specs.Prelude.{◌≡◌, ◌≤◌, ℕ, List, length, [], Some, IfSome, refl};
 ghost use Rattle.zk_jute.specs.Reading as reading;
-ghost use Rattle.zk_jute.specs.Reading.{Tells, items_at};
+ghost use Rattle.zk_jute.specs.Reading.{items_at};
 ghost use Rattle.zk_fields.specs.declared.field.Field as fields;
 ghost use Rattle.zk_fields.specs.Fields.{named};
 ghost use Rattle.zk_fields.specs.Named.{Nothing};
@@ -11,7 +11,7 @@ use crate::field::{At, Field};
 use crate::list::{show_count, show_null};
 use crate::show::Show;
 use std::marker::PhantomData;
-use zk_jute::{BlobRef, Ends, ItemFault, Reason, TextRef, View, int_at};
+use zk_jute::{BlobRef, Ends, ItemFault, TextRef, View, size_at};
 
 /// What the fields came to, and the place after them; `None` if the next item isn't whole there.
 #[derive(Clone, Copy)]
@@ -155,20 +155,6 @@ pub(crate) fn walk_times<'a, T: Walk<'a>>(
     }
 }
 
-/// The count of a list, `None` for null, and the place after it.
-fn count_at(payload: &[u8], place: usize) -> Result<(Option<usize>, usize), ItemFault>
-    requires { place ≤ length payload.now }
-    ensures exact { Tells (λ x. x) result (reading.size_at payload.now place) }
-    ensures within { IfOk result (λ x. x.1 ≤ length payload.now) }
-{
-    let (number, after) = int_at(payload, place)?;
-    match number {
-        -1 => Ok((None, after)),
-        0.. => Ok((Some(number as usize), after)),
-        _ => Err(ItemFault::at(place, Reason::BadLength)),
-    }
-}
-
 /// A list, under its name: its count, and its elements.
 #[derive(Drop)]
 pub(crate) struct Many<const NAME: u16, T> {
@@ -179,7 +165,7 @@ impl<'a, const NAME: u16, T: Walk<'a>> Walk<'a> for Many<NAME, T> {
     ghost met = { λ src place. list_met NAME (T.met src) (reading.size_at src place) };
 
     fn walk(payload: &'a [u8], place: usize, room: &mut [Field], at: At) -> Walked {
-        match count_at(payload, place) {
+        match size_at(payload, place) {
             Ok((None, after)) => Walked {
                 at: show_null(NAME, room, at),
                 end: Some(after),

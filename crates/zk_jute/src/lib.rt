@@ -82,6 +82,7 @@ pub use number::{bool_at, int_at, long_at};
 pub use output::Output;
 pub use payload::{known_flagged, read_flagged, scan_flagged};
 pub use record::{Record, Written};
+pub use run::size_at;
 pub use sequence::{KnownIn, Member, Members, Sequence};
 pub use series::{Element, Series, TextList, known_list};
 pub use value::{
