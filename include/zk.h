@@ -286,8 +286,9 @@ struct zk_read {
 };
 
 /* Whether a frame was written. ZK_WELL: `length` bytes of the room. ZK_ROOM: the frame has `length` bytes, more than the
- * room. ZK_RANGE: the field of this index says nothing, since its kind is none, its number doesn't fit its kind, its
- * content isn't in the content, its text isn't UTF-8, or it is an error's header in a reply and no int follows.
+ * room. ZK_RANGE: the field of this index says nothing, since its kind is none, its number doesn't fit its kind or is
+ * said to be null, its content isn't in the content, its text isn't UTF-8, or it is an error's header in a reply and no
+ * int follows.
  * ZK_TOO_LONG: with the field of this index the payload has more than 2147483647 bytes. */
 struct zk_written {
     uint32_t status;

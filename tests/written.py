@@ -29,11 +29,15 @@ NOTHING = (
     ([PATH, (0, 1, -1, 6, 3, 0)], 1), ([PATH, (0, 4, 2 ** 31, 5, 1, 0)], 1), ([PATH, (0, 4, -2 ** 31 - 1, 5, 1, 0)], 1),
     ([PATH, (0, 4, -1, 3, 6, 0)], 1), ([PATH, (0, 4, 2 ** 31, 3, 6, 0)], 1), ([PATH, (0, 9, 2 ** 31, 0, 7, 0)], 1),
     ([PATH, (2, 1, 0, 1, 4, 0)], 1),
+    # a number that is said to be null
+    ([PATH, (0, 1, 0, 6, 3, 1)], 1), ([PATH, (0, 4, 0, 5, 1, 1)], 1), ([PATH, (0, 8, 0, 7, 2, 1)], 1),
+    ([PATH, (0, 9, 1, 0, 7, 1)], 1),
 )
 # In a reply the header of an error, which no int of its number follows.
 NO_ERROR = (
     ([item(PART, -1)], 0), ([item(PART, 13), item(PART, -1), item(LONG, 5)], 1), ([item(PART, -1), item(PART, 13)], 0),
     ([item(PART, -1), item(INT, 2 ** 31)], 0), ([item(PART, -1), item(INT, 5), item(PART, -1)], 2),
+    ([item(PART, -1), item(INT, 5, null=1)], 0),
 )
 
 # A kind and the numbers of its header, its fields over this content, and the frame.

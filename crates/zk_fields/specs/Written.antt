@@ -39,6 +39,14 @@ abbrev pub count_said : ℤ → Option ℕ
 count_said (pos n) = if nat_lt n 2147483648 then Some n else None
 count_said (negsuc n) = None
 
+-- the number of a field that isn't null
+abbrev pub number_said : Field → Option ℤ
+number_said f = if f.null == 0 then Some f.number else None
+
+-- such a number that an int can say
+abbrev pub int_number : Field → Option ℤ
+int_number f = option_and_then int_said (number_said f)
+
 -- the bytes of the content, if they are all there and an int can count them
 abbrev pub stretch_said : List ℕ → Field → Option (List ℕ)
 stretch_said content f = if nat_le (f.place + f.length) (length content)
@@ -66,7 +74,7 @@ pairs (f ∷ fs) = (f, slice_get fs 0) ∷ pairs fs
 -- the number of an int's field
 abbrev pub error_said : Option Field → Option ℤ
 error_said None = None
-error_said (Some f) = if f.kind == INT then int_said f.number else None
+error_said (Some f) = if f.kind == INT then int_number f else None
 
 -- the err in the header of a result; in that of an error, whose number is -1, it is the int after the header
 abbrev pub result_err : ℤ → Option Field → Option ℤ
@@ -84,13 +92,13 @@ head_said heads next n = option_map (plain_head n) (head_err heads n next)
 -- what a field says by its kind, if it says anything
 abbrev pub said : Heads → List ℕ → Pair → Option (List Item)
 said heads content (f, next) =
-    if f.kind == INT then option_map (λ n. AnInt n ∷ []) (int_said f.number)
-    else if f.kind == LONG then Some (ALong f.number ∷ [])
-    else if f.kind == BOOLEAN then option_map (λ b. ABoolean b ∷ []) (bool_said f.number)
+    if f.kind == INT then option_map (λ n. AnInt n ∷ []) (int_number f)
+    else if f.kind == LONG then option_map (λ n. ALong n ∷ []) (number_said f)
+    else if f.kind == BOOLEAN then option_map (λ b. ABoolean b ∷ []) (option_and_then bool_said (number_said f))
     else if f.kind == TEXT then option_map (λ t. AUstring t ∷ []) (option_and_then utf8_said (run_said content f))
     else if f.kind == BLOB then option_map (λ b. ABuffer b ∷ []) (run_said content f)
     else if f.kind == LIST then option_map (λ n. ACount n ∷ []) (list_said f)
-    else if f.kind == PART then option_map multi_header.items (option_and_then (head_said heads next) (int_said f.number))
+    else if f.kind == PART then option_map multi_header.items (option_and_then (head_said heads next) (int_number f))
     else None
 
 -- what the field of this index says, or `d` if there is none

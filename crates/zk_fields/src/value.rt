@@ -5,7 +5,7 @@ ghost use Rattle.zk_jute.specs.Item.{AnInt, ALong, ABoolean, AUstring, ABuffer, 
 ghost use Rattle.zk_records.specs.Records.{multi_header};
 ghost use Rattle.zk_fields.specs.Heads.{plain_head};
 ghost use Rattle.zk_fields.specs.Values.{value_bytes, IsSaid, Fills};
-ghost use Rattle.zk_fields.specs.Written.{int_said, bool_said, count_said, stretch_said, run_said, utf8_said, list_said, Pair, error_said, head_err, head_said, said, said_at};
+ghost use Rattle.zk_fields.specs.Written.{int_said, number_said, int_number, bool_said, count_said, stretch_said, run_said, utf8_said, list_said, Pair, error_said, head_err, head_said, said, said_at};
 
 use crate::field::Field;
 use crate::kind::{BLOB, BOOLEAN, INT, LIST, LONG, PART, TEXT};
@@ -40,16 +40,39 @@ fn int_of(number: i64) -> Option<i32>
     i32::try_from(number).ok()
 }
 
-fn int_value<'a>(number: i64) -> Option<Value<'a>>
-    ensures { IsSaid (option_map (λ n. AnInt n ∷ []) (int_said number)) result }
+/// The number of a field that isn't null.
+fn number_in(field: &Field) -> Option<i64>
+    ensures { result ≡ number_said field.now }
 {
-    Some(Value::Int(int_of(number)?))
+    if field.null != 0 {
+        return None;
+    }
+    Some(field.number)
 }
 
-fn bool_value<'a>(number: i64) -> Option<Value<'a>>
-    ensures { IsSaid (option_map (λ b. ABoolean b ∷ []) (bool_said number)) result }
+/// Such a number, if an int can say it.
+fn int_in(field: &Field) -> Option<i32>
+    ensures { result ≡ int_number field.now }
 {
-    match number {
+    int_of(number_in(field)?)
+}
+
+fn int_value<'a>(field: &Field) -> Option<Value<'a>>
+    ensures { IsSaid (option_map (λ n. AnInt n ∷ []) (int_number field.now)) result }
+{
+    Some(Value::Int(int_in(field)?))
+}
+
+fn long_value<'a>(field: &Field) -> Option<Value<'a>>
+    ensures { IsSaid (option_map (λ n. ALong n ∷ []) (number_said field.now)) result }
+{
+    Some(Value::Long(number_in(field)?))
+}
+
+fn bool_value<'a>(field: &Field) -> Option<Value<'a>>
+    ensures { IsSaid (option_map (λ b. ABoolean b ∷ []) (option_and_then bool_said (number_said field.now))) result }
+{
+    match number_in(field)? {
         0 => Some(Value::Boolean(false)),
         1 => Some(Value::Boolean(true)),
         _ => None,
@@ -146,7 +169,7 @@ fn error_of(next: Option<&Field>) -> Option<i32>
     if field.kind != INT {
         return None;
     }
-    int_of(field.number)
+    int_in(field)
 }
 
 /// The err in the header of a part or a result with this number, before the field `next`.
@@ -162,10 +185,10 @@ fn err_of(heads: Heads, number: i32, next: Option<&Field>) -> Option<i32>
     }
 }
 
-fn head_value<'a>(heads: Heads, number: i64, next: Option<&Field>) -> Option<Value<'a>>
-    ensures { IsSaid (option_map multi_header.items (option_and_then (head_said heads (option_copied next.entry)) (int_said number))) result }
+fn head_value<'a>(heads: Heads, field: &Field, next: Option<&Field>) -> Option<Value<'a>>
+    ensures { IsSaid (option_map multi_header.items (option_and_then (head_said heads (option_copied next.entry)) (int_number field.now))) result }
 {
-    let kind = int_of(number)?;
+    let kind = int_in(field)?;
     let err = err_of(heads, kind, next)?;
     Some(Value::Head { kind, err })
 }
@@ -180,13 +203,13 @@ fn value_of<'a>(
     ensures { IsSaid (said heads content.now (field.now, option_copied next.entry)) result }
 {
     match field.kind {
-        INT => int_value(field.number),
-        LONG => Some(Value::Long(field.number)),
-        BOOLEAN => bool_value(field.number),
+        INT => int_value(field),
+        LONG => long_value(field),
+        BOOLEAN => bool_value(field),
         TEXT => text_value(field, content),
         BLOB => blob_value(field, content),
         LIST => list_value(field),
-        PART => head_value(heads, field.number, next),
+        PART => head_value(heads, field, next),
         _ => None,
     }
 }

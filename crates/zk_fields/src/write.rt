@@ -19,8 +19,8 @@ use crate::value::{Heads, fill, fill_int, value_at};
 /// Why fields are not written.
 #[derive(Clone, Copy)]
 pub enum Unwritten {
-    /// The field of this index says nothing: its kind is none, its content isn't there, its number doesn't fit, or it
-    /// is an error's header with no int after it.
+    /// The field of this index says nothing: its kind is none, its content isn't there, its number doesn't fit or is said
+    /// to be null, or it is an error's header with no int after it.
     Wrong(usize),
     /// With the field of this index the payload has more than 2,147,483,647 bytes.
     Long(usize),
