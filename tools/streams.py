@@ -88,7 +88,7 @@ class Half:
             self.end = place + len(data)
             self.fin = self.fin or Part(place, follows, number, milliseconds, b"")
         if flags & RST:
-            if abs(place - self.place) < NEAR:
+            if abs(place - self.place) < NEAR and not stream.has_ended():
                 stream.resets(self.side, place, milliseconds)
         elif data:
             if stream.reset and place >= stream.reset_at and stream.reset == self.side:
@@ -249,9 +249,13 @@ class Stream:
             half.stream = half.other = None
         self.sink.stream = self.sink = None
 
-    def is_complete(self):
+    def has_ended(self):
         """Whether both sides have ended, and all is passed on."""
         return all(half.end == half.written for half in self.halves)
+
+    def is_complete(self):
+        """Whether it has ended, and each end was acknowledged."""
+        return self.has_ended() and all(half.acknowledged > half.end for half in self.halves)
 
     def closer(self):
         """The half that sent the first FIN, or None. It wasn't captured first where the other's acknowledges it."""

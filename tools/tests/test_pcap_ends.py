@@ -42,6 +42,8 @@ class Ends(PcapCase):
         for segments, words in (((), ["open"]), (((client, fin),), ["closed=C"]),
                                 (((server, fin), (client, fin), (server, wire.ACK)), ["closed=S"]),
                                 (((client, fin), (server, fin)), ["closed=C"]), (((client, reset),), ["reset=C"]),
+                                (((client, fin), (server, fin), (client, reset)), ["closed=C"]),
+                                (((server, fin), (client, fin), (client, reset)), ["closed=S"]),
                                 (((server, reset),), ["reset=S"]), (((client, fin), (server, reset)),
                                                                     ["closed=C", "reset=S"])):
             with self.subTest(words=words, segments=segments):
@@ -60,6 +62,18 @@ class Ends(PcapCase):
         packets = packed(sent)
         _, told, _ = self.convert(wire.pcap([(0, other), (0, other), *packets, (0, other)]))
         self.assertIn(f" packets=3-{len(packets) + 2} ", told[0])
+
+    def test_the_acknowledgement_of_the_last_end_is_its_last_packet(self):
+        """Also where the second end was captured again before it, or the first one after it, or both come at once."""
+        client, server, fin = zkr.CLIENT, zkr.SERVER, wire.FIN | wire.ACK
+        sent, other = then(opened(), (client, fin), (server, fin), (client, wire.ACK)), packed(opened(), client=3000)
+        crossing = then(opened(), (client, fin), (server, fin), (server, wire.ACK), (client, wire.ACK))
+        crossing[6] = crossing[6]._replace(acknowledged=crossing[6].acknowledged - 1)
+        for found in (sent, [*sent[:7], sent[6], *sent[7:]], [*sent[:5], sent[6], sent[5], sent[7]], crossing):
+            status, told, _ = self.convert(wire.pcap([*packed(found), *other]))
+            self.assertEqual((status, len(told)), (0, 2))
+            self.assertIn(f" packets=1-{len(found)} ", told[0])
+            self.assertTrue(told[0].endswith(" closed=C"), told)
 
     def test_segments_that_were_captured_again(self):
         sent = opened([ASK, REPLY, ASK])
