@@ -9,6 +9,7 @@ in a temporary folder. It prints the rows of a table.
 """
 
 import argparse
+import contextlib
 import pathlib
 import selectors
 import socket
@@ -58,14 +59,10 @@ def end(recorder):
 
 
 def came(client, size):
-    """How many bytes come, at most `size`. A connection that ends before its answers is no measure."""
-    try:
-        count = len(client.recv(size))
-    except ConnectionError:
-        count = 0
-    if count == 0:
-        raise SystemExit("a connection has ended before its answers")
-    return count
+    """How many bytes come, at most `size`."""
+    if count := len(client.recv(size)):
+        return count
+    raise ConnectionError
 
 
 def connect(port):
@@ -107,7 +104,12 @@ def flood(port, size):
     """Megabytes per second of `size` bytes, to the server and back."""
     block, begun = bytes(1 << 18), time.perf_counter()
     client = connect(port)
-    sender = Process(target=lambda: [client.sendall(block) for _ in range(size // len(block))], daemon=True)
+
+    def send():
+        with contextlib.suppress(ConnectionError):      # which the reader finds, too
+            for _ in range(size // len(block)):
+                client.sendall(block)
+    sender = Process(target=send, daemon=True)
     sender.start()
     got = 0
     while got < size // len(block) * len(block):
@@ -144,6 +146,8 @@ def main():
             size = words.megabytes * 1_000_000
             for name, port in (("direct", direct), ("through record.py", through)):
                 print(f"{name}: {flood(port, size):,.0f} MB/s each way", flush=True)
+        except ConnectionError:
+            raise SystemExit("a connection has ended before its answers") from None     # it is no measure
         finally:
             end(recorder)
         sizes = [path.stat().st_size for path in pathlib.Path(folder).glob("*.zkr")]

@@ -18,13 +18,26 @@ import costs  # noqa: E402  (found by the line above)
 
 JOBS = TOP / "crates" / "bench_jobs" / "out" / "bench_jobs"
 # In the place of record.py: it ends each connection after the first request.
-ENDS = """import signal, socket, sys
+# Recorders whose connections end early: each after its first bytes, or all but the first ones by a reset.
+LISTENS = """import signal, socket, struct, sys, threading
 signal.signal(signal.SIGTERM, lambda *_: sys.exit())
-listener = socket.create_server(("127.0.0.1", 0))
+listener = socket.create_server(("127.0.0.1", 0), backlog=256)
 print(f"record.py: listens on 127.0.0.1:{listener.getsockname()[1]}; Ctrl-C ends it", file=sys.stderr, flush=True)
+"""
+ENDS = LISTENS + """
 while True:
     with listener.accept()[0] as client:
         client.recv(100)
+"""
+RESETS = LISTENS + """
+def echo(client):
+    while data := client.recv(1000):
+        client.sendall(data)
+for _ in range({whole}):
+    threading.Thread(target=echo, args=(listener.accept()[0],), daemon=True).start()
+while True:
+    with listener.accept()[0] as client:
+        client.setsockopt(socket.SOL_SOCKET, socket.SO_LINGER, struct.pack("ii", 1, 0))
 """
 NAMES = ["check", "single", "show", "build", "clients", "archive"]
 
@@ -177,14 +190,17 @@ class Failing(ToolCase):
         self.assertRegex(done.stderr, r"/record.py ended with status 3\n$")
 
     def test_a_connection_that_ends_before_its_answers(self):
+        """At its first bytes; or before 64 clients ask, or megabytes are sent."""
         script, record = self.folder / "bench" / "measure_record.py", self.folder / "tools" / "record.py"
         for path in (script, record):
             path.parent.mkdir()
         shutil.copy(TOP / "bench" / "measure_record.py", script)
-        record.write_text(ENDS)
-        done = subprocess.run([sys.executable, script, "--rounds", "1", "--megabytes", "1"], capture_output=True,
-                              text=True, check=False, timeout=50)
-        self.assertEqual((done.returncode, done.stderr), (1, "a connection has ended before its answers\n"))
+        for ends, lines in ((ENDS, 5), (RESETS.replace("{whole}", "1"), 6), (RESETS.replace("{whole}", "66"), 9)):
+            record.write_text(ends)
+            done = subprocess.run([sys.executable, script, "--rounds", "1", "--megabytes", "1"], capture_output=True,
+                                  text=True, check=False, timeout=50)
+            self.assertEqual((done.returncode, done.stderr), (1, "a connection has ended before its answers\n"))
+            self.assertEqual(done.stdout.count("\n"), lines)
 
 
 class Library(ToolCase):
