@@ -224,6 +224,9 @@ class Conversation:
                 last.holes.add(zkr.CLIENT)
             self.stretches.append(Stretch(self.put, number, milliseconds, False))
             self.stretches[-1].owed = last.due()
+            if whole and zkr.CLIENT not in self.connected:
+                # The beginning of its connect request, which is left out, is in the recording before.
+                self.skip(zkr.CLIENT, -self.waits(zkr.CLIENT))
         self.stretches[-1].owed += holes[zkr.CLIENT] // LEAST_REQUEST
         self.stretches[-1].lose(holes)
         if first.is_suspended() and not first.ordinary or len(self.stretches) > MOST_STRETCHES:

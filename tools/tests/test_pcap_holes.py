@@ -214,6 +214,15 @@ class AfterLoss(JoinedCase):
             self.assertRegex(ends[-1], r" closed=C lost=C:\d+,S:\d+ skipped=")
             self.assert_parts(made[-1:], [ask(1), reply(1), ask(2), reply(2)])
 
+    def test_a_connect_request_that_ends_after_the_loss(self):
+        """Its end is left out; its beginning is in the recording before."""
+        first, rest = (CONNECT[0]._replace(data=part) for part in (CONNECT[0].data[:20], CONNECT[0].data[20:]))
+        sent = list(wire.conversation([first, rest, CONNECT[1], reply(1), ask(2), reply(2)]))
+        status, told, made = self.convert(capture_of([*sent[:4], sent[6], sent[4], *sent[7:]]))
+        self.assertEqual((status, sides(made[0])), (1, (first.data, b"")))
+        self.assertRegex(told[1], r" lost=C:0,S:40 skipped=C:28,S:0 unasked=1$")
+        self.assert_parts([[piece[::2] for piece in pieces(made[1])[2:]]], [ask(2), reply(2)])
+
     def test_nothing_is_known_between_two_losses(self):
         said = [ask(1), reply(1), ask(2), reply(2), ask(3), reply(3), ask(4), reply(4)]
         names, ends, made = self.parts(said, 3, 5)
