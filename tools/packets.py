@@ -10,7 +10,7 @@ A segment is a plain tuple, since there are many of them:
 
 `number` is the packet's number in the capture, from 1, as Wireshark counts. `ends` are the source's and the target's
 address and their ports, as the packet has them: a value of its own for each direction of each connection. `source` and
-`target` are the ports; `snapped` says that bytes of the segment were not captured.
+`target` are the ports; `snapped` is how many bytes at the end of its data were not captured.
 """
 
 import gzip
@@ -75,10 +75,10 @@ def segments(stream):
                 unpack_usual(packet, at)
             if kind == IPV4_KIND and version == IPV4_PLAIN and protocol == TCP and not fragment & FRAGMENTED:
                 if length >= 0x50:
-                    whole = at + 14 + size if size else end
+                    whole, begin = at + 14 + size if size else end, at + 34 + (length >> 4) * 4
                     yield (number, milliseconds, packet[at + 26:at + 38], source_port, target_port, sequence,
-                           acknowledged, flags, packet[at + 34 + (length >> 4) * 4:whole if whole < end else end],
-                           whole > end)
+                           acknowledged, flags, packet[begin:whole if whole < end else end],
+                           whole > end and max(0, whole - max(begin, end)))
                 continue
         at = network_place(link, packet, at)
         if end - at >= 40 and packet[at] == 0x45:
@@ -95,8 +95,9 @@ def segments(stream):
         source_port, target_port, sequence, acknowledged, length, flags = unpack_tcp(packet, at)
         if length < 0x50:
             continue
+        begin = at + (length >> 4) * 4
         yield (number, milliseconds, ends, source_port, target_port, sequence, acknowledged, flags,
-               packet[at + (length >> 4) * 4:whole if whole < end else end], whole > end)
+               packet[begin:whole if whole < end else end], whole > end and max(0, whole - max(begin, end)))
 
 
 def packets_of_pcap(source, mark):

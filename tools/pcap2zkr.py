@@ -107,7 +107,7 @@ class Capture:
 
     def half_of(self, half, segment):
         """The half that takes a segment with a SYN, or one of unknown ends: a new one where a connection begins."""
-        number, milliseconds, ends, source, target, sequence, _, flags, data, _ = segment
+        number, milliseconds, ends, source, target, sequence, _, flags, data, snapped = segment
         begins = flags & packets.SYN
         if half:
             if half.first in (-1, sequence + 1 & MASK):
@@ -118,7 +118,7 @@ class Capture:
             return None
         width = (len(ends) - 4) // 2
         back = ends[width:2 * width] + ends[:width] + ends[-2:] + ends[-4:-2]
-        if not (begins or data) or ends == back:
+        if not (begins or data or snapped) or ends == back:
             return None
         if ends in self.over:
             first, size = self.over[ends]

@@ -39,16 +39,17 @@ class Half:
     `opened` says whether its SYN was captured. `first` and `next` are the sequence numbers of its first byte and after
     the bytes that are in order, or -1; `place` is the place of the latter. `apart` has what came out of order. `ready`
     has what is in order and waits for the other side's bytes that it follows. `written` is the place up to which bytes
-    were passed on, `end` that of the side's end, and `fin` what is known of the first segment with a FIN.
+    were passed on, `sent` that up to which it sent some, where these were not captured whole, `end` that of the side's
+    end, and `fin` what is known of the first segment with a FIN.
     """
 
-    __slots__ = ("stream", "side", "other", "opened", "first", "next", "place", "written", "end", "fin", "acknowledged",
-                 "apart", "ready")
+    __slots__ = ("stream", "side", "other", "opened", "first", "next", "place", "written", "sent", "end", "fin",
+                 "acknowledged", "apart", "ready")
 
     def __init__(self, stream, side):
         self.stream, self.side, self.other, self.first, self.next, self.end = stream, side, None, -1, -1, None
         self.opened, self.fin = False, None
-        self.place = self.written = self.acknowledged = 0
+        self.place = self.written = self.sent = self.acknowledged = 0
         self.apart = self.ready = ()
 
     def take(self, number, milliseconds, sequence, acknowledged, flags, data, snapped):
@@ -76,24 +77,28 @@ class Half:
             stream.resent += self.opened
             self.opened = True
         self.begin(sequence)
-        stream.snapped |= snapped
+        stream.snapped |= snapped > 0
         follows = 0
         if flags & ACK:
             other.begin(acknowledged)
             follows = other.place_of(acknowledged)
             other.acknowledged = max(other.acknowledged, follows)
         place = self.place_of(sequence)
+        after = place + len(data) + snapped
         if flags & FIN:
             stream.resent += self.fin is not None and not data
-            self.end = place + len(data)
+            self.end = after
             self.fin = self.fin or Part(place, follows, number, milliseconds, b"")
         if flags & RST:
             if abs(place - self.place) < NEAR and not stream.has_ended():
                 stream.resets(self.side, place, milliseconds)
-        elif data:
+        elif data or snapped:
             if stream.reset and place >= stream.reset_at and stream.reset == self.side:
                 stream.reset = ""  # that reset was not one of this connection
-            self.put(Part(place, follows, number, milliseconds, data))
+            if snapped:
+                self.sent = max(self.sent, after)
+            if data:
+                self.put(Part(place, follows, number, milliseconds, data))
         stream.write()
         return bool(self.fin or other.fin or stream.reset or stream.budget.held > stream.budget.most)
 
@@ -158,7 +163,7 @@ class Half:
         """Whether bytes are known to be missing at the end: the other side acknowledged them, or this side's reset has
         a number after them."""
         reset_at = self.stream.reset_at if self.stream.reset == self.side else 0
-        return (self.end or 0) > self.place or max(self.acknowledged, reset_at) > self.place + 1
+        return max(self.end or 0, self.sent) > self.place or max(self.acknowledged, reset_at) > self.place + 1
 
 
 class Stream:
@@ -228,7 +233,7 @@ class Stream:
                     size = min(size, other.apart[0].place - other.place)
                 elif (other.end or 0) > other.place:
                     size = min(size, other.end - other.place)
-                if size == 1 and not other.apart and other.end is None:
+                if size == 1 and not other.apart and other.end is None and other.sent <= other.place:
                     other.end = other.place  # one alone, with nothing after it, is the end that wasn't captured
                 else:
                     other.lose(size, head.number, head.milliseconds)
@@ -268,7 +273,7 @@ class Stream:
 
     def is_silent(self):
         """Whether no byte was captured."""
-        return not any(half.place or half.apart or half.ready for half in self.halves)
+        return not any(half.place or half.sent or half.apart or half.ready for half in self.halves)
 
     def is_over(self):
         """Whether no more is expected but what was captured late."""

@@ -126,6 +126,32 @@ class Ends(PcapCase):
                                      (int(bool(hole)), [f"reset={side.decode()}"] + [f"hole={hole}"] * bool(hole)))
                     self.assertEqual(sides(made[0]), (b"ask", b"reply"))
 
+    def test_a_last_packet_that_was_not_captured_whole(self):
+        """Its bytes are missing though nothing acknowledges them; also where it has the end."""
+        for side, name, link, size in ((zkr.CLIENT, "C", "ethernet", 54), (zkr.SERVER, "S", "raw", 40)):
+            for flags, how in ((wire.ACK, "open"), (wire.FIN | wire.ACK, f"closed={name}")):
+                for kept in (6, 49):
+                    sent = opened([ASK, zkr.Piece(side, None, b"long" * 12 + b"er")])
+                    sent[-1] = sent[-1]._replace(flags=flags)
+                    capture = wire.pcap(packed(sent, link=link), link, snap=size + kept)
+                    status, told, made = self.convert(capture)
+                    self.assertEqual((status, told[0].split()[12:]), (1, [how, f"hole={name}", "snapped"]))
+                    self.assertEqual(sides(made[0]), sides_of([ASK, zkr.Piece(side, None, sent[-1].data[:kept])]))
+
+    def test_one_byte_that_was_not_captured_is_no_end(self):
+        """Where the packet says that it was there, and the other side goes on after it."""
+        sent = opened([ASK, zkr.Piece(zkr.SERVER, None, bytes(50)), ASK])
+        status, told, _ = self.convert(wire.pcap(packed(sent), snap=54 + 49))
+        self.assertEqual((status, told[0].split()[12:]), (1, ["hole=S", "snapped"]))
+        self.assertIn(" lost=C:0,S:1 ", told[1])
+
+    def test_options_that_were_cut_off_are_no_bytes_of_the_connection(self):
+        sent = opened([])
+        packet = bytearray(wire.packet(sent[2]))[:54] + b"\1\1\x08\x0a" + bytes(8)
+        packet[16:18], packet[46] = (52).to_bytes(2, "big"), 8 << 4
+        status, told, _ = self.convert(wire.pcap([*packed(sent[:2]), (sent[2].milliseconds, bytes(packet))], snap=60))
+        self.assertEqual((status, told[0].split()[12:]), (0, ["open"]))
+
     def test_a_reset_of_something_else_ends_nothing(self):
         sent = opened([ASK, REPLY, ASK, REPLY])
         for number in (sent[4].number + 5, sent[4].number + (1 << 30)):
