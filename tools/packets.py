@@ -108,7 +108,8 @@ def packets_of_pcap(source, mark):
     if mark not in forms:
         raise NotRead("this is not a capture of tcpdump or Wireshark (pcap or pcapng)")
     order, unit = forms[mark]
-    link = struct.unpack(order + "16xI", source.exactly(20))[0] & 0x0FFFFFFF
+    # (above the link type is how many bytes of check sequence each packet ends with, which IP's length leaves out)
+    link = struct.unpack(order + "16xI", source.exactly(20))[0] & 0x03FFFFFF
     unpack = struct.Struct(order + "IIII").unpack_from
     data, at = source.data, source.at
     while True:

@@ -43,6 +43,15 @@ class Forms(PcapCase):
         status, _, _ = self.run_tool("pcap2zkr.py", "-", self.folder / "s", stdin=gzip.compress(files[0]))
         self.assertEqual((status, (self.folder / "s-1.zkr").read_bytes()), (0, made))
 
+    def test_packets_that_end_with_a_check_sequence(self):
+        """Its size is said above the link type: a bit that it is known, and four bits of how many times two bytes."""
+        source = SMALL[0].read_bytes()
+        packets = [(at, packet + bytes(4)) for at, packet in packed(wire.conversation(pieces(source)))]
+        for order in "<>":
+            capture = bytearray(wire.pcap(packets, order=order))
+            capture[20:24] = struct.pack(order + "I", 0x24000001)
+            self.assert_whole(capture, source)
+
     def test_nanoseconds_since_1970_are_more_than_a_float_tells_apart(self):
         """Each time is right to its last decimal, as is the millisecond in a recording of the second format."""
         times = ["1700000004661.509", "1700000004662.000", "1795332633004.999", "1795332633005.001"]
