@@ -130,8 +130,10 @@ class Play:
     def send(self, data):
         self.connection.settimeout(self.wait)
         self.record(self.own, data)
+        left = memoryview(data)
         try:
-            self.connection.sendall(data)
+            while left:     # each part is waited for, as sendall would wait for all of it
+                left = left[self.connection.send(left):]
         except OSError as error:
             if isinstance(error, (BrokenPipeError, ConnectionResetError)):
                 self.ended = self.ended or {"reset": self.peer.decode()}

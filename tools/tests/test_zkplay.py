@@ -10,6 +10,7 @@ import socket
 import struct
 import subprocess
 import sys
+import time
 import unittest.mock
 
 from support import CAPTURES, TOOLS, TOP, ToolCase, pieces, receive, sides, zkr
@@ -177,6 +178,18 @@ class Zkplay(ToolCase):
             for process in (client, player):
                 self.assertEqual(self.ended(process),
                                  (0, f"played: {said} bytes of the client, {heard} of the server\n", ""))
+
+    def test_a_client_that_reads_slowly(self):
+        """It is waited for as long as it takes some bytes."""
+        path, data = self.folder / "long.zkr", bytes(16_000_000)
+        path.write_bytes(b"ZKR1" + zkr.Head().piece(zkr.SERVER, 0, len(data).to_bytes(4, "big") + data))
+        player, address = self.play(path, "--wait", "0.5")
+        with socket.socket() as client:
+            client.setsockopt(socket.SOL_SOCKET, socket.SO_RCVBUF, 1 << 16)
+            client.connect(address)
+            while receive(client, 400_000):
+                time.sleep(0.05)
+        self.assertEqual(self.ended(player), (0, "played: 0 bytes of the client, 16000004 of the server\n", ""))
 
     def test_a_client_that_resets_before_it_is_taken(self):
         player, address = self.play(RUN, "--record", self.folder / "r")
