@@ -11,6 +11,7 @@ in a temporary folder. It prints the rows of a table.
 import argparse
 import contextlib
 import pathlib
+import re
 import selectors
 import socket
 import subprocess
@@ -21,6 +22,7 @@ from multiprocessing import Process
 
 RECORD = pathlib.Path(__file__).resolve().parent.parent / "tools" / "record.py"
 ASK = b"\0\0\0\x60" + bytes(96)        # a frame
+LISTENS = re.compile(r": listens on \S+:(\d+); ")
 
 
 def serve(listener):
@@ -48,7 +50,11 @@ def begin(record, server, folder):
     """A recorder in front of the server at this port, which records in the folder; and the port that it listens on."""
     recorder = subprocess.Popen([sys.executable, record, "0", f"127.0.0.1:{server}", f"{folder}/r"],
                                 stdout=subprocess.DEVNULL, stderr=subprocess.PIPE, text=True)
-    return recorder, int(recorder.stderr.readline().split(";")[0].rpartition(":")[2])
+    found = LISTENS.search(told := recorder.stderr.readline())
+    if not found:
+        recorder.kill()
+        raise SystemExit(f"{record} doesn't listen: {told.strip()}")
+    return recorder, int(found[1])
 
 
 def end(recorder):

@@ -189,12 +189,24 @@ class Failing(ToolCase):
         self.assertEqual(done.returncode, 1, done.stdout)
         self.assertRegex(done.stderr, r"/record.py ended with status 3\n$")
 
-    def test_a_connection_that_ends_before_its_answers(self):
-        """At its first bytes; or before 64 clients ask, or megabytes are sent."""
+    def checkout(self):
+        """A copy of measure_record.py, and the recorder that it measures, which is still to be written."""
         script, record = self.folder / "bench" / "measure_record.py", self.folder / "tools" / "record.py"
         for path in (script, record):
             path.parent.mkdir()
         shutil.copy(TOP / "bench" / "measure_record.py", script)
+        return script, record
+
+    def test_a_recorder_that_does_not_listen(self):
+        script, record = self.checkout()
+        record.write_text("exit('record.py: none: No such file or directory')")
+        done = subprocess.run([sys.executable, script], capture_output=True, text=True, check=False, timeout=50)
+        self.assertEqual((done.returncode, done.stderr),
+                         (1, f"{record} doesn't listen: record.py: none: No such file or directory\n"))
+
+    def test_a_connection_that_ends_before_its_answers(self):
+        """At its first bytes; or before 64 clients ask, or megabytes are sent."""
+        script, record = self.checkout()
         for ends, lines in ((ENDS, 5), (RESETS.replace("{whole}", "1"), 6), (RESETS.replace("{whole}", "66"), 9)):
             record.write_text(ends)
             done = subprocess.run([sys.executable, script, "--rounds", "1", "--megabytes", "1"], capture_output=True,
