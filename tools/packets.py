@@ -14,6 +14,7 @@ address and their ports, as the packet has them: a value of its own for each dir
 """
 
 import gzip
+import signal
 import struct
 
 FIN, SYN, RST, ACK = 1, 2, 4, 16
@@ -36,6 +37,16 @@ class NotRead(ValueError):
     """A file that is not a capture, or one of a kind that this module doesn't read."""
 
 
+def interruptible(call, *words):
+    """Calls what may wait for bytes. Ctrl-C ends it, also where it is blocked everywhere else."""
+    before = signal.pthread_sigmask(signal.SIG_BLOCK, [])
+    try:
+        signal.pthread_sigmask(signal.SIG_UNBLOCK, [signal.SIGINT])
+        return call(*words)
+    finally:
+        signal.pthread_sigmask(signal.SIG_SETMASK, before)
+
+
 class Source:
     """The bytes of a stream: `data`, of which those before `at` have been used."""
 
@@ -46,7 +57,7 @@ class Source:
         """Reads on, and drops the bytes before `at`. False at the stream's end."""
         rest = self.data[at:]
         # It reads as much again as is there: else a large packet would be copied once for each small part of it.
-        new = self.read(max(BLOCK, len(rest)))
+        new = interruptible(self.read, max(BLOCK, len(rest)))
         self.data, self.at = rest + new, 0
         return bool(new)
 
@@ -61,7 +72,7 @@ class Source:
 
 def segments(stream):
     """The TCP segments of a capture: of a buffered stream of its bytes."""
-    if stream.peek(2)[:2] == b"\x1f\x8b":
+    if interruptible(stream.peek, 2)[:2] == b"\x1f\x8b":
         stream = gzip.GzipFile(fileobj=stream)
     source, number = Source(stream), 0
     mark = source.exactly(4) if source.more(0) else b""

@@ -28,7 +28,9 @@ begins in the same way as after missing bytes.
 The status is 1 if anything was left out, or if the capture has no connection to the port.
 """
 
+import contextlib
 import ipaddress
+import signal
 import struct
 import sys
 import zlib
@@ -71,12 +73,17 @@ class Capture:
         self.halves, self.over, self.silent, self.lingering = {}, {}, {}, {}
 
     def convert(self, stream):
-        """Makes recordings of a capture. Where one can't be written, those of which nothing was written are removed."""
+        """Makes recordings of a capture. Where one can't be written, those of which nothing was written are removed.
+        Ctrl-C has an effect only where bytes are read, so that no packet is taken in part."""
+        before = signal.pthread_sigmask(signal.SIG_BLOCK, [signal.SIGINT])
         try:
             self.read(stream)
         except OSError:
             self.series.remove_empty()
             raise
+        finally:
+            with contextlib.suppress(KeyboardInterrupt):
+                signal.pthread_sigmask(signal.SIG_SETMASK, before)
 
     def read(self, stream):
         """Reads a capture up to its end, or up to Ctrl-C."""

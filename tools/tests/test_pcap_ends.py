@@ -1,11 +1,15 @@
 """Tests of how pcap2zkr.py reports the ends of connections, and forgets them."""
 
 import random
+import signal
+import subprocess
+import sys
+import time
 import unittest.mock
 
 import wire
 from captured import SMALL, PcapCase, capture_of, packed
-from support import pieces, sides, zkr
+from support import TOOLS, pieces, sides, zkr
 import pcap2zkr
 
 ASK = zkr.Piece(zkr.CLIENT, None, b"ask")
@@ -74,6 +78,32 @@ class Ends(PcapCase):
             self.assertEqual((status, len(told)), (0, 2))
             self.assertIn(f" packets=1-{len(found)} ", told[0])
             self.assertTrue(told[0].endswith(" closed=C"), told)
+
+    def test_ctrl_c_takes_no_packet_in_part(self):
+        """It ends the conversion where it reads on; also one that comes twice."""
+        gathered = zkr.Writer.gathered
+
+        def interrupted(*words):
+            signal.raise_signal(signal.SIGINT)
+            gathered(*words)
+        before = signal.signal(signal.SIGINT, signal.default_int_handler)
+        self.addCleanup(signal.signal, signal.SIGINT, before)
+        with unittest.mock.patch("zkr.Writer.gathered", interrupted):
+            status, told, made = self.convert(capture_of(opened()))
+        self.assertEqual((status, [sides(each) for each in made]), (0, [(b"ask", b"reply")]))
+        self.assertIn(" client=3 server=5 ", told[0])
+
+    def test_ctrl_c_where_it_waits_for_packets(self):
+        command = [sys.executable, TOOLS / "pcap2zkr.py", "-", self.folder / "r"]
+        with subprocess.Popen(command, stdin=subprocess.PIPE, stdout=subprocess.PIPE, text=False,
+                              preexec_fn=lambda: signal.signal(signal.SIGINT, signal.default_int_handler)) as tool:
+            tool.stdin.write(capture_of(opened()))
+            tool.stdin.flush()
+            while not list(self.folder.glob("r-1.zkr")):
+                time.sleep(0.01)
+            tool.send_signal(signal.SIGINT)
+            self.assertRegex(tool.stdout.read(), rb" client=3 server=5 packets=1-5 resent=0 open\n$")
+        self.assertEqual(tool.returncode, 0)
 
     def test_segments_that_were_captured_again(self):
         sent = opened([ASK, REPLY, ASK])
