@@ -187,7 +187,7 @@ def skip_all(words):
         out = StandardOutput(recording.head)
     try:
         skip(recording, times, out, skipping)
-    except OSError:
+    except (OSError, MemoryError, KeyboardInterrupt):
         known = None        # they are of the whole recording
         raise
     finally:

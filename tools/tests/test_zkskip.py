@@ -2,9 +2,12 @@
 
 import stat
 import struct
+import unittest.mock
 
 from support import CAPTURES, PROGRAM, ToolCase, pieces, sides, zkr
 from invented import LACKED, NAMED, NUMBER
+import facts
+import zkskip
 
 CONNECT = bytes.fromhex("00000000 0000000000000000 00007530 0000000000000000 00000010" + "00" * 17)
 CONNECTED = bytes.fromhex("00000000 00007530 0100000000000001 00000010 000102030405060708090a0b0c0d0e0f 00")
@@ -168,6 +171,21 @@ class Zkskip(ToolCase):
             self.assertEqual(stat.S_IMODE(target.stat().st_mode), 0o600)
             status, out, err = self.run_tool("zkskip.py", source, target)
             self.assertEqual((status, out, err), (3, "", f"zkskip.py: {target}: File exists\n"))
+
+    def test_ctrl_c_leaves_no_facts_of_the_whole_recording(self):
+        source, take = self.folder / "a.zkr", zkskip.Skipping.take
+        source.write_bytes(recording([request(1, 19), request(2, 3), reply(1), reply(2, -101)]))
+        facts.write(source, facts.Facts(closed="C"))
+
+        def interrupted(skipping, piece):
+            if piece.side == zkr.SERVER and skipping.requests:
+                raise KeyboardInterrupt
+            return take(skipping, piece)
+        for name, taken, status, left in (("b", take, 0, True), ("c", interrupted, 130, False)):
+            with unittest.mock.patch("zkskip.Skipping.take", taken):
+                self.assertEqual(self.run_inside("zkskip.py", source, self.folder / f"{name}.zkr")[0], status)
+            self.assertTrue((self.folder / f"{name}.zkr").exists())
+            self.assertEqual((self.folder / f"{name}.facts.json").exists(), left)
 
     def test_times_of_another_recording(self):
         source = self.folder / "a.zkr"
