@@ -65,7 +65,7 @@ def end(recorder):
 
 
 def came(client, size):
-    """How many bytes come, at most `size`."""
+    """How many bytes come, at most `size`; a ConnectionError where none will."""
     if count := len(client.recv(size)):
         return count
     raise ConnectionError

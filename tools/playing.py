@@ -128,11 +128,12 @@ class Play:
         return is_end
 
     def send(self, data):
+        """Sends bytes. It waits for the peer anew wherever that has taken some of them."""
         self.connection.settimeout(self.wait)
         self.record(self.own, data)
         left = memoryview(data)
         try:
-            while left:     # each part is waited for, as sendall would wait for all of it
+            while left:
                 left = left[self.connection.send(left):]
         except OSError as error:
             if isinstance(error, (BrokenPipeError, ConnectionResetError)):
