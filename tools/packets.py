@@ -179,7 +179,7 @@ def block_body(source, order, head, least):
 
 
 def clock_of(order, options):
-    """How many units of an interface's times are a second, and what is added to them, in seconds, out of its options."""
+    """How many units of an interface's times are a second, and what is added to them, in seconds: by its options."""
     rate, offset = 10**6, 0
     while len(options) >= 4:
         code, size = struct.unpack(order + "HH", options[:4])

@@ -25,7 +25,7 @@ from printer import Printer
 
 BLOCK = 65536
 READ, WRITE = selectors.EVENT_READ, selectors.EVENT_WRITE
-AT_ONCE = 16                # the most clients that are accepted, that begin, and that end, before the connections come again
+AT_ONCE = 16                # the most clients that are accepted, begin, and end, before the connections come again
 MOMENT = 0.01               # the seconds after which no more of them begin and end, where files or processes take long
 REST = 0.1                  # the seconds without new clients, once the system has no room for one
 LAST_WORDS = 30             # the seconds that observers have to end, unless a second signal comes
@@ -226,8 +226,8 @@ class Proxy:
     a connection's observer: its `piece(side, data)` is called before the bytes are passed on, and its `over()` once the
     connection has ended.
 
-    `connected` has those whose server has answered, and which begin together: many steps of one kind take less time than
-    as many by turns. `ended` has those that are not over yet. Each turn takes some of both."""
+    `connected` has those whose server has answered, and which begin together: many steps of one kind take less time
+    than as many by turns. `ended` has those that are not over yet. Each turn takes some of both."""
 
     descriptors = 0         # the most descriptors of an observer
 

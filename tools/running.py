@@ -11,9 +11,9 @@ USUAL_FILES = 1 << 16       # open files for which a table of descriptors has ro
 
 
 def allow_many_files():
-    """Lets this process have as many open files as the system allows it. The table of their descriptors gets its size at
-    once, while there is one thread: where it grows later, Linux has a process of several threads wait, for some 20 ms
-    each time."""
+    """Lets this process have as many open files as the system allows it. The table of their descriptors gets its size
+    at once, while there is one thread: where it grows later, Linux has a process of several threads wait, for some
+    20 ms each time."""
     _, most = resource.getrlimit(resource.RLIMIT_NOFILE)
     resource.setrlimit(resource.RLIMIT_NOFILE, (most, most))
     try:

@@ -183,7 +183,8 @@ class Failing(ToolCase):
 
     def test_a_recording_that_was_not_written(self):
         limit = resource.getrlimit(resource.RLIMIT_FSIZE)
-        done = subprocess.run([sys.executable, TOP / "bench" / "measure_record.py", "--rounds", "1", "--megabytes", "2"],
+        script = TOP / "bench" / "measure_record.py"
+        done = subprocess.run([sys.executable, script, "--rounds", "1", "--megabytes", "2"],
                               preexec_fn=lambda: resource.setrlimit(resource.RLIMIT_FSIZE, (1 << 20, limit[1])),
                               capture_output=True, text=True, check=False)
         self.assertEqual(done.returncode, 1, done.stdout)
