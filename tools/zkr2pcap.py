@@ -102,10 +102,8 @@ def nanoseconds(text):
     return int(whole) * 10**6 + int((part + "0" * 6)[:6])
 
 
-def timed(path, reader):
-    """The pieces of a recording, each with its time in nanoseconds."""
-    beside = zkr.times_path(path)
-    times = contents.times_beside(path) if os.path.exists(beside) else None
+def timed(path, reader, times):
+    """The pieces of a recording, each with its time in nanoseconds: these times, if any."""
     try:
         for number, piece in enumerate(reader):
             if times:
@@ -121,9 +119,11 @@ def timed(path, reader):
 
 def packets(path, reader, client, server):
     """The packets of a recording, each with its time in nanoseconds and the port of its client."""
+    times = contents.times_beside(path) if os.path.exists(zkr.times_path(path)) else None
     known = facts.facts_of(path)
-    for sent in conversation(timed(path, reader), close=not (known and (known.open or known.hole))):
-        yield sent.milliseconds, client, ETHERNET_HEAD + ipv4(sent.side, tcp(sent, client, server))
+    segments = conversation(timed(path, reader, times), close=not (known and (known.open or known.hole)))
+    return ((sent.milliseconds, client, ETHERNET_HEAD + ipv4(sent.side, tcp(sent, client, server)))
+            for sent in segments)
 
 
 def write(out, found):

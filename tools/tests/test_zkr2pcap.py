@@ -127,6 +127,17 @@ class Zkr2pcap(ToolCase):
         self.assert_bad_words("zkr2pcap.py", CONNECT)
         self.assert_bad_words("zkr2pcap.py", "--port", "0", CONNECT, self.folder / "new")
 
+    def test_times_of_another_recording(self):
+        """No capture is begun, so that it can be made once they are put right."""
+        path, other, capture = (self.folder / name for name in ("a.zkr", "b.zkr", "a.pcap"))
+        for each in (path, other):
+            each.write_bytes(CONNECT.read_bytes())
+        other.with_name("b.zkr.times").write_text("1\n", "ascii")
+        status, out, err = self.run_inside("zkr2pcap.py", path, other, capture)
+        self.assertEqual((status, out, err.count("\n")), (1, "", 1))
+        self.assertIn("these are not the times of this recording", err)
+        self.assertFalse(capture.exists())
+
     def test_an_empty_recording(self):
         path = self.folder / "none.zkr"
         path.write_bytes(b"ZKR1")
