@@ -3,10 +3,12 @@
 #     make install DESTDIR= PREFIX=/usr/local LIBDIR=lib
 #     make uninstall, with the same arguments
 #
-# They may also be in the environment.
+# They may also be in the environment, where an empty one is none.
 
-PREFIX ?= /usr/local
-LIBDIR ?= lib
+ifneq ($(origin PREFIX),command line)
+override PREFIX := $(or $(PREFIX),/usr/local)
+endif
+override LIBDIR := $(or $(LIBDIR),lib)
 DESTDIR ?=
 INSTALL = python3 packaging/install.py --destdir "$(DESTDIR)" --prefix "$(PREFIX)" --libdir "$(LIBDIR)"
 

@@ -265,6 +265,12 @@ def installed(work):
     yield lists("the installed program", place / "opt/zk/bin/zkdump", "show")
     yield ends_well("make uninstall", "make", "-C", TOP, "uninstall", *words)
     yield "uninstalled", not files(place), f"there is still {sorted(files(place))[:9]}"
+    usual, own = '--prefix "/usr/local" --libdir "lib"', '--prefix "/opt/zk" --libdir "lib64"'
+    for prefix, libdir, words, wanted in (("", "", (), usual), ("", "", ("-e",), usual), ("/opt/zk", "lib64", (), own),
+                                          ("/", "", ("PREFIX=/opt/zk", "LIBDIR=lib64"), own)):
+        found = run("make", "-C", TOP, "-n", "install", *words, env={**os.environ, "PREFIX": prefix, "LIBDIR": libdir})
+        yield (f"PREFIX={prefix}", wanted in found.stdout.decode(),
+               f"make install {words}, PREFIX={prefix!r} and LIBDIR={libdir!r} exported: {found.stdout.decode()}")
 
 
 def main():
