@@ -3,9 +3,9 @@
 
     refusals.py [--jobs N] [--only WORD] [--program PATH] [--tests PATH]
 
-tests/refuse.c, which a C compiler makes a library of, takes the place of the C library's malloc and realloc, by which
-alone a program allocates, and refuses the Nth call of a run. For each stored case (crates/zkdump/cases) and N counting
-up from 1 until a run meets no refusal
+tests/refuse.c, which a C compiler makes a library of, takes the place of the C library's functions that allocate, and
+refuses the Nth call of a run. tests/grow.c calls each of them; what is run imports no other by which memory grows
+(GROWING). For each stored case (crates/zkdump/cases) and N counting up from 1 until a run meets no refusal
 
 - show, check, build, migrate: over the stored cases, `build` over the listings of those of show, too, and `check` over a
   list that is longer than what is read at once, in long pieces and in short ones, the run does the same as with ample
@@ -53,6 +53,10 @@ MIXES = {
 LINES = (("small", 1_000), ("small", 10_000), ("outside ASCII", 1_000), ("outside ASCII", 10_000), ("listing", 20),
          ("listing", 100))
 BLOCK = 65_536
+# The C library's functions by which a program's memory grows.
+GROWING = {"malloc", "calloc", "realloc", "reallocarray", "memalign", "aligned_alloc", "posix_memalign", "valloc",
+           "pvalloc", "brk", "sbrk", "mmap", "mmap64", "mremap", "shmat", "syscall",
+           *(f"__libc_{name}" for name in ("malloc", "calloc", "realloc", "memalign", "valloc", "pvalloc"))}
 OUT_OF_MEMORY = b"zkdump: out of memory\n"
 
 
@@ -148,14 +152,41 @@ def runs():
 
 
 def compiled(folder):
-    """The library of refuse.c, or None if there is no C compiler."""
+    """The library of refuse.c and the program of grow.c, or None if there is no C compiler."""
     for compiler in filter(None, (os.environ.get("CC"), "cc", "gcc", "clang")):
         if shutil.which(compiler):
-            library = os.path.join(folder, "refuse.so")
-            source = pathlib.Path(__file__).with_name("refuse.c")
-            subprocess.run([compiler, "-O2", "-shared", "-fPIC", "-fno-builtin", "-o", library, source], check=True)
-            return library
+            made = []
+            for name, *words in (("refuse", "-shared", "-fPIC"), ("grow",)):
+                made.append(os.path.join(folder, name))
+                source = pathlib.Path(__file__).with_name(f"{name}.c")
+                subprocess.run([compiler, "-O2", "-fno-builtin", *words, "-o", made[-1], source], check=True)
+            return made
     return None
+
+
+def symbols(path, kind):
+    """The names of a file's dynamic symbols of this kind."""
+    found = subprocess.run(["nm", "-D", f"--{kind}-only", path], capture_output=True, text=True, check=True).stdout
+    return {line.split()[-1].partition("@")[0] for line in found.splitlines()}
+
+
+def growths(library, grow, programs):
+    """A line, or none, for each of what memory could grow by unrefused: an import of a program; and a function of the
+    library that doesn't refuse its call, or gives no memory."""
+    if not shutil.which("nm"):
+        print("skipped: by what the programs grow: nm is missing")
+        return
+    refused = symbols(library, "defined") & GROWING
+    for path in programs:
+        more = sorted((symbols(path, "undefined") & GROWING) - refused)
+        yield f"{path} grows by {', '.join(more)}, which tests/refuse.c doesn't refuse" if more else None
+    yield None if refused <= symbols(grow, "undefined") else f"tests/grow.c doesn't call all of {sorted(refused)}"
+    program, given = Refusing(grow, library), [b"g"] * len(refused)
+    for growth in range(1, len(given) + 2):
+        wanted = b"".join([*given[:growth - 1], b"r", *given[growth:]][:len(given)])
+        found = program.run_without(growth, [], b"")
+        good = found == ((wanted, b"", 0), growth <= len(given))
+        yield None if good else f"of the calls of tests/grow.c, number {growth} is to be refused: {found}"
 
 
 def main():
@@ -170,12 +201,15 @@ def main():
     for path, made in programs:
         if not os.access(path, os.X_OK):
             parser.error(f"{path} is not a program: build it with {made}")
-    passed, failures, begin = 0, [], time.monotonic()
+    begin = time.monotonic()
     with tempfile.TemporaryDirectory() as folder, concurrent.futures.ProcessPoolExecutor(options.jobs) as pool:
-        library = compiled(folder)
-        if library is None:
+        made = compiled(folder)
+        if made is None:
             print("skipped: there is no C compiler for tests/refuse.c\n0 passed, 0 failed")
             return 0
+        library, grow = made
+        found = list(growths(library, grow, [path for path, _ in programs]))
+        passed, failures = found.count(None), list(filter(None, found))
         tasks = [(options.tests if one[0] == "calls" else options.program, library, *one) for one in runs()]
         for good, bad in pool.map(test, [task for task in tasks if options.only in (None, task[2])]):
             passed, failures = passed + good, failures + bad
