@@ -92,12 +92,12 @@ def check_rust(folder, archive):
                         PKG_CONFIG_PATH=str(described(folder, archive)))
         yield result
         (folder / "moved").mkdir()
-        (folder / "moved" / "zk.pc").write_text("Name: zk\nDescription: libzk\nVersion: 0\nLibs: -L/moved -lzk\n")
+        (folder / "moved" / "zk.pc").write_text("Name: zk\nDescription: libzk\nVersion: 0\nLibs: -L/moved\\ to -lzk\n")
         result, _ = run("examples/rust, moved", "cargo", "check", *words, folder=RUST, **made,
                         PKG_CONFIG_PATH=str(folder / "moved"))
         yield result
         found = [path.read_text() for path in folder.glob("target/debug/build/zk-sys-*/output")]
-        good = any("native=/moved\n" in text for text in found)
+        good = any("native=/moved to\n" in text for text in found)
         yield "moved", good, f"examples/rust: the library isn't looked for where another PKG_CONFIG_PATH says: {found}"
 
 

@@ -16,11 +16,13 @@ fn main() {
         .args(["--libs-only-L", "zk"])
         .output()
     {
-        let words = String::from_utf8_lossy(&found.stdout).into_owned();
+        // A blank in a folder's name has a backslash before it.
+        let words = String::from_utf8_lossy(&found.stdout).replace("\\ ", "\0");
         for folder in words
             .split_whitespace()
             .filter_map(|word| word.strip_prefix("-L"))
         {
+            let folder = folder.replace('\0', " ");
             println!("cargo:rustc-link-search=native={folder}");
         }
     }
