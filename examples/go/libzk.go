@@ -173,8 +173,9 @@ func read(payload []byte, call func(*C.struct_zk_field, C.size_t) C.struct_zk_re
 		int64(answer.zxid), 0, 0, payload, make([]Field, 0, answer.count)}
 	for _, field := range room[:answer.count] {
 		place := int(field.place)
+		end := place + int(field.length) // what is appended to a content goes elsewhere
 		message.Fields = append(message.Fields, Field{C.GoString(C.zk_field_name(field.name)), FieldKind(field.kind),
-			field.null != 0, int64(field.number), place, payload[place : place+int(field.length)]})
+			field.null != 0, int64(field.number), place, payload[place:end:end]})
 	}
 	return message, nil
 }

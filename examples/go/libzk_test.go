@@ -75,6 +75,18 @@ func TestFields(t *testing.T) {
 	}
 }
 
+func TestAppendedToAField(t *testing.T) {
+	digits := "00000001 00000005 00000002 2f61 00000001 61 00000007"
+	message, err := ReadRequest(Profile34, payload(digits))
+	if err != nil {
+		t.Fatal(err)
+	}
+	below, data := append(message.Fields[0].Content, "/below"...), message.Fields[1].Content
+	if string(below) != "/a/below" || string(data) != "a" || !bytes.Equal(message.Payload, payload(digits)) {
+		t.Errorf("%s %+v", below, message)
+	}
+}
+
 func TestFaults(t *testing.T) {
 	for digits, wanted := range map[string]string{
 		"": "SHORT at 0", exists + "00": "TRAILING at 15", "00000001 0000270f": "UNKNOWN_OP at 4",
