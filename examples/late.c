@@ -21,6 +21,13 @@ static void fail(const char *what) {
     exit(2);
 }
 
+/* Reads bytes: fewer than `length` where the file ends. */
+static size_t take(FILE *recording, uint8_t *bytes, size_t length) {
+    size_t got = fread(bytes, 1, length, recording);
+    if (ferror(recording)) fail(strerror(errno));
+    return got;
+}
+
 /* Prints the line of a side's newest message. */
 static void put_message(struct zk_through *through, uint32_t side) {
     struct zk_line line = zk_through_line(through, side, NULL, 0); /* says how much room is needed */
@@ -54,18 +61,17 @@ static void list(struct zk_through *through, FILE *recording, unsigned long firs
     uint8_t head[5], *piece = NULL;
     bool good = true;
     size_t got;
-    if (fread(head, 1, 4, recording) != 4 || memcmp(head, "ZKR1", 4) != 0) fail("the file is no recording of format ZKR1");
-    for (unsigned long i = 0; good && (got = fread(head, 1, 5, recording)) > 0; i++) {
+    if (take(recording, head, 4) != 4 || memcmp(head, "ZKR1", 4) != 0) fail("the file is no recording of format ZKR1");
+    for (unsigned long i = 0; good && (got = take(recording, head, 5)) > 0; i++) {
         if (got != 5 || (head[0] != 'C' && head[0] != 'S')) fail("the recording is damaged");
         size_t length = (size_t)head[1] << 24 | (size_t)head[2] << 16 | (size_t)head[3] << 8 | head[4];
         if (length < 1 || length > 16777220) fail("the recording is damaged");
         uint8_t *larger = realloc(piece, length + 1);
         if (larger == NULL) fail("out of memory");
         piece = larger;
-        if (fread(piece, 1, length, recording) != length) fail("the recording ends within a piece");
+        if (take(recording, piece, length) != length) fail("the recording ends within a piece");
         if (i >= first) good = put_frames(through, head[0] == 'C' ? ZK_CLIENT : ZK_SERVER, piece, length);
     }
-    if (ferror(recording)) fail(strerror(errno));
     free(piece);
 }
 

@@ -6,6 +6,7 @@ and many connections at once (passing.py). The client speaks to answering.py, an
 (served.py).
 """
 
+import itertools
 import os
 import pathlib
 import platform
@@ -167,13 +168,14 @@ def list_damaged(folder, name, words, *more):
 
 def fail_to_read(folder, archive, cc):
     """Whether a read that fails isn't taken for the end of the recording."""
-    for name, *more in (("listing",), ("late", "0")):
+    for left, (name, *more) in itertools.product((2, 4, 6, 11), (("listing",), ("late", "0"))):
         program = os.path.join(folder, f"{name}_within")
-        subprocess.run([cc, *STRICT, "-include", TOP / "tests" / "fails_within.h", f"-I{TOP / 'include'}", "-o", program,
-                        EXAMPLES / f"{name}.c", archive], check=True)
+        subprocess.run([cc, *STRICT, f"-DLEFT={left}", "-include", TOP / "tests" / "fails_within.h",
+                        f"-I{TOP / 'include'}", "-o", program, EXAMPLES / f"{name}.c", archive], check=True)
         found = subprocess.run([program, "any.zkr", *more], capture_output=True, text=True)
         good = (found.returncode, found.stdout, found.stderr) == (2, "", f"{name}: Input/output error\n")
-        yield f"{name}, a read", good, f"{name}, a read fails: {found.returncode}, {found.stdout}{found.stderr}"
+        yield (f"{name}, a read", good,
+               f"{name}, a read fails after {left} bytes: {found.returncode}, {found.stdout}{found.stderr}")
 
 
 def fail_within(shared):
