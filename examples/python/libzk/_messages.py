@@ -156,7 +156,9 @@ def fields_of(read: Callable[..., _calls.Read],
 def message_of(view: _calls.Message, read: Callable[..., _calls.Read], payload: bytes,
                line: Optional[str] = None) -> Message:
     """The message that a handle shows."""
-    _, fields = fields_of(read, lambda: payload)
+    answer, fields = fields_of(read, lambda: payload)
+    if answer.status:  # another thread has renewed or closed it
+        raise Refused(answer.status, answer.place)
     operation = OPERATIONS.get(view.operation, "")
     return Message(Kind(view.kind), view.xid, operation, view.err, view.zxid, fields, payload, view.frame, line,
                    view.answers or None)

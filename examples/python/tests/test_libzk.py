@@ -13,8 +13,10 @@ import subprocess
 import sys
 import time
 import unittest
+from unittest import mock
 
 import libzk
+from libzk import _calls
 from libzk import Cut, Fault, FieldKind, Kind, Profile, Refused, Side, Speaker, Talk, Through
 
 HELLO = bytes.fromhex("00000000 0000000000000000 00007530 0000000000000000 00000010 00000000000000000000000000000000 00")
@@ -278,6 +280,16 @@ class Talks(unittest.TestCase):
         with Talk() as talk, self.assertRaises(Refused) as caught:
             talk.feed(Side.CLIENT, frame(HELLO) + frame(EXISTS + b"\0"))
         self.assertEqual(caught.exception.fault, Fault(Side.CLIENT, 1, 49 + 20, 15, "TRAILING", None, None))
+
+    def test_a_talk_that_is_begun_anew_meanwhile(self):
+        """As by another thread, while a message is made: it had no fields."""
+        for name, held in (("talk", Talk()), ("through", Through())):
+            call = f"zk_{name}_fields"
+            fields = getattr(_calls.library, call)
+            with mock.patch.object(_calls.library, call, lambda *words: (held.renew(), fields(*words))[1]):
+                with held, self.assertRaises(Refused) as caught:
+                    held.feed(Side.CLIENT, frame(HELLO))
+            self.assertEqual(caught.exception.name, "NO_MESSAGE")
 
     def test_what_waits_and_is_held(self):
         multi = bytes.fromhex("00000003 0000000e 00000002 00 ffffffff 00000002 2f61 ffffffff ffffffff 01 ffffffff")
