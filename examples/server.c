@@ -78,8 +78,9 @@ static int first_client(unsigned long port) {
     struct sockaddr_in at = {.sin_family = AF_INET, .sin_port = htons((uint16_t)port)};
     socklen_t size = sizeof at;
     at.sin_addr.s_addr = htonl(INADDR_LOOPBACK);
-    int listener = socket(AF_INET, SOCK_STREAM, 0);
-    if (listener < 0 || bind(listener, (struct sockaddr *)&at, size) != 0 || listen(listener, 1) != 0) return -1;
+    int listener = socket(AF_INET, SOCK_STREAM, 0), yes = 1;
+    if (listener < 0 || setsockopt(listener, SOL_SOCKET, SO_REUSEADDR, &yes, sizeof yes) != 0) return -1;
+    if (bind(listener, (struct sockaddr *)&at, size) != 0 || listen(listener, 1) != 0) return -1;
     if (getsockname(listener, (struct sockaddr *)&at, &size) != 0) return -1;
     printf("%u\n", (unsigned)ntohs(at.sin_port));
     if (fflush(stdout) != 0) return -1;

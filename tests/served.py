@@ -24,10 +24,11 @@ closeSession: OK
 """
 
 
-def served(program, speak):
+def served(program, speak, *port):
     """What comes of speaking to the server's port, the server's status, and its line on standard error."""
-    with subprocess.Popen([program], stdout=subprocess.PIPE, stderr=subprocess.PIPE, text=True) as process:
-        return speak(int(process.stdout.readline())), process.wait(PATIENCE), process.stderr.read()
+    with subprocess.Popen([program, *port], stdout=subprocess.PIPE, stderr=subprocess.PIPE, text=True) as process:
+        listens = process.stdout.readline()
+        return listens and speak(int(listens)), process.wait(PATIENCE), process.stderr.read()
 
 
 def answered(port, digits):
@@ -54,16 +55,25 @@ def gone(program, reset):
         return process.wait(PATIENCE), process.stderr.read()
 
 
+def again(program):
+    """What comes of a client that the server refuses, and of one at the same port at once after that."""
+    with socket.create_server(("127.0.0.1", 0)) as free:
+        port = str(free.getsockname()[1])
+    return [served(program, lambda port: answered(port, EXISTS), port) for _ in range(2)]
+
+
 def check(program, client):
     """Whether it answers what it should, and refuses what a client may not send."""
     for name, reset, told in (("a client that is gone", False, "the client has ended the connection before its answer"),
                               ("a reset", True, "Connection reset by peer")):
         found = gone(program, reset)
         yield name, found == (1, f"server: {told}\n"), f"server, {name}: {found}"
+    refused = ("", 1, "server: . refused side=C frame=0 offset=19 place=12 reason=Short\n")
+    found = again(program)
+    yield "a port again", found == [refused] * 2, f"server, one port twice: {found}"
     for name, speak, wanted in (
         ("answers", lambda port: answered(port, HELLO + EXISTS + ENDS), (bytes.fromhex(ANSWERS).hex(), 0, "")),
-        ("another first message", lambda port: answered(port, EXISTS),
-         ("", 1, "server: . refused side=C frame=0 offset=19 place=12 reason=Short\n")),
+        ("another first message", lambda port: answered(port, EXISTS), refused),
         ("the client", lambda port: subprocess.run([client, "127.0.0.1", str(port), "/a", "x"], stdout=subprocess.PIPE,
                                                    text=True).stdout, (SAID, 0, "")),
     ):
