@@ -156,8 +156,8 @@ enum { ZK_CONNECT = 1, ZK_REQUEST = 2, ZK_CONNECTED = 3, ZK_REPLY = 4, ZK_EVENT 
 
 /* What message a frame is. operation is that of a request, or of the request that a reply answers; err and zxid are those
  * of a reply or an event, else 0; frame is the number of the side's frame, from 0. The frame's bytes, its length
- * included, are the last `size` that were used of its side. answers is the number of the client's frame that a ZK_REPLY
- * answers. It is 0 for ZK_CONNECTED, which answers that frame, and for what answers none. */
+ * included, are the last `size` that were used of its side when it became whole. answers is the number of the client's
+ * frame that a ZK_REPLY answers. It is 0 for ZK_CONNECTED, which answers that frame, and for what answers none. */
 struct zk_message {
     uint32_t status;
     uint32_t kind;
@@ -178,7 +178,7 @@ struct zk_waiting {
     uint32_t weight;
 };
 
-/* How many bytes of a side are held of a frame that isn't whole, its length included. */
+/* How many bytes of a side are held of a frame that isn't whole, or is refused, its length included. */
 struct zk_held {
     uint32_t status;
     uint32_t bytes;
@@ -332,7 +332,7 @@ struct zk_read zk_talk_fields(struct zk_talk *talk, uint32_t side, struct zk_fie
 /* How many requests wait for their replies; after a fault, those before the byte that decided it. */
 struct zk_waiting zk_talk_waiting(struct zk_talk *talk);
 
-/* How many bytes the side has sent of a frame that isn't whole. */
+/* How many bytes the side has sent of a frame that isn't whole, or is refused. */
 struct zk_held zk_talk_held(struct zk_talk *talk, uint32_t side);
 
 /* How the conversation ends if nothing more comes. */
@@ -366,10 +366,11 @@ uint32_t zk_through_renew(struct zk_through *through);
 
 /* Takes a piece as zk_talk_step does. A fault's frame and offset are the side's own, those left out counted. After ZK_FULL
  * the server's bytes come first: give the client's piece again when a request has its reply. So no frame is refused with
- * ZK_QUEUE_FULL. */
+ * ZK_QUEUE_FULL. Where all requests have their replies, the frame alone weighs more than may wait. */
 struct zk_passed zk_through_step(struct zk_through *through, uint32_t side, const uint8_t *piece, size_t length);
 
-/* The message of the side's newest whole frame; ZK_NO_MESSAGE if that was left out. */
+/* The message of the side's newest whole frame, also while bytes of the next one come; ZK_NO_MESSAGE if that was left
+ * out. */
 struct zk_message zk_through_view(struct zk_through *through, uint32_t side);
 
 /* Writes that message's line, as zk_talk_line. */
@@ -401,7 +402,7 @@ struct zk_say zk_speaker_say(struct zk_speaker *speaker, const uint8_t *line, si
  * with its place; ZK_TOO_LONG, ZK_QUEUE_FULL and ZK_NO_MEMORY as for the message's line. Only the frame is allocated. */
 struct zk_payload zk_speaker_say_payload(struct zk_speaker *speaker, uint32_t side, const uint8_t *bytes, size_t length);
 
-/* Writes that frame. */
+/* Writes that frame; no bytes where none is kept. */
 struct zk_line zk_speaker_frame(struct zk_speaker *speaker, uint8_t *out, size_t room);
 
 /* Frees the speaker; the handle is then empty. */

@@ -167,7 +167,7 @@ static void show_fields(struct played *it, enum kind kind, uint32_t side) {
 /* A step of a passage: what became of the bytes, and what is then shown and left out. */
 static void pass_through(struct played *it) {
     struct given given = give(it, 6);
-    uint32_t side = given.side;
+    uint32_t side = given.side, shown = zk_through_view(&it->through, side).status;
     struct zk_passed step = zk_through_step(&it->through, side, given.at, given.length);
     if (!stepped(it, given, step.status, step.used, step.fault)) return;
     if (step.went <= ZK_UNSEEN) wents[step.went]++;
@@ -187,7 +187,9 @@ static void pass_through(struct played *it) {
     if (step.went == ZK_FULL && one_in(9)) it->broken = true;
     struct zk_line found = write_text(it, left_out, side);
     must(step.status != ZK_WELL || (found.status == ZK_NO_MESSAGE) != left, "the payload of what is left out");
-    if (step.status != ZK_WELL || (!left && step.went != ZK_MESSAGE)) return;
+    bool whole = left || step.went == ZK_MESSAGE;
+    must(step.status != ZK_WELL || whole || zk_through_view(&it->through, side).status == shown, "the message shown");
+    if (step.status != ZK_WELL || !whole) return;
     must(answered(zk_through_view(&it->through, side).status) == (left ? ZK_NO_MESSAGE : ZK_WELL), "the message kept");
     if (!left || found.status != ZK_WELL) return;
     must(found.length >= 8 && number_at(text.at) == step.xid, "the xid of what is left out");

@@ -13,7 +13,8 @@ type Went uint32
 
 // WentWithin: no frame is whole. WentMessage: a frame is whole, a message. WentAsked: a request is whole whose operation
 // the profile lacks, and is left out. WentAnswered: so is the reply to one. WentFull: more would wait than may, and
-// nothing was used. WentUnseen: a reply to a request that wasn't seen is whole (JoinThrough).
+// nothing was used; where all requests have their replies, the frame alone weighs more. WentUnseen: a reply to a request
+// that wasn't seen is whole (JoinThrough).
 const (
 	WentWithin   Went = C.ZK_WITHIN
 	WentMessage  Went = C.ZK_MESSAGE

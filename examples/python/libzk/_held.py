@@ -164,8 +164,9 @@ class Passed(NamedTuple):
     """What became of the `used` bytes of a step. WITHIN: no frame is whole. MESSAGE: a frame is, and `message` is its
     message. ASKED: a request is whole whose operation the profile lacks, and is left out; ANSWERED: so is the reply to
     one. Both have the request's xid, the number of its operation, the payload that is left out, and the number of the
-    request's frame. FULL: with this frame more would wait than may, and nothing was used. UNSEEN: a reply to a request
-    that wasn't seen is whole, where the passage is `late`, with its xid, zxid, err and payload."""
+    request's frame. FULL: with this frame more would wait than may, and nothing was used; where all requests have
+    their replies, it alone weighs more. UNSEEN: a reply to a request that wasn't seen is whole, where the passage is
+    `late`, with its xid, zxid, err and payload."""
     went: Went
     used: int
     message: Optional[Message] = None

@@ -298,6 +298,9 @@ class Talks(unittest.TestCase):
             self.assertEqual(talk.waiting(), (2, 3))
             self.assertEqual((talk.held(Side.CLIENT), talk.held(Side.SERVER)), (5, 0))
             self.assertEqual(talk.ending(), (". cut side=C frame=3 got=5", None, Cut(Side.CLIENT, 3, 5), None))
+            with self.assertRaises(Refused):
+                talk.feed(Side.CLIENT, b"\xff\xff\xfe\0\0\0\x0c")
+            self.assertEqual((talk.waiting(), talk.held(Side.CLIENT)), ((2, 3), 12))
 
     def test_renewed(self):
         """One talk for one conversation after another, whole, cut or refused."""

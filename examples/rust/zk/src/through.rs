@@ -26,7 +26,8 @@ pub enum Went<'t> {
     Answered(LeftOut<'t>),
     /// A reply to a request that wasn't seen is whole: see `Through::join`.
     Unseen(Unseen<'t>),
-    /// More would wait than may: nothing was taken. The server's bytes come first; then the client's piece again.
+    /// More would wait than may: nothing was taken. The server's bytes come first; then the client's piece again. Where
+    /// all requests have their replies, the frame alone weighs more than may wait.
     Full,
 }
 
