@@ -7,7 +7,8 @@ _zkdump() {
     # The lines from here on are written by docs/names.py.
     --profile) words="3.4 3.5" ;;
     # Up to here.
-    --limit | --waiting | *['<>']) return ;;
+    *['<>']) return ;;
+    --limit | --waiting) words= ;;
     *)
         # The command, which may come after < and a file.
         if [[ " ${COMP_WORDS[*]:1:COMP_CWORD - 1} " =~ " "(show|check|build|migrate)" " ]]; then
@@ -17,6 +18,7 @@ _zkdump() {
         ;;
     esac
     mapfile -t COMPREPLY < <(compgen -W "$words" -- "$word")
+    compopt +o default
 }
-# After < and > come names of files.
+# Names of files come after < and > alone.
 complete -o default -F _zkdump zkdump

@@ -58,7 +58,7 @@ target_link_libraries(shared zk::zk)
 add_executable(static uses.c)
 target_link_libraries(static zk::static)
 """
-# What is typed, and what bash offers for its last word, up to the cursor | where that is within it.
+# What is typed, and what bash offers for its last word, up to the cursor | where that is within it; after < also files.
 COMPLETED = (
     (("zkdump", ""), "show check build migrate"),
     (("zkdump", "sh"), "show"),
@@ -169,10 +169,11 @@ def commands(top):
 def completion():
     script = TOP / "completion" / "zkdump.bash"
     for words, wanted in COMPLETED:
-        text = (f'. "{script}"; word=$1; shift; COMP_WORDS=("$@"); COMP_CWORD=$(($# - 1)); _zkdump zkdump "$word"; '
-                'echo "${COMPREPLY[*]}"')
+        text = (f'. "{script}"; word=$1; shift; COMP_WORDS=("$@"); COMP_CWORD=$(($# - 1)); files=" files"; '
+                'compopt() { files=; }; _zkdump zkdump "$word"; echo "${COMPREPLY[*]}$files"')
         word, _, rest = words[-1].partition("|")
         typed = ("" if word == "=" else word, *words[:-1], word + rest)
+        wanted += " files" if words[-2] == "<" else ""
         found = run("bash", "-c", text, "bash", *typed).stdout.decode().rstrip("\n")
         yield words, found == wanted, f"completion of {words}: {found}, not {wanted}"
     usage = run(install.PROGRAM).stderr.decode()
