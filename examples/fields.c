@@ -2,11 +2,11 @@
  *
  *     fields first|connected|event HEX
  *     fields request PROFILE HEX
- *     fields reply OPERATION HEX
+ *     fields reply OPERATION [PART ..] HEX
  *
- * A line for the message, or for what is wrong and where, and then a line a field. Of a payload that is no message's the
- * fields before the fault are shown. The status is 0 for a message's payload, else 1, and 2 for other arguments or if not
- * all is written. */
+ * PARTs are the operations of a multi's parts, by their numbers. A line for the message, or for what is wrong and where,
+ * and then a line a field. Of a payload that is no message's the fields before the fault are shown. The status is 0 for a
+ * message's payload, else 1, and 2 for other arguments or if not all is written. */
 #include "zk.h"
 
 #include <ctype.h>
@@ -19,7 +19,7 @@
 static const char *const messages[] = {"fault", "connect request", "request", "connect response", "reply", "event"};
 
 static const char USAGE[] = "usage: fields first|connected|event HEX, fields request PROFILE HEX, "
-                            "or fields reply OPERATION HEX";
+                            "or fields reply OPERATION [PART ..] HEX";
 
 static _Noreturn void fail(const char *what) {
     fprintf(stderr, "fields: %s\n", what);
@@ -59,7 +59,8 @@ static void put_text(const uint8_t *bytes, uint32_t length) {
 }
 
 static void put_field(const uint8_t *payload, const struct zk_field *field) {
-    printf("%" PRIu32 "+%" PRIu32 " %s", field->place, field->length, zk_field_name(field->name));
+    printf("%" PRIu32 "+%" PRIu32, field->place, field->length);
+    if (field->name != ZK_NAME_NONE) printf(" %s", zk_field_name(field->name));
     if (field->null) {
         puts(" null");
         return;
@@ -73,19 +74,34 @@ static void put_field(const uint8_t *payload, const struct zk_field *field) {
         for (uint32_t i = 0; i < field->length; i++) printf("%02x", payload[field->place + i]);
         putchar('\n');
         break;
-    default: /* a number, a list's count, a part's operation */
+    case ZK_KIND_PART:
+        printf(" %s\n", field->number < 0 ? "error" : zk_operation_name((int32_t)field->number));
+        break;
+    default: /* a number, a list's count */
         printf(" %" PRId64 "\n", field->number);
     }
 }
 
-/* A payload that is named by one word, or by a word and a number. */
+/* A reply to a request of this operation; the words are those of its parts. */
+static struct zk_read read_reply(int32_t operation, char **words, size_t count, const uint8_t *payload, size_t length,
+                                 struct zk_field *out, size_t room) {
+    int32_t *parts = malloc((count + 1) * sizeof *parts);
+    if (parts == NULL) fail("out of memory");
+    for (size_t i = 0; i < count; i++) parts[i] = number_of(words[i]);
+    struct zk_read read = zk_read_reply(operation, parts, count, payload, length, out, room);
+    free(parts);
+    return read;
+}
+
+/* A payload that is named by one word, or by a word and numbers. */
 static struct zk_read read_fields(int count, char **words, const uint8_t *payload, size_t length, struct zk_field *out, size_t room) {
     const char *name = words[1];
     if (count == 3 && strcmp(name, "first") == 0) return zk_read_first(payload, length, out, room);
     if (count == 3 && strcmp(name, "connected") == 0) return zk_read_connected(payload, length, out, room);
     if (count == 3 && strcmp(name, "event") == 0) return zk_read_event(payload, length, out, room);
     if (count == 4 && strcmp(name, "request") == 0) return zk_read_request((uint32_t)number_of(words[2]), payload, length, out, room);
-    if (count == 4 && strcmp(name, "reply") == 0) return zk_read_reply(number_of(words[2]), NULL, 0, payload, length, out, room);
+    if (count >= 4 && strcmp(name, "reply") == 0)
+        return read_reply(number_of(words[2]), words + 3, (size_t)count - 4, payload, length, out, room);
     fail(USAGE);
 }
 
@@ -108,7 +124,7 @@ int main(int count, char **words) {
         if (fields == NULL) fail("out of memory");
         read = read_fields(count, words, payload, length, fields, room);
     }
-    if (read.status == ZK_RANGE) fail(USAGE); /* no profile has this number */
+    if (read.status == ZK_RANGE) fail(USAGE); /* no profile or part has this number */
     printf("%s %s xid=%" PRId32, messages[read.kind], zk_operation_name(read.operation), read.xid);
     if (read.kind == ZK_REPLY) printf(" zxid=%" PRId64 " err=%" PRId32 " %s", read.zxid, read.err, zk_error_name(read.err));
     if (read.kind == 0) printf(" %s at %" PRIu32, zk_status_name(read.status), read.place);

@@ -44,6 +44,8 @@ ASKED = (f"00000001 00000001 00000002 2f61 00000005 2268c3bc22 {ANYONE} 00000000
          f"6368616e676564 00000000 00000001 00 ffffffff 00000008 2f612f62656c6f77 ffffffff {ANYONE} 00000000"
          "ffffffff 01 ffffffff",
          "00000004 00000004 00000008 2f6d697373696e67 00", "00000005 fffffff5")
+# The reply to a multi: its results are that of a delete, and an error.
+RESULTS = "00000001000000000000000600000000" "000000020000000000" "ffffffff00ffffff99ffffff99" "ffffffff01ffffffff"
 
 
 def compiled(folder, archive, cc):
@@ -235,7 +237,10 @@ def show_fields(program):
         ("request 34 0000000100000003000000011b01", 0, 'request exists xid=1\n12+1 path "\\x1b"\n13+1 watch 1\n'),
         ("request 34 0", 2, ""), ("request 34 0g", 2, ""), ("request 00", 2, ""), ("another 00", 2, ""),
         ("request abc 00", 2, ""), ("request 34x 00", 2, ""), ("request 36 00", 2, ""), ("reply exists 00", 2, ""),
-        ("reply 4294967299 00", 2, ""),
+        ("reply 4294967299 00", 2, ""), ("reply 3 1 00", 2, ""), ("reply 14 3 00", 2, ""), ("reply 14 delete 00", 2, ""),
+        (f"reply 14 2 5 {RESULTS}", 0, "reply multi xid=1 zxid=6 err=0 OK\n16+9 delete\n25+9 error\n34+4 err -103\n"),
+        (f"reply 14 2 2 {RESULTS}", 0, "reply multi xid=1 zxid=6 err=0 OK\n16+9 delete\n25+9 error\n34+4 err -103\n"),
+        (f"reply 14 5 2 {RESULTS}", 1, "fault  xid=1 BAD_PART at 16\n"),
     ):
         found = subprocess.run([program, *given.split()], capture_output=True, text=True)
         good = (found.returncode, found.stdout) == (status, shown)
@@ -273,7 +278,7 @@ def complain(programs):
         ("talk.py", ["--say"], "usage: talk.py LIBRARY RECORDING, or talk.py LIBRARY --say LISTING"),
         ("talk.py", [none, listing], f"talk.py: {none}: cannot open shared object file: No such file or directory"),
         ("fields", ["another", "00"], "fields: usage: fields first|connected|event HEX, fields request PROFILE HEX, or "
-                                      "fields reply OPERATION HEX"),
+                                      "fields reply OPERATION [PART ..] HEX"),
         ("fields", ["first", "0g"], "fields: HEX isn't pairs of hexadecimal digits"),
         ("client", ["127.0.0.1"], "client: usage: client SERVER PORT PATH DATA [ROUNDS]"),
         ("client", ["127.0.0.1", "1", "/a", ""], "client: Connection refused"),
