@@ -7,10 +7,11 @@ Each call that crates/zk_c/src exports is in include/zk.h with the same paramete
 same fields, and each number by the same name. Payloads, lines and conversations are judged as tables say (judged.py).
 The fields of payloads, and of recordings' messages, are compared with a second reading of docs/FORMATS.md (fields.py,
 messages.py), and those of requests written again (written.py). Handles that are begun anew are compared with new ones
-(renewed.py). The examples and the tests in C are compiled and run (examples.py): listings of every recording, a proxy
-and a client over sockets, null pointers, handles that go from thread to thread, the memory that stays of closed ones,
-and --calls (1,000,000) calls at random between guard pages, from a seed. The packages for Python, Rust and Go are
-built, and run their own tests (packages.py). What is skipped, since a compiler or a module is missing, is reported.
+(renewed.py), and passages with a model of them (passages.py). The examples and the tests in C are compiled and run
+(examples.py): listings of every recording, a proxy and a client over sockets, null pointers, handles that go from
+thread to thread, the memory that stays of closed ones, and --calls (1,000,000) calls at random between guard pages,
+from a seed. The packages for Python, Rust and Go are built, and run their own tests (packages.py). What is skipped,
+since a compiler or a module is missing, is reported.
 
 Where no other is named, the library is proved and built here, over the libraries below it that `rt ci` left; where it
 left none, `rt lib` proves these too. It prints what failed and one last line. The status is 0 where nothing did.
@@ -28,6 +29,7 @@ import fields
 import judged
 import messages
 import packages
+import passages
 import renewed
 import written
 
@@ -153,6 +155,7 @@ def compare_calls(shared):
     yield from messages.compare(talk, library, names, recordings)
     yield from written.compare(talk, library, names, statuses, recordings)
     yield from renewed.compare(talk, library, declared()[2], recordings)
+    yield from passages.compare(talk, library)
 
 
 def check(folder, options):
