@@ -6,10 +6,10 @@
 It prints each page's words (those of `wc -w`, without the parts that scripts write), the limit, and the longest
 sentence. With --check it prints only what is wrong: a page or docs/ above its limit of words, a sentence above the
 page's, a word of DIALECT more often than its number allows, a date, a machine or an hour outside of bench/README.md and
-CHANGELOG.md, a link between pages whose file or heading isn't there, a path of the repository in code that isn't there,
-and a word of DIALECT in a script's comments or texts, which are its messages and help, or in a comment of a crate's
-sources, or of C, Rust, Go or JavaScript. There a fast form "stands for" a plain one. So is a source or script of more
-than 400 lines that CONTRIBUTING.md doesn't name, or a shorter one that it names.
+CHANGELOG.md, a link between pages whose file or heading isn't there, a path of the repository or the name of a source
+in code that isn't there, and a word of DIALECT in a script's comments or texts, which are its messages and help, or in
+a comment of a crate's sources, or of C, Rust, Go or JavaScript. There a fast form "stands for" a plain one. So is a
+source or script of more than 400 lines that CONTRIBUTING.md doesn't name, or a shorter one that it names.
 
 A sentence ends with a full stop, a question or an exclamation mark; a table's cell, an item of a list and a heading are
 sentences of their own. Code within a sentence is one word; blocks of code are none.
@@ -63,10 +63,13 @@ TEXTS, MADE = ("COPYING", "LICENSE", ".git"), {".git", "__pycache__", "build", "
 GENERATED = re.compile(r"<!-- The lines from here on are written by .*?<!-- Up to here. -->", re.S)
 FENCE = re.compile(r"^```.*?^```$", re.M | re.S)
 LINK = re.compile(r"\[([^\]]*)\]\(([^)\s]+)\)")
-# A path in code that begins with a folder of the repository, and the words in one that stand for any name.
-PATH = re.compile(r"`((?:bench|captures|completion|crates|docs|examples|include|packaging|tests|tools|wireshark)"
-                  r"/[\w./-]+)`")
-ANY_NAME = {"CRATE", "NAME"}
+# Code in a line, or a line of it; a path in it that begins with a folder of the repository, or that is the name of a
+# source alone; the words in one that stand for any name, and the names of sources that others have.
+CODE = re.compile(r"`([^`\n]+)`|^    (.*)", re.M)
+PATH = re.compile(r"(?<![\w./*}-])(?:bench|captures|completion|crates|docs|examples|include|packaging|tests|tools"
+                  r"|wireshark)/[\w./-]*\w/?(?![\w*{])")
+NAME = re.compile(rf"(?<![\w./*-])[\w-]+(?:{'|'.join(map(re.escape, SOURCES[1:]))})(?![\w./-])")
+ANY_NAME, OF_OTHERS = {"CRATE", "NAME", "mine"}, {"zkr_of.py", "zookeeper.c"}
 ENDS = re.compile(r"(?<=[.?!])[\"')*]*\s+")
 
 
@@ -132,8 +135,11 @@ def lost(path, text):
         if (not to.exists() or (anchor and anchor not in anchors(to.read_text()))
                 or (code and not re.search(rf"\b(?:fn|macro_rules!) {code[1]}\b", to.read_text()))):
             yield f"{name_of(path)}: the link {name} to {target} leads nowhere"
-    for name in PATH.findall(text):
-        is_there = (TOP / name).exists() or (path.parent / name).exists()
+    code = CODE.findall(text)
+    alone = {name for span, _ in code for name in NAME.findall(span)} - OF_OTHERS
+    known = {source.name for source in sources()} if alone else ()
+    for name in (*(name for both in code for name in PATH.findall("".join(both))), *sorted(alone)):
+        is_there = (TOP / name).exists() or (path.parent / name).exists() or name in known
         if not is_there and MADE.isdisjoint(name.split("/")) and ANY_NAME.isdisjoint(re.split(r"[/.]", name)):
             yield f"{name_of(path)}: there is no {name}"
 
@@ -170,13 +176,17 @@ def in_sources():
                 yield f"{name_of(path)}:{text.count(chr(10), 0, block.start()) + 1}: plainer words: {found[0]}"
 
 
-def long_sources():
-    """The sources of more than MOST_LINES lines."""
+def sources():
+    """The sources of the repository."""
     for place, folders, names in os.walk(TOP):
         folders[:] = set(folders) - MADE
-        for path in (pathlib.Path(place, name) for name in names if name not in TEXTS):
-            if path.suffix in SOURCES and len(path.read_bytes().splitlines()) > MOST_LINES:
-                yield name_of(path)
+        yield from (path for path in (pathlib.Path(place, name) for name in names if name not in TEXTS)
+                    if path.suffix in SOURCES)
+
+
+def long_sources():
+    """The sources of more than MOST_LINES lines."""
+    return (name_of(path) for path in sources() if len(path.read_bytes().splitlines()) > MOST_LINES)
 
 
 def too_long():

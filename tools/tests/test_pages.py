@@ -40,6 +40,14 @@ class Paths(ToolCase):
             f"wireshark/README.md: there is no {name}" for name in (
                 "tests/device.py", "tools/build.py", "crates/zk_gone/src")])
 
+    def test_a_path_among_other_words_and_a_source_alone_are_named(self):
+        page = ("`docs/gone.py --write`, `docs/names.py --write`, `cc -Iinclude bench/gone.c`, `gone.h`, `hand.h`, "
+                "`crates/zk_*/src`, `gone.txt`, `zookeeper.c`, `/usr/share/tools/gone.py`\n\n"
+                "    tools/gone.py FILE  # and tools/zkstat.py\n")
+        self.assertEqual([*words.lost(TOP / "bench" / "README.md", page)], [
+            f"bench/README.md: there is no {name}" for name in (
+                "docs/gone.py", "bench/gone.c", "tools/gone.py", "gone.h")])
+
 
 class Definitions(ToolCase):
     def test_a_definition_without_a_section_is_named(self):
