@@ -1,14 +1,16 @@
 #!/usr/bin/env python3
-"""Checks what the pages say of clauses against the sources.
+"""Checks what the pages say of clauses and names against the sources.
 
     docs/clauses.py [PAGE..]
 
 A page names clauses of a function as `call` (clause, ..) or, within brackets, as (`call`, clause, ..; ..), and calls of
 a trait or type as `Type` (call, ..). Each such word must be the name of a clause of a function of that name in
 crates/*/src, or of a call of that type; and what a table's last column names under one of the heads CARRYING a function
-or type. Without arguments it reads README.md, those of tools and crates, and docs/*.md.
+or type. What any code of a page spells as `Type::call` or `crate::call` must be a function there, or a variant, and a
+name of small letters with an underscore a word of some source, or a file's. Without arguments it reads the pages of
+words.py.
 
-It prints what is wrong and one last line. The status is 0 if nothing is.
+It prints what is wrong and one last line. The status is 0 if nothing is, and something was there to be checked.
 """
 
 import collections
@@ -16,6 +18,7 @@ import pathlib
 import re
 import sys
 
+import words
 from calls import BOUNDS, CLAUSE, TAIL, TOP, balanced, blocks, generics
 
 FUNCTION = re.compile(r"\bfn (\w+)")
@@ -24,6 +27,11 @@ NAMES = r"`[\w:]+`(?:(?:, | and )`[\w:]+`)*"
 OUTSIDE = re.compile(rf"({NAMES}) \(({WORDS})\)")
 CARRYING = ("Contracts that carry it", "Clauses")
 INSIDE = re.compile(rf"\(({NAMES}, {WORDS}(?:; {NAMES}, {WORDS})*)\)")
+SPELLED = re.compile(r"`((?:\w+::)+\w+|[a-z0-9_]*[a-z0-9]_[a-z0-9_]+)`")
+OWNER = re.compile(r"^(?:pub )?(impl|trait|enum)\b([^\n{;]*)\{", re.M)
+NOT_CODE = {".antt": re.compile(r"--.*"), ".py": re.compile(r"#.*"), "": re.compile(r"#.*")}
+COMMENT = re.compile(r"/\*.*?\*/|//[^\n]*", re.S)
+TARGETS = TOP / "packaging" / "zkConfig.cmake.in"
 
 
 def clauses_at(text, at):
@@ -76,28 +84,60 @@ def carried(page):
         yield from re.findall(r"`([\w:]+)`", last) if inside else ()
 
 
+def owned(path, text):
+    """The functions and variants of a source in Rattle or Rust, each by its type, trait or crate: `type::name`."""
+    parts = path.relative_to(TOP).parts
+    if parts[0] == "crates":
+        yield from (f"{parts[1]}::{name}" for name in FUNCTION.findall(text))
+    for head in OWNER.finditer(text):
+        inside = text[head.end():balanced(text, head.end() - 1, "{}")]
+        names = re.findall(r"^\s*([A-Z]\w*)", inside, re.M) if head[1] == "enum" else FUNCTION.findall(inside)
+        # (a type `AskOf` has the name `Ask`, too)
+        owners = {owner for word in re.findall(r"\w+", head[2]) for owner in (word, re.sub("Of$", "", word))}
+        yield from (f"{owner}::{name}" for owner in owners for name in names)
+
+
+def in_sources():
+    """What a page may spell: the words of all sources and the names of files, and what each type and crate has."""
+    found = {path.name.partition(".")[0] for path in words.files()}
+    found.update(re.findall(r"\w+::\w+", TARGETS.read_text()))
+    for path in words.sources():
+        text = NOT_CODE.get(path.suffix, COMMENT).sub("", path.read_text(errors="replace"))
+        found.update(re.findall(r"\w+", text))
+        if path.suffix in (".rt", ".rs"):
+            found.update(owned(path, text))
+    return found
+
+
+def spelled(page):
+    """The names that a page spells in code, but for those that end one."""
+    prose = words.FENCE.sub("", words.GENERATED.sub("", page))
+    return {"::".join(name.split("::")[-2:]) for name in SPELLED.findall(prose) if not name.startswith("_")}
+
+
 def main():
-    pages = [pathlib.Path(word) for word in sys.argv[1:]] or [
-        *(TOP / name for name in ("README.md", "tools/README.md", "crates/README.md")),
-        *sorted((TOP / "docs").glob("*.md"))]
+    pages = [pathlib.Path(word) for word in sys.argv[1:]] or words.pages()
     clauses, members = known()
-    wrong, right = [], 0
+    wrong, right, there = [], 0, in_sources()
     for path in pages:
-        page = path.read_text()
+        page, where = path.read_text(), words.name_of(path) if TOP in path.parents else path.name
+        names = spelled(page)
+        right += len(names & there)
+        wrong += (f"{where}: no source has {name}" for name in sorted(names - there))
         for name in carried(page):
             if name in clauses or name in members:
                 right += 1
             else:
-                wrong.append(f"{path.name}: there is no function or type {name}")
-        for names, words in named(page):
+                wrong.append(f"{where}: there is no function or type {name}")
+        for names, listed in named(page):
             for name in names:
-                for word in words:
+                for word in listed:
                     if word in clauses.get(name, ()) or word in members.get(name, ()):
                         right += 1
                     else:
-                        wrong.append(f"{path.name}: `{name}` has no clause {word}")
+                        wrong.append(f"{where}: `{name}` has no clause {word}")
     print("\n".join([*wrong, f"{right} passed, {len(wrong)} failed"]))
-    return 1 if wrong else 0
+    return 1 if wrong or not right else 0
 
 
 if __name__ == "__main__":

@@ -77,6 +77,12 @@ def name_of(path):
     return str(path.relative_to(TOP))
 
 
+def is_made(name):
+    """Whether a path of the repository is what is made there, or in it. Among crates a folder `build` is not."""
+    made = MADE.intersection(name.split("/"))
+    return bool(made - {"build"} if name.startswith("crates/") else made)
+
+
 def pages():
     """The pages that are read: those at the top, of docs/, and each folder's README."""
     return sorted({*TOP.glob("*.md"), *TOP.glob("docs/*.md"), *TOP.glob("*/README.md"), *TOP.glob("bench/*.md"),
@@ -140,7 +146,7 @@ def lost(path, text):
     known = {source.name for source in sources()} if alone else ()
     for name in (*(name for both in code for name in PATH.findall("".join(both))), *sorted(alone)):
         is_there = (TOP / name).exists() or (path.parent / name).exists() or name in known
-        if not is_there and MADE.isdisjoint(name.split("/")) and ANY_NAME.isdisjoint(re.split(r"[/.]", name)):
+        if not is_there and not is_made(name) and ANY_NAME.isdisjoint(re.split(r"[/.]", name)):
             yield f"{name_of(path)}: there is no {name}"
 
 
@@ -168,7 +174,7 @@ def in_sources():
     in backticks are code."""
     dialect = re.compile(rf"\b(?:{'|'.join(DIALECT)})\b(?! for)", re.I)
     for path in sorted({path for pattern in COMMENTED for path in TOP.glob(pattern)
-                        if MADE.isdisjoint(path.relative_to(TOP).parts)}):
+                        if not is_made(name_of(path))}):
         text = path.read_text()
         for block in re.finditer(r"(?:^[ \t]*//.*\n)+|//.*\n|/\*(?:.|\n)*?\*/", text, re.M):
             words = re.sub(r"//[/!]?|^ \*(?!/)|/\*", " ", block[0], flags=re.M)
@@ -176,12 +182,16 @@ def in_sources():
                 yield f"{name_of(path)}:{text.count(chr(10), 0, block.start()) + 1}: plainer words: {found[0]}"
 
 
-def sources():
-    """The sources of the repository."""
+def files():
+    """The files of the repository, without what is made."""
     for place, folders, names in os.walk(TOP):
-        folders[:] = set(folders) - MADE
-        yield from (path for path in (pathlib.Path(place, name) for name in names if name not in TEXTS)
-                    if path.suffix in SOURCES)
+        folders[:] = [name for name in folders if not is_made(name_of(pathlib.Path(place, name)))]
+        yield from (pathlib.Path(place, name) for name in names)
+
+
+def sources():
+    """Its sources."""
+    return (path for path in files() if path.suffix in SOURCES and path.name not in TEXTS)
 
 
 def long_sources():

@@ -18,6 +18,7 @@ PAGE = """| What holds | Clauses |
 |---|---|
 | `Talk::gone` | `nothing` |
 """
+GONE = "_".join(("is", "gone"))     # in one string this file would have it
 
 
 class Clauses(ToolCase):
@@ -27,18 +28,35 @@ class Clauses(ToolCase):
         done = subprocess.run([sys.executable, TOP / "docs" / "clauses.py", page], capture_output=True, text=True,
                               check=False)
         self.assertEqual((done.returncode, done.stderr), (1, ""))
-        self.assertEqual(done.stdout.splitlines(), ["PAGE.md: there is no function or type Talk::gone",
-                                                    "PAGE.md: `Talk::take` has no clause gone", "3 passed, 2 failed"])
+        self.assertEqual(done.stdout.splitlines(), ["PAGE.md: no source has Talk::gone",
+                                                    "PAGE.md: there is no function or type Talk::gone",
+                                                    "PAGE.md: `Talk::take` has no clause gone", "4 passed, 3 failed"])
+
+    def test_a_name_in_any_code_of_a_page(self):
+        page = self.folder / "PAGE.md"
+        page.write_text("`zk_jute::laws`, `Ask::Multi`, `FromRead::read`, `put_escaped`, `connect_answered`, `_view`; "
+                        "`Origin::has`, `Talk::put_escaped`, `zk_jute::read_all`, `Op::Gone`, "
+                        f"`{GONE}`\n")
+        done = subprocess.run([sys.executable, TOP / "docs" / "clauses.py", page], capture_output=True, text=True,
+                              check=False)
+        self.assertEqual(done.stdout.splitlines(), [f"PAGE.md: no source has {name}" for name in (
+            "Op::Gone", "Origin::has", "Talk::put_escaped", GONE, "zk_jute::read_all")] + [
+                "5 passed, 5 failed"])
+        page.write_text("words\n")
+        done = subprocess.run([sys.executable, TOP / "docs" / "clauses.py", page], capture_output=True, text=True,
+                              check=False)
+        self.assertEqual((done.returncode, done.stdout), (1, "0 passed, 0 failed\n"))
 
 
 class Paths(ToolCase):
     def test_a_path_that_is_not_there_is_named(self):
         page = ("`tests/devices.py`, `tests/device.py`, `tools/build.py`, `docs/*.py`, `tools/NAME.py`, "
                 "`tests/golden`, `bin/zkdump`, `crates/CRATE/must-fail/NAME.edit`, `crates/zk_c/out/libzk_c.a`, "
-                "`crates/zk_gone/src`")
+                "`crates/zk_gone/src`, `crates/zkdump/cases/build/gone.args`, `crates/zkdump/cases/build/no_lines.args`, "
+                "`examples/python/build/lib`")
         self.assertEqual([*words.lost(TOP / "wireshark" / "README.md", page)], [
             f"wireshark/README.md: there is no {name}" for name in (
-                "tests/device.py", "tools/build.py", "crates/zk_gone/src")])
+                "tests/device.py", "tools/build.py", "crates/zk_gone/src", "crates/zkdump/cases/build/gone.args")])
 
     def test_a_path_among_other_words_and_a_source_alone_are_named(self):
         page = ("`docs/gone.py --write`, `docs/names.py --write`, `cc -Iinclude bench/gone.c`, `gone.h`, `hand.h`, "
