@@ -9,7 +9,8 @@ page's, a word of DIALECT more often than its number allows, a date, a machine o
 CHANGELOG.md, a link between pages whose file or heading isn't there, a path of the repository or the name of a source
 in code that isn't there, and a word of DIALECT in a script's comments or texts, which are its messages and help, or in
 a comment of a crate's sources, or of C, Rust, Go or JavaScript. There a fast form "stands for" a plain one. So is a
-source or script of more than 400 lines that CONTRIBUTING.md doesn't name, or a shorter one that it names.
+source or script of more than 400 lines that CONTRIBUTING.md doesn't name, or a shorter one that it names; and a number
+of hints to inline, or of must-fail edits, that isn't that of the crates.
 
 A sentence ends with a full stop, a question or an exclamation mark; a table's cell, an item of a list and a heading are
 sentences of their own. Code within a sentence is one word; blocks of code are none.
@@ -50,6 +51,16 @@ DIALECT = {
 MONTHS = "January|February|March|April|May|June|July|August|September|October|November|December"
 DIARY = re.compile(rf"\b\d{{1,2}} (?:{MONTHS})|\b(?:{MONTHS}) \d|\b\d{{4}}-\d\d-\d\d\b"
                    r"|\b(?:this|that) machine\b|\b(?:hours?|minutes?) on\b|\bat a load of\b")
+
+# A number that a page has: the page, the words around it, the files of the crates that it is of, and what it counts
+# there.
+COUNTED = (
+    ("bench/HINTS.md", r"has (\d+) lines with a hint", "src/**/*.rt", r"^\s*#\[inline.*\]"),
+    ("bench/HINTS.md", r"(\d+) with `#\[inline\(always\)\]`", "src/**/*.rt", r"^\s*#\[inline\(always\)\]"),
+    ("bench/HINTS.md", r"(\d+) with `#\[inline\(never\)\]`", "src/**/*.rt", r"^\s*#\[inline\(never\)\]"),
+    ("bench/HINTS.md", r"(\d+) with `#\[inline\]`", "src/**/*.rt", r"^\s*#\[inline\]"),
+    ("docs/PERF.md", r"There are (\d+); at the start there were", "must-fail/*.edit", r"\A."),
+)
 
 # The greatest number of lines of a source, the page that names those with more, what a source's name ends with, and the
 # folders that have none.
@@ -207,6 +218,15 @@ def too_long():
     yield from (f"{RULES}: {name} is no source of more than {MOST_LINES} lines" for name in sorted(named - found))
 
 
+def counted():
+    """The numbers of COUNTED that are others, or that a page doesn't have."""
+    for page, words, names, line in COUNTED:
+        found = re.search(words, (TOP / page).read_text())
+        count = sum(len(re.findall(line, path.read_text(), re.M)) for path in TOP.glob(f"crates/*/{names}"))
+        if found is None or int(found[1]) != count:
+            yield f"{page}: {found[0] if found else 'nothing is ' + words}, and the crates have {count}"
+
+
 def judged(texts):
     """What is wrong."""
     sizes = {name_of(path): len(GENERATED.sub("", text).split()) for path, text in texts.items()}
@@ -230,6 +250,7 @@ def judged(texts):
     yield from in_scripts()
     yield from in_sources()
     yield from too_long()
+    yield from counted()
 
 
 def main():

@@ -29,8 +29,24 @@ class Pages(ToolCase):
                             ("since 2026-11-28,", "2026-11-28"), ("as `2026-11-28T10:00:00.000Z`", None),
                             ("it may 2 times", None), ("    $ date\n    2026-11-28\n", None)):
             page = {words.TOP / "docs" / "LIBRARY.md": text + "\n"}
-            with unittest.mock.patch.multiple(words, WORDS={}, in_scripts=list, in_sources=list, too_long=list):
+            with unittest.mock.patch.multiple(words, WORDS={}, in_scripts=list, in_sources=list, too_long=list,
+                                               counted=list):
                 self.assertEqual([*words.judged(page)], [f"docs/LIBRARY.md: a diary's words: {found}"] if found else [])
+
+    def test_numbers_of_what_the_crates_have(self):
+        hints = "".join(f"{hint}\n" for hint in ("#[inline(always)]", "    #[inline(always)]", "// #[inline]", "#[inline]"))
+        for name, text in (("crates/low/src/lib.rt", hints), ("crates/high/src/tests/more.rt", "#[inline(never)]\n"),
+                           ("crates/low/must-fail/some.edit", "file: a\nold: b\nnew: c\n"),
+                           ("docs/PERF.md", "There are 2; at the start there were 0.\n"),
+                           ("bench/HINTS.md", "It has 4 lines with a hint: 3 with `#[inline(always)]`, 1 with "
+                                              "`#[inline(never)]`.\n")):
+            (self.folder / name).parent.mkdir(parents=True, exist_ok=True)
+            (self.folder / name).write_text(text)
+        with unittest.mock.patch.object(words, "TOP", self.folder):
+            self.assertEqual([*words.counted()], [
+                "bench/HINTS.md: 3 with `#[inline(always)]`, and the crates have 2",
+                r"bench/HINTS.md: nothing is (\d+) with `#\[inline\]`, and the crates have 1",
+                "docs/PERF.md: There are 2; at the start there were, and the crates have 1"])
 
 
 class Scripts(ToolCase):
