@@ -2,7 +2,10 @@
 """What a passed gate says at its end of what it has passed: the commit, and the checksums of the program and the
 library.
 
-./test prints these lines last, and ./release takes a log only where they are its last lines still.
+    gate.py [--commit|COMMIT]
+
+./test prints these lines last, and ./release takes a log only where they are its last lines still. With --commit the
+commit alone is printed, which ./test gives at its end as COMMIT: if that is another one then, the lines have none.
 """
 
 import hashlib
@@ -18,8 +21,14 @@ def git(*words):
     return subprocess.run(["git", *words], cwd=TOP, capture_output=True, text=True, check=True).stdout.strip()
 
 
-def lines():
-    yield f"commit: {'none, since the tree has changes' if git('status', '--porcelain') else git('rev-parse', 'HEAD')}"
+def commit():
+    return "none, since the tree has changes" if git("status", "--porcelain") else git("rev-parse", "HEAD")
+
+
+def lines(begun=None):
+    """These lines; `begun` is the commit with which the gate began."""
+    now = commit()
+    yield f"commit: {now if begun in (None, now) else 'none, since the gate began with another'}"
     for path in (PROGRAM, LIBRARY):
         yield f"sha256 of {path.relative_to(TOP)}: {hashlib.sha256(path.read_bytes()).hexdigest()}"
 
@@ -38,6 +47,6 @@ def faults(log):
 
 if __name__ == "__main__":
     try:
-        print("\n".join(lines()))
+        print(commit() if sys.argv[1:] == ["--commit"] else "\n".join(lines(*sys.argv[1:2])))
     except (OSError, subprocess.CalledProcessError) as error:
         sys.exit(f"gate.py: {error}")

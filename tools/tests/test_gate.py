@@ -1,12 +1,15 @@
-"""Tests of ./test --quick, over a script in the place of rt: what it runs, and what it doesn't pass."""
+"""Tests of ./test over a script in the place of rt: what it runs, and what it doesn't pass."""
 
 import os
+import re
 import shutil
 import subprocess
+import unittest
 
 from support import TOP, ToolCase
 
 CRATES = "# each crate\nlow:\nhigh: low\nother:\nlow_tests: low\nzkdump: high\n"
+PASSED, SKIPPED = "1 passed, 0 failed", "skipped: the stored cases, since the program isn't built"
 
 
 class Quick(ToolCase):
@@ -26,22 +29,78 @@ class Quick(ToolCase):
         ran.write_text("")
         done = subprocess.run([self.folder / "test", "--quick", crate], capture_output=True, text=True, check=False,
                               env={**os.environ, "PATH": f"{self.folder}:{os.environ['PATH']}"})
+        self.told = done.stdout.splitlines()
         return done.returncode, ran.read_text().splitlines()
 
     def test_a_crate_and_those_that_use_it(self):
         self.assertEqual(self.quick("low"), (0, ["low: check", "high: check", "low_tests: test",
                                                  "zkdump: run -- check"]))
         self.assertEqual(self.quick("other"), (0, ["other: check"]))
+        self.assertIn(SKIPPED, self.told)
 
     def test_the_program_is_not_proved_or_refuses_the_stored_run(self):
         built = self.folder / "crates" / "zkdump" / "out" / "zkdump"
         built.parent.mkdir()
         built.touch(0o700)          # of an earlier run
-        (self.folder / "crates" / "zkdump" / "run_cases.py").touch()
+        cases = self.folder / "crates" / "zkdump" / "run_cases.py"
+        cases.write_text(f"print('{PASSED}')\n")
         read = 'test "$folder" != zkdump || test "$(cat)" = "the stored run"'
         self.assertEqual(self.quick("zkdump", read), (0, ["zkdump: run -- check"]))
+        self.assertNotIn(SKIPPED, self.told)
         self.assertEqual(self.quick("zkdump", 'test "$folder" != zkdump'), (1, ["zkdump: run -- check"]))
+        for printed in ("", f"print('{PASSED}, or so')", f"print('{PASSED}')\nprint()", "print('1 passed, 1 failed')"):
+            cases.write_text(printed)
+            self.assertEqual(self.quick("zkdump", read), (1, ["zkdump: run -- check"]), printed)
+            self.assertIn("== python3 crates/zkdump/run_cases.py check show build migrate ended with status 0 and "
+                          "without its line, and its last lines are", self.told)
 
     def test_what_is_no_crate_of_the_list(self):
         for crate in ("low/", "unlisted", "lo", "", ".", "low high"):
             self.assertEqual(self.quick(crate), (2, []), crate)
+
+
+@unittest.skipUnless(shutil.which("git"), "git is not on the PATH")
+class Whole(ToolCase):
+    def setUp(self):
+        super().setUp()
+        (self.folder / "packaging").mkdir()
+        for name in ("test", ".gitignore", "packaging/gate.py", "packaging/build_library.py"):
+            shutil.copy(TOP / name, self.folder / name)
+        for name in re.findall(r"^    step python3 (\S+)", (TOP / "test").read_text(), re.M):
+            (self.folder / name).parent.mkdir(parents=True, exist_ok=True)
+            (self.folder / name).write_text(f"print('{PASSED}')\n")
+        for name in ("crates/zkdump/out/zkdump", "crates/zk_c/out/libzk_c.a", "bin/rt"):
+            (self.folder / name).parent.mkdir(parents=True)
+            (self.folder / name).write_text("#!/bin/sh\n")
+            (self.folder / name).chmod(0o700)
+        self.git("init", "--quiet")
+        self.git("add", ".")
+        self.git("commit", "--quiet", "--message=one")
+
+    def git(self, *words):
+        who = ("-c", "user.name=one", "-c", "user.email=one@example.org")
+        return subprocess.run(["git", *who, *words], cwd=self.folder, capture_output=True, text=True,
+                              check=True).stdout.strip()
+
+    def whole(self):
+        """The status, and the line of the commit, if it is there."""
+        done = subprocess.run([self.folder / "test"], capture_output=True, text=True, check=False,
+                              env={**os.environ, "PATH": f"{self.folder / 'bin'}:{os.environ['PATH']}"})
+        found = re.findall(r"^commit: (.*)$", done.stdout, re.M)
+        return done.returncode, found[0] if found else None
+
+    def test_the_commit(self):
+        self.assertEqual(self.whole(), (0, self.git("rev-parse", "HEAD")))
+
+    def test_a_tree_that_changes_meanwhile(self):
+        (self.folder / "bin" / "rt").write_text("#!/bin/sh\ngit -c user.name=one -c user.email=one@example.org commit "
+                                                "--quiet --allow-empty --message=two\n")
+        self.git("commit", "--quiet", "--all", "--message=other")
+        self.assertEqual(self.whole(), (0, "none, since the gate began with another"))
+        (self.folder / "bin" / "rt").write_text("#!/bin/sh\ngit checkout --quiet .\n")
+        self.assertEqual(self.whole(), (0, "none, since the gate began with another"))
+
+    def test_a_step_that_says_nothing(self):
+        (self.folder / "tests" / "devices.py").write_text("")
+        self.git("commit", "--quiet", "--all", "--message=other")
+        self.assertEqual(self.whole(), (1, None))
