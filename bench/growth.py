@@ -152,6 +152,12 @@ class Growth:
         costs = [timing.run([self.program, *words], read) for _ in range(3)]
         return min(costs)._replace(status=next((cost.status for cost in costs if cost.status), 0))
 
+    def is_whole(self):
+        """Whether the listing has messages, and ends as that of a whole conversation."""
+        with open(self.listing, "rb") as listing:
+            listing.seek(max(0, self.listing.stat().st_size - 1 - len(timing.WHOLE)))
+            return listing.read() == b"\n" + timing.WHOLE
+
     def series(self, name, sizes, write, words=(), flat=False):
         """The rows of one shape; `write` makes the recording of a size, and returns its number of units."""
         before = {command: [] for command in COMMANDS}
@@ -159,6 +165,8 @@ class Growth:
             units, row, faults = write(self.recording, size), f"| {name} | {size:,} |", []
             if status := timing.run([self.program, "show", *words], self.recording, self.listing).status:
                 faults.append(f"the listing: status {status}")
+            elif not self.is_whole():
+                faults.append("the listing: not whole")
             for command in COMMANDS:
                 cost = self.least(command, *words)
                 measured = Measured(size, units, cost._replace(cpu=max(0.0, cost.cpu - self.empty[command])))

@@ -157,7 +157,7 @@ class Failing(ToolCase):
         for name in ("cat", "expr", "sh"):
             (tools / name).symlink_to(shutil.which(name))
         program = self.folder / "zkdump"
-        program.write_text(f"#!/bin/sh\ncat > {os.devnull}\necho '. whole unanswered=0'\n{script}\n")
+        program.write_text(f"#!/bin/sh\ncat > {os.devnull}\necho 'a line'\necho '. whole unanswered=0'\n{script}\n")
         program.chmod(0o700)
         done = subprocess.run([sys.executable, TOP / "bench" / words[0], "--program", program, *words[1:]],
                               env={**os.environ, "PATH": str(tools)}, capture_output=True, text=True, check=False)
@@ -179,6 +179,14 @@ class Failing(ToolCase):
     def test_the_listing_that_build_reads(self):
         script = "test $1 != show || ! test -f /dev/stdout"
         status, last, err = self.measure(script, "growth.py", "--quick", "--only", "one path")
+        self.assertEqual((status, last, err), (1, "0 passed, 3 failed", ""))
+
+    def test_a_listing_that_is_cut(self):
+        status, last, err = self.measure("echo '. cut side=C frame=9 got=9'", "growth.py", "--quick", "--only", "one path")
+        self.assertEqual((status, last, err), (1, "0 passed, 3 failed", ""))
+
+    def test_a_listing_of_nothing(self):
+        status, last, err = self.measure(": > /dev/stdout", "growth.py", "--quick", "--only", "one path")
         self.assertEqual((status, last, err), (1, "0 passed, 3 failed", ""))
 
     def test_a_recording_that_was_not_written(self):
