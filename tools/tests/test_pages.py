@@ -1,5 +1,5 @@
-"""Tests of docs/clauses.py, docs/words.py and docs/proved.py: clauses, functions and paths that a page names and that
-aren't there, and definitions that no section explains."""
+"""Tests of docs/clauses.py, docs/cases.py, docs/words.py and docs/proved.py: clauses, functions and paths that a page
+names and that aren't there, cases that it shows otherwise, and definitions that no section explains."""
 
 import subprocess
 import sys
@@ -7,7 +7,8 @@ import sys
 from support import TOP, ToolCase
 
 sys.path.append(str(TOP / "docs"))
-import proved  # noqa: E402  (found by the line above)
+import cases  # noqa: E402  (found by the line above)
+import proved  # noqa: E402
 import words  # noqa: E402
 
 PAGE = """| What holds | Clauses |
@@ -46,6 +47,66 @@ class Clauses(ToolCase):
         done = subprocess.run([sys.executable, TOP / "docs" / "clauses.py", page], capture_output=True, text=True,
                               check=False)
         self.assertEqual((done.returncode, done.stdout), (1, "0 passed, 0 failed\n"))
+
+
+CASES = """# Cases
+
+`. refused side=C frame=9`: of no case.
+
+Case `path_with_escapes`:
+
+```
+C: 00000011 00000001 00000003 00000004 2fc3a922 01
+C: the connect request
+```
+
+`C 1 exists path="/\\c3\\a9\\22" watch=1`, with `watch=1`, `. whole unanswered=1`.
+
+| Case | The frame | offset | place | reason | |
+|---|---|---|---|---|---|
+| `watch_byte_of_two` | `0000000f 00000001 00000003 00000002 2f61 02` | 68 | 14 | BadBool | `. refused side=C frame=1` |
+| `queue_of_one_is_full` | `--waiting 1` | 87 | 0 | QueueFull | |
+| `build/watch_of_two` | `C 1 exists path="/a" watch=2` | | | | `line 1: column 28: Word` |
+
+## Others
+
+`. whole unanswered=9`: of no case.
+"""
+# What is replaced, by what, the line, and what the case then hasn't.
+OTHERWISE = (
+    ("2fc3a922 01", "2fc3a922 00", 8, "path_with_escapes: no C: 00000011 00000001 00000003 00000004 2fc3a922 00"),
+    ("C: 00000011", "S: 00000011", 8, "path_with_escapes: no S: 00000011 00000001 00000003 00000004 2fc3a922 01"),
+    ("C: 00000011", "C: 0000001", 8, "path_with_escapes: no C: 0000001 00000001 00000003 00000004 2fc3a922 01"),
+    ("watch=1", "watch=0", 12, 'path_with_escapes: no C 1 exists path="/\\c3\\a9\\22" watch=0'),
+    ("with `watch=1`", "with `watch=0`", 12, "path_with_escapes: no watch=0"),
+    ("unanswered=1", "unanswered=2", 12, "path_with_escapes: no . whole unanswered=2"),
+    ("Case `path_with_escapes`", "Case `path_not_utf8`", 12, "path_not_utf8: no . whole unanswered=1"),
+    ("2f61 02", "2f61 03", 16, "watch_byte_of_two: no 0000000f 00000001 00000003 00000002 2f61 03"),
+    ("| 68 |", "| 6 |", 16, "watch_byte_of_two: no offset=6"),
+    ("BadBool", "BadByte", 16, "watch_byte_of_two: no reason=BadByte"),
+    ("frame=1`", "frame=2`", 16, "watch_byte_of_two: no . refused side=C frame=2"),
+    ("--waiting 1", "--waiting 2", 17, "queue_of_one_is_full: no --waiting 2"),
+    ("column 28", "column 27", 18, "watch_of_two: no line 1: column 27: Word"),
+)
+
+
+class Cases(ToolCase):
+    def compared(self, text):
+        (self.folder / "PAGE.md").write_text(text)
+        return [*cases.compared(self.folder / "PAGE.md")]
+
+    def test_what_a_page_shows_otherwise_than_the_case(self):
+        self.assertEqual([good for good, _ in self.compared(CASES)], 15 * [True])
+        for old, new, line, told in OTHERWISE:
+            self.assertIn((False, f"PAGE.md:{line}: {told}"), self.compared(CASES.replace(old, new, 1)))
+
+    def test_a_page_without_cases(self):
+        (self.folder / "PAGE.md").write_text("`. whole unanswered=0`\n")
+        for words, wanted in ((["PAGE.md"], (1, "0 passed, 0 failed\n")), ([], (0, None))):
+            done = subprocess.run([sys.executable, TOP / "docs" / "cases.py", *words], cwd=self.folder,
+                                  capture_output=True, text=True, check=False)
+            self.assertEqual((done.returncode, done.stderr), (wanted[0], ""))
+            self.assertIn(wanted[1], (None, done.stdout))
 
 
 class Paths(ToolCase):
