@@ -14,6 +14,7 @@ With --check nothing is written, and each row that is wrong is named. The status
 """
 
 import difflib
+import math
 import re
 import runpy
 import sys
@@ -27,6 +28,8 @@ ENTRY = re.compile(r'-?\d+: "\w+"|\{[\w()-]+, "\w+"\}|\{-?\d+, (?:true|false)[^}
                    r"|(?<=[( ])-?\d+(?=, -?[\dI])")
 # A kind of field in a line.
 LINES = {"int": "num", "long": "num", "bool": "bit", "texts": "list of text", "acl": "list of acl"}
+# How many bytes a field of a kind has.
+SIZES = {"int": 4, "long": 8, "bool": 1}
 # Items of more than a kind: numbers that may have a name, and a bit that may be absent.
 ITEMS = {"kcode": "num", "ecode": "num", "ro": "bit"}
 # The enumerations of the package for Python: how each name begins in the header.
@@ -251,6 +254,40 @@ def compare_constants():
             yield f"{where}: {each} is {number}, and in the sources {wanted}"
 
 
+def compare_sizes():
+    """The sizes that the page gives records."""
+    for line, cells in formats.rows("Record", "Fields in order"):
+        name, size = re.match(r"`(\w+)`[^,]*(?:, (\d+) bytes)?", cells[0]).groups()
+        here = sum(SIZES.get(kind, math.inf) for _, kind in source.records().get(name, ()))
+        if size and int(size) != here:
+            yield f"docs/FORMATS.md:{line}: {name} has {size} bytes, and in the sources {here}"
+
+
+def compare_xids():
+    """The xids that the page gives operations; the others in its table are events' and all others'."""
+    found = {int(cells[0]): (line, cells[1]) for line, cells in formats.rows("xid", "Meaning") if cells[0][-1].isdigit()}
+    wanted = {each.xid: each.name for each in source.operations() if each.xid}
+    wanted.update({xid: "an event; never a request (**own**)" for xid in source.OWN_XIDS if xid not in wanted})
+    return compare_codes("docs/FORMATS.md", found.items(), wanted)
+
+
+def compare_ranges():
+    """The numbers of options, of a frame's and of a piece's size, and the profiles."""
+    ranges, usual, profiles = source.ranges(), source.usual(), source.profiles()
+    wanted = {name: (" to ".join(ranges[name]), usual[name]) for name in ("limit", "waiting")}
+    wanted["profile"] = ", ".join(profiles), usual["profile"]
+    found = {re.sub(r"\W|N|P", "", cells[0]): (line, tuple(cells[2:4])) for line, cells in formats.rows(
+        "Option", "Meaning", "Range", "Without it")}
+    yield from compare_codes("docs/FORMATS.md", found.items(), wanted)
+    for page, text in (
+            ("FORMATS.md", f"is {wanted['limit'][0]} bytes of payload, usually {usual['limit']}."),
+            ("FORMATS.md", f"from {' to '.join(ranges['size'])}, is the number of bytes"),
+            ("FORMATS.md", f"is {' or '.join(map(str, profiles.values()))}, for ZooKeeper {' or '.join(profiles)}."),
+            ("REASONS.md", f"a piece claims no bytes, or more than {ranges['size'][1]}")):
+        if text not in (TOP / "docs" / page).read_text():
+            yield f"docs/{page}: it has nowhere: {text}"
+
+
 def compared():
     """What is wrong with each thing that is compared."""
     names = source.names()
@@ -270,6 +307,9 @@ def compared():
     yield compare_field_rows()
     yield compare_enumerations()
     yield compare_constants()
+    yield compare_sizes()
+    yield compare_xids()
+    yield compare_ranges()
 
 
 def judged(writes):

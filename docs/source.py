@@ -208,6 +208,25 @@ def faults(crate, name, enum):
     return list(some([(row, None) for row in rows], f"variants of {enum}"))
 
 
+def spelled(numbers):
+    return [f"{int(number.replace('_', '')):,}" for number in numbers]
+
+
+def ranges():
+    """The least and the greatest number, as pages spell them, of the options and of a piece's size."""
+    limits = re.findall(r"\b(\d+)\.\.=([\d_]+)", text_of("zk_talk", "limits"))
+    size = re.findall(r"Part::Size => is_within\((\d+), ([\d_]+),", text_of("zk_recordings", "parts"))
+    if len(limits) != 2 or not size:
+        raise Missing("the crates' sources have no ranges of limits and sizes")
+    return {name: spelled(numbers) for name, numbers in zip(("limit", "waiting", "size"), (*limits, *size))}
+
+
+def usual():
+    """What an option is that isn't given, as pages spell it."""
+    found = re.findall(r'const USUAL_(\w+): \S+ = "?([\d_.]+)', text_of("zk_runs", "words"))
+    return some([(name.lower(), value if "." in value else spelled([value])[0]) for name, value in found], "usual options")
+
+
 @functools.lru_cache(maxsize=None)
 def names():
     """By kind, the name of each number: of operation, error, event, field and status."""

@@ -13,12 +13,12 @@ sys.path.append(str(TOP / "docs"))
 import lists  # noqa: E402
 
 FOLDERS = [f"crates/{name}/src" for name in ("zk_records", "zk_asks", "zk_answers", "zk_fields", "zk_items", "zk_lines",
-                                             "zk_recordings", "zk_talk", "zk_c")]
+                                             "zk_recordings", "zk_runs", "zk_talk", "zk_c")]
 FILES = (*lists.PARTS, *lists.WHOLE, "docs/names.py", "docs/lists.py", "docs/source.py", "docs/formats.py",
          "docs/FORMATS.md", "docs/REASONS.md", "examples/python/libzk/_messages.py", "examples/python/libzk/_held.py",
          "crates/talk_tests/src/tests/earliest/bodies.rt", "examples/server.c", "wireshark/tree.c", "wireshark/message.h",
          "tools/forms.py", "bench/make_recording.py")
-ALL_PASSED = (0, ["28 passed, 0 failed"])
+ALL_PASSED = (0, ["31 passed, 0 failed"])
 # A file, what is replaced in it and by what, and what is then said: `{line}` is the line of the change.
 WRITTEN = (
     ("include/zk.h", '    case 8: return "getChildren";\n', "", 'lacks case 8: return "getChildren"'),
@@ -136,6 +136,25 @@ COMPARED = (
      ("crates/talk_tests/src/tests/earliest/bodies.rt: no bodies of Answered(Op::Sync)",)),
     ("bench/make_recording.py", "NODE_EXISTS = -101, -103, -110", "NODE_EXISTS = -101, -103, -111",
      ("bench/make_recording.py: NODE_EXISTS is -111, and in the sources -110",)),
+    ("docs/FORMATS.md", "| `MultiHeader`, 9 bytes |", "| `MultiHeader`, 10 bytes |",
+     ("docs/FORMATS.md:{line}: MultiHeader has 10 bytes, and in the sources 9",)),
+    ("docs/FORMATS.md", "| -4 | auth |", "| -5 | auth |",
+     ("docs/FORMATS.md: no row of -4 auth", "docs/FORMATS.md:{line}: -5 is auth, and in the sources nothing")),
+    ("docs/FORMATS.md", "| -8 | setWatches |", "| -8 | sync |",
+     ("docs/FORMATS.md:{line}: -8 is sync, and in the sources setWatches",)),
+    ("docs/FORMATS.md", "| 1 to 1,048,576 | 65,536 |", "| 1 to 1,048,577 | 65,536 |",
+     ("docs/FORMATS.md:{line}: waiting is ('1 to 1,048,577', '65,536'), "
+      "and in the sources ('1 to 1,048,576', '65,536')",)),
+    ("docs/FORMATS.md", "| 3.4, 3.5 | 3.4 |", "| 3.4, 3.5 | 3.5 |",
+     ("docs/FORMATS.md:{line}: profile is ('3.4, 3.5', '3.5'), and in the sources ('3.4, 3.5', '3.4')",)),
+    ("docs/FORMATS.md", "of payload, usually 4,194,304.", "of payload, usually 4,194,305.",
+     ("docs/FORMATS.md: it has nowhere: is 64 to 16,777,216 bytes of payload, usually 4,194,304.",)),
+    ("docs/FORMATS.md", "The int, from 1 to 16,777,220,", "The int, from 1 to 16,777,216,",
+     ("docs/FORMATS.md: it has nowhere: from 1 to 16,777,220, is the number of bytes",)),
+    ("docs/REASONS.md", "no bytes, or more than 16,777,220", "no bytes, or more than 16,777,216",
+     ("docs/REASONS.md: it has nowhere: a piece claims no bytes, or more than 16,777,220",)),
+    ("crates/zk_runs/src/words.rt", "USUAL_WAITING: u32 = 65_536", "USUAL_WAITING: u32 = 65_537",
+     ("docs/FORMATS.md:*: waiting is ('1 to 1,048,576', '65,536'), and in the sources ('1 to 1,048,576', '65,537')",)),
     ("crates/zk_records/src/names.rt", '-102 => Some("NOAUTH"),', '-102 => Some("NORIGHT"),',
      ("include/zk.h:*: has case -102: return \"NOAUTH\"; lacks case -102: return \"NORIGHT\"",
       "wireshark/names.c:*: has {NUMBER(-102), \"NOAUTH\"}; lacks {NUMBER(-102), \"NORIGHT\"}",
@@ -174,6 +193,9 @@ PAGE = (
     ("docs/FORMATS.md", "| 100 | auth,", f"| {NUMBER} | invent, `Invent`, of 9.9 | `PathAsk` (InventRequest) | "
      "vector of ustring invented (inventions; InventResponse) |\n"),
     ("docs/FORMATS.md", "| auth | `auth", "| invent | `invent path=`text |\n"),
+    ("docs/FORMATS.md", " | 3.4 |\n", ", 9.9"),
+    ("docs/FORMATS.md", ", for ZooKeeper 3.4 or 3.5", " or 99"),
+    ("docs/FORMATS.md", ".\n- The side byte", " or 9.9"),
     ("docs/FORMATS.md", "| multi | ` {`,", "| invent | ` invented=`list of text |\n"),
     ("crates/talk_tests/src/tests/earliest/bodies.rt", "    (\n        Layout::Connect,",
      "    (Layout::Asked(Op::Invent), \"\"),\n    (Layout::Answered(Op::Invent), \"\"),\n"),
