@@ -288,6 +288,13 @@ def compare_ranges():
             yield f"docs/{page}: it has nowhere: {text}"
 
 
+def compare_calls():
+    """The calls that the crate for C exports, and the header's for names, with those of docs/LIBRARY.md."""
+    calls = [*source.calls(), *(f"zk_{kind}_name" for kind in source.names())]
+    there = set(re.findall(r"`(\w+)`", (TOP / "docs" / "LIBRARY.md").read_text()))
+    yield from (f"docs/LIBRARY.md: no {name}" for name in calls if name not in there)
+
+
 def compared():
     """What is wrong with each thing that is compared."""
     names = source.names()
@@ -310,6 +317,7 @@ def compared():
     yield compare_sizes()
     yield compare_xids()
     yield compare_ranges()
+    yield compare_calls()
 
 
 def judged(writes):

@@ -196,6 +196,11 @@ def statuses():
     return some(found.items(), "statuses")
 
 
+def calls():
+    """The names of the calls that zk_c exports."""
+    return list(some([(name, None) for name in re.findall(r'extern "C" fn (\w+)', text_of("zk_c"))], "calls of C"))
+
+
 def reasons():
     """The name of each reason, by its number."""
     rows = re.findall(r"Reason::(\w+).*? => (\d+)", body(text_of("zk_c", "number"), "fn reason_number"))
