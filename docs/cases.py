@@ -35,8 +35,8 @@ def content(path):
 
 @functools.lru_cache(maxsize=None)
 def case(name):
-    """What a case of this name has, in all folders: the bytes of the client, those of the server, and its recordings, in
-    hexadecimal digits; its lines; and its arguments."""
+    """What the cases of this name have, in all folders: the bytes of the client and of the server, and the recordings,
+    in hexadecimal digits; their lines; and their arguments."""
     sides, whole, lines, words = {"C": "", "S": ""}, "", [], []
     for args in CASES.glob(f"*/{name}.args"):
         words.append(" ".join(args.read_text().split()))

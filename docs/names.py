@@ -265,10 +265,11 @@ def compare_sizes():
 
 def compare_xids():
     """The xids that the page gives operations; the others in its table are events' and all others'."""
-    found = {int(cells[0]): (line, cells[1]) for line, cells in formats.rows("xid", "Meaning") if cells[0][-1].isdigit()}
+    rows = formats.rows("xid", "Meaning")
+    found = [(int(xid), (line, meaning)) for line, (xid, meaning) in rows if xid[-1].isdigit()]
     wanted = {each.xid: each.name for each in source.operations() if each.xid}
     wanted.update({xid: "an event; never a request (**own**)" for xid in source.OWN_XIDS if xid not in wanted})
-    return compare_codes("docs/FORMATS.md", found.items(), wanted)
+    return compare_codes("docs/FORMATS.md", found, wanted)
 
 
 def compare_ranges():

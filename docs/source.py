@@ -229,7 +229,8 @@ def ranges():
 def usual():
     """What an option is that isn't given, as pages spell it."""
     found = re.findall(r'const USUAL_(\w+): \S+ = "?([\d_.]+)', text_of("zk_runs", "words"))
-    return some([(name.lower(), value if "." in value else spelled([value])[0]) for name, value in found], "usual options")
+    rows = [(name.lower(), value if "." in value else spelled([value])[0]) for name, value in found]
+    return some(rows, "usual options")
 
 
 @functools.lru_cache(maxsize=None)

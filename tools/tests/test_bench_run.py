@@ -182,7 +182,8 @@ class Failing(ToolCase):
         self.assertEqual((status, last, err), (1, "0 passed, 3 failed", ""))
 
     def test_a_listing_that_is_cut(self):
-        status, last, err = self.measure("echo '. cut side=C frame=9 got=9'", "growth.py", "--quick", "--only", "one path")
+        script = "echo '. cut side=C frame=9 got=9'"
+        status, last, err = self.measure(script, "growth.py", "--quick", "--only", "one path")
         self.assertEqual((status, last, err), (1, "0 passed, 3 failed", ""))
 
     def test_a_listing_of_nothing(self):

@@ -113,8 +113,8 @@ class Paths(ToolCase):
     def test_a_path_that_is_not_there_is_named(self):
         page = ("`tests/devices.py`, `tests/device.py`, `tools/build.py`, `docs/*.py`, `tools/NAME.py`, "
                 "`tests/golden`, `bin/zkdump`, `crates/CRATE/must-fail/NAME.edit`, `crates/zk_c/out/libzk_c.a`, "
-                "`crates/zk_gone/src`, `crates/zkdump/cases/build/gone.args`, `crates/zkdump/cases/build/no_lines.args`, "
-                "`examples/python/build/lib`")
+                "`crates/zk_gone/src`, `crates/zkdump/cases/build/gone.args`, "
+                "`crates/zkdump/cases/build/no_lines.args`, `examples/python/build/lib`")
         self.assertEqual([*words.lost(TOP / "wireshark" / "README.md", page)], [
             f"wireshark/README.md: there is no {name}" for name in (
                 "tests/device.py", "tools/build.py", "crates/zk_gone/src", "crates/zkdump/cases/build/gone.args")])

@@ -34,7 +34,7 @@ class Pages(ToolCase):
                 self.assertEqual([*words.judged(page)], [f"docs/LIBRARY.md: a diary's words: {found}"] if found else [])
 
     def test_numbers_of_what_the_crates_have(self):
-        hints = "".join(f"{hint}\n" for hint in ("#[inline(always)]", "    #[inline(always)]", "// #[inline]", "#[inline]"))
+        hints = "#[inline(always)]\n    #[inline(always)]\n// #[inline]\n#[inline]\n"
         for name, text in (("crates/low/src/lib.rt", hints), ("crates/high/src/tests/more.rt", "#[inline(never)]\n"),
                            ("crates/low/must-fail/some.edit", "file: a\nold: b\nnew: c\n"),
                            ("docs/PERF.md", "There are 2; at the start there were 0.\n"),
