@@ -280,13 +280,20 @@ def compare_ranges():
     found = {re.sub(r"\W|N|P", "", cells[0]): (line, tuple(cells[2:4])) for line, cells in formats.rows(
         "Option", "Meaning", "Range", "Without it")}
     yield from compare_codes("docs/FORMATS.md", found.items(), wanted)
+    told = f"{' or '.join(map(str, profiles.values()))}, for ZooKeeper {' or '.join(profiles)}."
+    manual = {name: " to ".join(numbers).replace(",", "") for name, numbers in ranges.items()}
     for page, text in (
             ("FORMATS.md", f"is {wanted['limit'][0]} bytes of payload, usually {usual['limit']}."),
             ("FORMATS.md", f"from {' to '.join(ranges['size'])}, is the number of bytes"),
-            ("FORMATS.md", f"is {' or '.join(map(str, profiles.values()))}, for ZooKeeper {' or '.join(profiles)}."),
-            ("REASONS.md", f"a piece claims no bytes, or more than {ranges['size'][1]}")):
+            ("FORMATS.md", f"is {told}"),
+            ("REASONS.md", f"a piece claims no bytes, or more than {ranges['size'][1]}"),
+            *(("man/zkdump.1.scd", f": {manual[name]}; {usual[name].replace(',', '')} without the option")
+              for name in ("limit", "waiting")),
+            ("man/zkdump.1.scd", f"; {usual['profile']} without the option"),
+            *(("man/zkr.5.scd", text) for text in (f"client, {manual['limit']};", f"wait, {manual['waiting']};",
+                                                   f"follow, {manual['size']};", f"profile, {told}"))):
         if text not in (TOP / "docs" / page).read_text():
-            yield f"docs/{page}: it has nowhere: {text}"
+            yield f"docs/{page}: there is no {text!r}"
 
 
 def compare_calls():

@@ -15,9 +15,10 @@ import lists  # noqa: E402
 FOLDERS = [f"crates/{name}/src" for name in ("zk_records", "zk_asks", "zk_answers", "zk_fields", "zk_items", "zk_lines",
                                              "zk_recordings", "zk_runs", "zk_talk", "zk_c")]
 FILES = (*lists.PARTS, *lists.WHOLE, "docs/names.py", "docs/lists.py", "docs/source.py", "docs/formats.py",
-         "docs/FORMATS.md", "docs/LIBRARY.md", "docs/REASONS.md", "examples/python/libzk/_messages.py",
-         "examples/python/libzk/_held.py", "crates/talk_tests/src/tests/earliest/bodies.rt", "examples/server.c",
-         "wireshark/tree.c", "wireshark/message.h", "tools/forms.py", "bench/make_recording.py")
+         "docs/FORMATS.md", "docs/LIBRARY.md", "docs/REASONS.md", "docs/man/zkdump.1.scd", "docs/man/zkr.5.scd",
+         "examples/python/libzk/_messages.py", "examples/python/libzk/_held.py", "examples/server.c",
+         "crates/talk_tests/src/tests/earliest/bodies.rt", "wireshark/tree.c", "wireshark/message.h", "tools/forms.py",
+         "bench/make_recording.py")
 ALL_PASSED = (0, ["32 passed, 0 failed"])
 # A file, what is replaced in it and by what, and what is then said: `{line}` is the line of the change.
 WRITTEN = (
@@ -148,14 +149,19 @@ COMPARED = (
     ("docs/FORMATS.md", "| 3.4, 3.5 | 3.4 |", "| 3.4, 3.5 | 3.5 |",
      ("docs/FORMATS.md:{line}: profile is ('3.4, 3.5', '3.5'), and in the sources ('3.4, 3.5', '3.4')",)),
     ("docs/FORMATS.md", "of payload, usually 4,194,304.", "of payload, usually 4,194,305.",
-     ("docs/FORMATS.md: it has nowhere: is 64 to 16,777,216 bytes of payload, usually 4,194,304.",)),
+     ("docs/FORMATS.md: there is no 'is 64 to 16,777,216 bytes of payload, usually 4,194,304.'",)),
     ("docs/FORMATS.md", "The int, from 1 to 16,777,220,", "The int, from 1 to 16,777,216,",
-     ("docs/FORMATS.md: it has nowhere: from 1 to 16,777,220, is the number of bytes",)),
+     ("docs/FORMATS.md: there is no 'from 1 to 16,777,220, is the number of bytes'",)),
+    ("docs/man/zkdump.1.scd", "16777216; 4194304 without", "16777216; 4194305 without",
+     ("docs/man/zkdump.1.scd: there is no ': 64 to 16777216; 4194304 without the option'",)),
+    ("docs/man/zkr.5.scd", "34 or 35, for", "34 or 36, for",
+     ("docs/man/zkr.5.scd: there is no 'profile, 34 or 35, for ZooKeeper 3.4 or 3.5.'",)),
     ("docs/REASONS.md", "no bytes, or more than 16,777,220", "no bytes, or more than 16,777,216",
-     ("docs/REASONS.md: it has nowhere: a piece claims no bytes, or more than 16,777,220",)),
+     ("docs/REASONS.md: there is no 'a piece claims no bytes, or more than 16,777,220'",)),
     ("docs/LIBRARY.md", ", `zk_read_event` |", " |", ("docs/LIBRARY.md: no zk_read_event",)),
     ("crates/zk_runs/src/words.rt", "USUAL_WAITING: u32 = 65_536", "USUAL_WAITING: u32 = 65_537",
-     ("docs/FORMATS.md:*: waiting is ('1 to 1,048,576', '65,536'), and in the sources ('1 to 1,048,576', '65,537')",)),
+     ("docs/FORMATS.md:*: waiting is ('1 to 1,048,576', '65,536'), and in the sources ('1 to 1,048,576', '65,537')",
+      "docs/man/zkdump.1.scd: there is no ': 1 to 1048576; 65537 without the option'")),
     ("crates/zk_records/src/names.rt", '-102 => Some("NOAUTH"),', '-102 => Some("NORIGHT"),',
      ("include/zk.h:*: has case -102: return \"NOAUTH\"; lacks case -102: return \"NORIGHT\"",
       "wireshark/names.c:*: has {NUMBER(-102), \"NOAUTH\"}; lacks {NUMBER(-102), \"NORIGHT\"}",
@@ -197,6 +203,8 @@ PAGE = (
     ("docs/FORMATS.md", " | 3.4 |\n", ", 9.9"),
     ("docs/FORMATS.md", ", for ZooKeeper 3.4 or 3.5", " or 99"),
     ("docs/FORMATS.md", ".\n- The side byte", " or 9.9"),
+    ("docs/man/zkr.5.scd", ", for ZooKeeper 3.4 or 3.5", " or 99"),
+    ("docs/man/zkr.5.scd", ".\n\nA piece is that", " or 9.9"),
     ("docs/FORMATS.md", "| multi | ` {`,", "| invent | ` invented=`list of text |\n"),
     ("crates/talk_tests/src/tests/earliest/bodies.rt", "    (\n        Layout::Connect,",
      "    (Layout::Asked(Op::Invent), \"\"),\n    (Layout::Answered(Op::Invent), \"\"),\n"),
@@ -277,7 +285,8 @@ class Names(ToolCase):
                                   "examples/python/libzk/_names.py", "examples/rust/zk/src/names.rs",
                                   "tools/columns/json.c", "wireshark/names.c", "wireshark/tree.c",
                                   "bench/peer/peer.rs", "wireshark/register.c", "examples/go/libzk.go",
-                                  "completion/zkdump.bash", "crates/talk_tests/src/tests/earliest/bodies.rt"})
+                                  "completion/zkdump.bash", "crates/talk_tests/src/tests/earliest/bodies.rt",
+                                  "docs/man/zkr.5.scd"})
         for name, before, added in PAGE:
             self.change(name, before, added + before)
         self.assertEqual(self.run_names("--write"), ALL_PASSED)
