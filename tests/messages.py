@@ -4,8 +4,8 @@ tests/library.py calls it. Each recording is given to a talk in the pieces that 
 frame becomes whole, its payload, its fields, its number and the numbers of its header are compared with the bytes that
 were given, as tests/fields.py reads them. A second talk passes over the same pieces: it returns what the first returns,
 and keeps no frame. After each piece what it holds, and what waits, is compared with the bytes and requests that came.
-Which of the client's frames each reply answers is compared with the requests that came; so it is of a passage, too. As
-many messages have to come as the recording's listing has lines.
+Which of the client's frames each reply answers is compared with the requests that came; so it is of a passage, too, and
+the numbers of what a passage leaves out. As many messages have to come as the recording's listing has lines, and it has to end as its last line says.
 
 Passages that join each recording late, at several of its frames, are given what follows. They return the messages that
 the talk returns, with frames' numbers of their own, but replies to requests that they weren't given as such.
@@ -13,14 +13,17 @@ the talk returns, with frames' numbers of their own, but replies to requests tha
 
 import collections
 import ctypes
+import struct
 
 import fields
+import source  # fields has its folder on the path
 from listed import listings_of
 from samples import PROFILE
 
 NO_MESSAGE, MULTI = 69, 14
 MESSAGE, ASKED, ANSWERED, FULL, UNSEEN = 1, 2, 3, 4, 5  # what becomes of a passage's bytes
 PINGS, AUTHS, WATCHES, EVENTS = -2, -4, -8, -1  # xids
+WHOLE, CUT = 1, 2  # kinds of an ending
 KINDS = ("first", "request", "connected", "reply", "event")
 
 
@@ -95,6 +98,26 @@ def compare_message(caller, talk, side, frame, payload):
            (0, len(wanted), message.kind, message.operation, xid, err, zxid))
 
 
+def line_of_ending(ending):
+    """The line that an ending's numbers make (docs/FORMATS.md, section 11)."""
+    if ending.kind == WHOLE:
+        return f". whole unanswered={ending.unanswered}"
+    if ending.kind == CUT:
+        return f". cut side={'CS'[ending.side]} frame={ending.frame} got={ending.got}"
+    fault, reason = ending.fault, source.reasons().get(ending.fault.reason)
+    order = f" expected={fault.expected} got={fault.got}" if reason == "XidOrder" else ""
+    return (f". refused side={'CS'[fault.side]} frame={fault.frame} offset={fault.offset} place={fault.place} "
+            f"reason={reason}{order}")
+
+
+def compare_ending(library, talk, line):
+    """The ending of a talk, by its numbers and by its line, and the last line of the listing."""
+    out = ctypes.create_string_buffer(200)
+    written = library.zk_talk_ending_line(talk.handle, out, len(out))
+    yield line_of_ending(library.zk_talk_finish(talk.handle)), line
+    yield (written.status, out.raw[:written.length].decode()), (0, line)
+
+
 class Lanes:
     """How many frames each side has sent, and the numbers of the requests that wait, by lanes."""
 
@@ -114,9 +137,9 @@ class Lanes:
         return 0
 
 
-def compare_recording(caller, content, cut, count):
+def compare_recording(caller, content, cut, count, ending):
     """What is returned of each message of a recording, of which there are `count`, whose pieces are cut to at most `cut`
-    bytes."""
+    bytes, and of how it ends."""
     came, lanes, waiting, library = [bytearray(), bytearray()], Lanes(), Waiting(), caller.library
     with caller.talk.Talk(library, profile=PROFILE) as talk, caller.talk.Talk(library, profile=PROFILE) as passing:
         for side, piece in caller.talk.pieces(content):
@@ -128,6 +151,8 @@ def compare_recording(caller, content, cut, count):
                 yield numbers_of_step(passed), numbers_of_step(step)
                 if step.status != 0:
                     yield sum(lanes.frames), count
+                    yield from compare_ending(library, talk, ending)
+                    yield from compare_ending(library, passing, ending)
                     return
                 came[side] += part[:step.used]
                 at += step.used
@@ -140,12 +165,15 @@ def compare_recording(caller, content, cut, count):
                     yield library.zk_talk_view(passing.handle, side).status, NO_MESSAGE
                     yield from compare_counts(library, talk, came, waiting)
                 yield from compare_counts(library, passing, came, waiting)
-    yield sum(lanes.frames), count
+        yield sum(lanes.frames), count
+        yield from compare_ending(library, talk, ending)
+        yield from compare_ending(library, passing, ending)
 
 
 def compare_passage(caller, content, is_whole):
-    """Which of the client's frames each reply of a passage answers, and which should. A whole one isn't refused."""
-    handle, library = caller.talk.Handle(), caller.library
+    """Which of the client's frames each reply of a passage answers, and the numbers of what is left out, and what should
+    be. A whole one isn't refused."""
+    handle, library, asked = caller.talk.Handle(), caller.library, {}
     came, lanes = [bytearray(), bytearray()], Lanes()
     yield library.zk_through_new(handle, 1 << 22, 1 << 22, 1 << 16, 34), 0
     for side, piece in caller.talk.pieces(content):
@@ -157,12 +185,18 @@ def compare_passage(caller, content, is_whole):
                 return
             came[side] += piece[:step.used]
             piece = piece[step.used:]
+            numbers = step.xid, step.operation, step.frame, step.zxid, step.err
             if step.went not in (MESSAGE, ASKED, ANSWERED):
+                yield numbers, (0, 0, 0, 0, 0)
                 continue
-            answers = step.frame if step.went == ANSWERED else library.zk_through_view(handle, side).answers
-            wanted = lanes.answered(side, came[side][4:])
-            if side == 1:
-                yield answers, wanted
+            payload, count = came[side][4:], lanes.frames[side]
+            wanted = lanes.answered(side, payload)
+            if side == 0:
+                asked[count] = struct.unpack_from(">ii", payload)
+            elif step.went == MESSAGE:
+                yield library.zk_through_view(handle, side).answers, wanted
+            left_out = {ASKED: count, ANSWERED: wanted}.get(step.went)
+            yield numbers, (0, 0, 0, 0, 0) if left_out is None else (*asked[left_out], left_out, 0, 0)
             came[side] = bytearray()
     library.zk_through_free(handle)
 
@@ -231,8 +265,8 @@ def compare(talk, library, names, recordings):
     caller = fields.Caller(talk, library, {"none": 0, **names})
     for path in recordings:
         content, (*lines, ending) = path.read_bytes(), listings_of(path)[-1][1].read_text().splitlines()
-        for what, compared in (("in its pieces", compare_recording(caller, content, 1 << 24, len(lines))),
-                               ("in pieces of a byte", compare_recording(caller, content, 1, len(lines))),
+        for what, compared in (("in its pieces", compare_recording(caller, content, 1 << 24, len(lines), ending)),
+                               ("in pieces of a byte", compare_recording(caller, content, 1, len(lines), ending)),
                                ("by a passage", compare_passage(caller, content, ending.startswith(". whole "))),
                                ("joined late", compare_joined(caller, content, len(lines)))):
             for found, wanted in compared:
