@@ -3,9 +3,10 @@
 tests/library.py calls it. Each recording is given to a talk in the pieces that it has, and again byte by byte. Where a
 frame becomes whole, its payload, its fields, its number and the numbers of its header are compared with the bytes that
 were given, as tests/fields.py reads them. A second talk passes over the same pieces: it returns what the first returns,
-and keeps no frame. After each piece what it holds, and what waits, is compared with the bytes and requests that came.
-Which of the client's frames each reply answers is compared with the requests that came; so it is of a passage, too, and
-the numbers of what a passage leaves out. As many messages have to come as the recording's listing has lines, and it has to end as its last line says.
+and keeps no frame. After each piece what it holds, what waits, and how it would end are compared with the bytes and
+requests that came. Which of the client's frames each reply answers is compared with the requests that came; so it is of
+a passage, too, and the numbers of what a passage leaves out. As many messages have to come as the recording's listing
+has lines, and it has to end as its last line says.
 
 Passages that join each recording late, at several of its frames, are given what follows. They return the messages that
 the talk returns, with frames' numbers of their own, but replies to requests that they weren't given as such.
@@ -137,6 +138,15 @@ class Lanes:
         return 0
 
 
+def ending_so_far(came, lanes):
+    """The line of how what came ends, if nothing more comes."""
+    for side in (0, 1):
+        if came[side]:
+            return f". cut side={'CS'[side]} frame={lanes.frames[side]} got={len(came[side])}"
+    connects = lanes.frames[0] > 0 and lanes.frames[1] == 0
+    return f". whole unanswered={sum(map(len, lanes.lanes.values())) + connects}"
+
+
 def compare_recording(caller, content, cut, count, ending):
     """What is returned of each message of a recording, of which there are `count`, whose pieces are cut to at most `cut`
     bytes, and of how it ends."""
@@ -165,6 +175,8 @@ def compare_recording(caller, content, cut, count, ending):
                     yield library.zk_talk_view(passing.handle, side).status, NO_MESSAGE
                     yield from compare_counts(library, talk, came, waiting)
                 yield from compare_counts(library, passing, came, waiting)
+                if cut > 1:
+                    yield line_of_ending(library.zk_talk_finish(talk.handle)), ending_so_far(came, lanes)
         yield sum(lanes.frames), count
         yield from compare_ending(library, talk, ending)
         yield from compare_ending(library, passing, ending)
