@@ -1,15 +1,16 @@
 """Compares the fields that the library for C writes with tables of payloads and with a second reading of the formats.
 
 tests/library.py calls it. The rows of the table were derived from docs/FORMATS.md and docs/EXAMPLES.md, by hand or by
-samples.py. Then each row's payload is truncated at each byte and each byte is changed, and the answer is compared with
-that of a reader in this file, by the tables of docs/FORMATS.md: the fields before a fault, and no byte outside of the
-room is written.
+samples.py. Then each row's payload is truncated at each byte, each byte is changed, and one is added, and the answer is
+compared with that of readers here and in faults.py, by the tables of docs/FORMATS.md: the fault, and the fields before
+it. No byte outside of the room is written.
 """
 
 import ctypes
 import pathlib
 import sys
 
+import faults
 from invented import DIGITS, NUMBER
 from samples import OPERATIONS
 
@@ -24,6 +25,7 @@ EVENT = formats.items(RECORDS["WatcherEvent"])
 STAT = formats.items(RECORDS["Stat"])
 ASKS = {row.number: formats.items(row.request) for row in formats.table("Op")}
 BODIES = {row.number: formats.items(row.reply) for row in formats.table("Op")}
+RELEASES = {row.number: int(row.release.replace(".", "")) for row in formats.table("Op")}
 PARTS = {row.number: formats.items(row.request) for row in formats.table("PartOp")}
 RESULTS = {**{row.number: formats.items(row.reply) for row in formats.table("PartOp")}, -1: [("err", "int")]}
 
@@ -348,13 +350,24 @@ def compare_table(caller, statuses, kinds):
             yield digits, good, f"zk_read_{call} {digits}, a room of {size}"
 
 
+def fault_of(payload, call):
+    """The name and the place of a payload's fault; None of a multi, and where the call alone says more."""
+    kind, *asked = call.split()
+    first = int(asked[0]) if asked else 0
+    operation = faults.number_at(payload, 4) if kind == "request" else first
+    of = items_of(kind, operation)[1]
+    if kind == "reply" and (len(asked) > 1 or operation not in BODIES) or of[:1] and of[0][1] in ("parts", "results"):
+        return None
+    return faults.first_fault(payload, kind, [each for each, release in RELEASES.items() if release <= first], of)
+
+
 def compare_damaged(caller, numbers):
-    """Whether each row's payload, truncated or with a byte changed, has the fields before its fault. Where that is in a
+    """Whether each row's payload, damaged, has the fault that it should, and the fields before it. Where that is in a
     field, the reader finds it, too; else it may be before fields that are well."""
     elsewhere = {numbers[name] for name in ("MISFIT", "XID_OP", "UNKNOWN_OP", "BAD_PART")}
     for call, digits, _, _ in TABLE:
         payload, kind = bytes.fromhex(digits), call.split()[0]
-        damaged = [payload[:length] for length in range(len(payload))]
+        damaged = [*(payload[:length] for length in range(len(payload))), payload + b"\0", payload + b"\2"]
         for place in range(len(payload)):
             for byte in (payload[place] ^ 1, payload[place] ^ 128, 255):
                 damaged.append(payload[:place] + bytes([byte]) + payload[place + 1:])
@@ -365,9 +378,11 @@ def compare_damaged(caller, numbers):
             if kind == "request":
                 operation = int.from_bytes(payload[4:8], "big", signed=True)
             fields = wanted(payload, place, kind, operation, caller.names)
-            good = (answer.count, found) == (len(fields), fields)
+            fault = fault_of(payload, call)
+            good = (answer.count, found) == (len(fields), fields) and (
+                fault is None or (answer.status, answer.place) == (numbers[fault[0]], fault[1]))
             answered = f"{answer.status} at {answer.place}, {found}"
-            yield digits, good, f"zk_read_{call} {payload.hex()}: {answered}, not {fields}"
+            yield digits, good, f"zk_read_{call} {payload.hex()}: {answered}, not {fault}, {fields}"
 
 
 def compare(talk, library, names, numbers):
