@@ -148,8 +148,8 @@ def ending_so_far(came, lanes):
 
 
 def compare_recording(caller, content, cut, count, ending):
-    """What is returned of each message of a recording, of which there are `count`, whose pieces are cut to at most `cut`
-    bytes, and of how it ends."""
+    """What is returned of each message of a recording, of which there are `count`, and of how it ends, where its pieces
+    are cut to at most `cut` bytes."""
     came, lanes, waiting, library = [bytearray(), bytearray()], Lanes(), Waiting(), caller.library
     with caller.talk.Talk(library, profile=PROFILE) as talk, caller.talk.Talk(library, profile=PROFILE) as passing:
         for side, piece in caller.talk.pieces(content):
@@ -183,8 +183,8 @@ def compare_recording(caller, content, cut, count, ending):
 
 
 def compare_passage(caller, content, is_whole):
-    """Which of the client's frames each reply of a passage answers, and the numbers of what is left out, and what should
-    be. A whole one isn't refused."""
+    """Which of the client's frames each reply of a passage answers, the numbers of what is left out, and what should be.
+    A whole one isn't refused."""
     handle, library, asked = caller.talk.Handle(), caller.library, {}
     came, lanes = [bytearray(), bytearray()], Lanes()
     yield library.zk_through_new(handle, 1 << 22, 1 << 22, 1 << 16, 34), 0
