@@ -3,7 +3,7 @@
 tests/library.py calls it. The rows of the table were derived from docs/FORMATS.md and docs/EXAMPLES.md, by hand or by
 samples.py. Then each row's payload is truncated at each byte, each byte is changed, and one is added, and the answer is
 compared with that of readers here and in faults.py, by the tables of docs/FORMATS.md: the fault, and the fields before
-it. No byte outside of the room is written.
+it. zk_judge_ finds the same fault, and no byte outside of the room is written.
 """
 
 import ctypes
@@ -303,15 +303,19 @@ class Caller:
             raise AssertionError("a field after the room was written")
         return [field for field in found if field != self.GUARD]
 
-    def read(self, call, payload, size):
+    def ask(self, what, call, payload, *more):
+        """The answer of zk_read_ or zk_judge_ to a call of the table."""
         kind, *numbers = call.split()
-        numbers, room = list(map(int, numbers)), self.room(size)
+        numbers = list(map(int, numbers))
         before = numbers if kind == "request" else []
         if kind == "reply":
             parts = numbers[1:]
             before = [numbers[0], (ctypes.c_int32 * (len(parts) + 1))(*parts), len(parts)]
-        answer = getattr(self.library, f"zk_read_{kind}")(*before, payload, len(payload), room, size)
-        return answer, self.fields(room, size)
+        return getattr(self.library, f"zk_{what}_{kind}")(*before, payload, len(payload), *more)
+
+    def read(self, call, payload, size):
+        room = self.room(size)
+        return self.ask("read", call, payload, room, size), self.fields(room, size)
 
 
 def told(answer, statuses, kinds):
@@ -378,10 +382,12 @@ def compare_damaged(caller, numbers):
             if kind == "request":
                 operation = int.from_bytes(payload[4:8], "big", signed=True)
             fields = wanted(payload, place, kind, operation, caller.names)
-            fault = fault_of(payload, call)
-            good = (answer.count, found) == (len(fields), fields) and (
-                fault is None or (answer.status, answer.place) == (numbers[fault[0]], fault[1]))
-            answered = f"{answer.status} at {answer.place}, {found}"
+            fault, judged = fault_of(payload, call), caller.ask("judge", call, payload)
+            given = answer.status, answer.place
+            same = (numbers["RANGE"], 0) if kind == "reply" and operation not in BODIES else given
+            good = (answer.count, found, judged.status, judged.place) == (len(fields), fields, *same) and (
+                fault is None or given == (numbers[fault[0]], fault[1]))
+            answered = f"{given}, judged {judged.status} at {judged.place}, {found}"
             yield digits, good, f"zk_read_{call} {payload.hex()}: {answered}, not {fault}, {fields}"
 
 
