@@ -64,9 +64,42 @@ class Caller:
     names = {"none": 0, **{name.lower(): number for name, number in source.field_names().items()}}
     def read(self, call, payload, size):
         return types.SimpleNamespace(kind=0, status=1, place=0, count=0), []
-results = [good for _, good, _ in fields.compare_damaged(Caller(), source.statuses())]
-print(results.count(False) > results.count(True) > 0)"""
-        self.assertEqual(self.run_inside(script), (0, "True\n"))
+    def ask(self, what, call, payload):
+        return types.SimpleNamespace(status=1, place=0)
+class Right(Caller):
+    def read(self, call, payload, size):
+        kind, first = (call.split() + ["0"])[:2]
+        operation = int.from_bytes(payload[4:8], "big", signed=True) if kind == "request" else int(first)
+        found = fields.wanted(payload, len(payload), kind, operation, self.names)
+        return types.SimpleNamespace(kind=0, status=1, place=0, count=len(found)), found
+for caller in (Caller(), Right()):  # one without fields, and one with the right ones and the wrong faults
+    results = [good for _, good, _ in fields.compare_damaged(caller, source.statuses())]
+    print(results.count(False) > results.count(True) > 0)"""
+        self.assertEqual(self.run_inside(script), (0, "True\nTrue\n"))
+
+    def test_endings_by_their_numbers(self):
+        script = """import collections, sys, types
+sys.path.append("../examples")
+import messages, talk
+fault = talk.Fault(frame=1, offset=61, side=1, place=0, reason=14, expected=1, got=2)
+for ending in (talk.Ending(kind=1, unanswered=3), talk.Ending(kind=2, side=1, frame=4, got=5),
+               talk.Ending(kind=3, fault=fault)):
+    print(messages.line_of_ending(ending))
+lanes = messages.Lanes()
+for came, frames in (((b"", b""), [0, 0]), ((b"a", b"bc"), [2, 1]), ((b"", b"bc"), [2, 1]), ((b"", b""), [1, 0])):
+    lanes.frames = frames
+    print(messages.ending_so_far(came, lanes))
+lanes.frames, lanes.lanes[-2] = [2, 1], collections.deque([1, 2])
+print(messages.ending_so_far((b"", b""), lanes))"""
+        self.assertEqual(self.run_inside(script), (0, """. whole unanswered=3
+. cut side=S frame=4 got=5
+. refused side=S frame=1 offset=61 place=0 reason=XidOrder expected=1 got=2
+. whole unanswered=0
+. cut side=C frame=2 got=1
+. cut side=S frame=1 got=2
+. whole unanswered=1
+. whole unanswered=2
+"""))
 
     def test_a_library_that_refuses_the_first_byte(self):
         script = """import pathlib, sys
