@@ -102,10 +102,11 @@ def shown(text):
 
 def compared(path):
     """Whether each thing that a page shows is a case's, and what to print otherwise."""
+    where = path.relative_to(TOP) if TOP in path.parents else path.name
     for at, names, code in shown(path.read_text()):
         found = {has(name, code) for name in names} - {None}
         if found:
-            yield True in found, f"{path.name}:{at}: {' and '.join(names)}: no {code}"
+            yield True in found, f"{where}:{at}: {' and '.join(names)}: no {code}"
 
 
 def main():
