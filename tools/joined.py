@@ -83,6 +83,11 @@ def parts_of(made):
     return parts
 
 
+def errors_of(made):
+    """The errors of a multi's results, None for none."""
+    return list(map(error_of, parts_of(made)))
+
+
 class Joined(listing.Conversations):
     """The lines of zkjson, message by message, with the interface of a Listing; `name` is the connection of objects
     that name none.
@@ -133,6 +138,10 @@ class Joined(listing.Conversations):
             return [made.path]
         return [path_of(part, "path") for part in parts_of(object_of(line))]
 
+    def results(self, line):
+        """The errors of the results in the line of a multi's reply, each its name or its number, or None."""
+        return errors_of(object_of(line))
+
     def zxid(self, line):
         """The zxid of a reply's line; None if it has none."""
         found = object_of(line).get("zxid")
@@ -158,7 +167,7 @@ class Known:
             raise ValueError("zkjson doesn't write this value of 'side'")
         error = error_of(made) if op != listing.EVENT else error_of(made, "kind")
         if op == "multi" and side == "S" and not error:
-            error = listing.error_of_parts([each for each in map(error_of, parts_of(made)) if each])
+            error = listing.error_of_parts([each for each in errors_of(made) if each])
         at, ms = value(made, "at", (int, float), None), value(made, "ms", (int, float), None)
         if not all(number is None or number >= 0 and math.isfinite(number) for number in (at, ms)):
             raise ValueError("zkjson doesn't write this value of 'at' or of 'ms'")
@@ -223,8 +232,7 @@ class Known:
 
 def path_of(made, name):
     """A path as a line has it; None if there is none."""
-    found = value(made, name, (str,), None)
-    return None if found is None else listing.spelled(found)
+    return listing.spelled(value(made, name, (str, type(None)))) if name in made else None
 
 
 def session_of(made):

@@ -33,6 +33,7 @@ BEGINNING = re.compile(rf"{HEAD}(?: path=({TEXT})(?= |$)| zxid={NUMBER} (?:err|k
                        r"(?= (?!path=|zxid=\S* (?:err|kind)=)|$))", re.ASCII)
 ONLY_HEAD = re.compile(HEAD, re.ASCII)
 FAILED_PART = re.compile(rf"[{{;]fail err=({NUMBER}){NAME}", re.ASCII)
+RESULT = re.compile(rf"[{{;](?=[A-Za-z])(?:fail err=({NUMBER}){NAME})?", re.ASCII)
 QUOTED = re.compile('"[^"]*"')
 NO_ESCAPE = re.compile(r"\\(?![0-9a-f]{2})", re.ASCII)
 PATHS = re.compile(rf' path=({TEXT})|"[^"]*"', re.ASCII)
@@ -143,6 +144,13 @@ def hexadecimal(number):
 def error_of_parts(names):
     """The error of a multi, of the names of its parts' errors: that of the part that failed itself."""
     return next((name for name in names if name not in NOT_DONE), names[-1] if names else None)
+
+
+def failed_parts(errors):
+    """The numbers of a multi's parts that failed themselves, from 0, of the errors of all its results, None for none;
+    where none did, that of the last one with an error."""
+    found = [number for number, error in enumerate(errors) if error]
+    return [number for number in found if errors[number] not in NOT_DONE] or found[-1:]
 
 
 def unescaped(spelled):
@@ -330,6 +338,10 @@ class Listing(Conversations):
         if made.op == EVENT:
             return EVENT_PATH.findall(line, made.end)
         return [path for path in PATHS.findall(line) if path] if made.op == "multi" else [made.path]
+
+    def results(self, line):
+        """The errors of the results in the line of a multi's reply, each its name or its number, or None."""
+        return [name or number or None for number, name in RESULT.findall(QUOTED.sub("", line))]
 
     def zxid(self, line):
         """The zxid of a reply's line as ZooKeeper's logs print it; None if it has none."""

@@ -231,7 +231,7 @@ class Reading:
         if made.made_up:
             return
         if asked:
-            self.reply(made, asked)
+            self.reply(talk, line, made, asked)
         elif made.op == listing.EVENT:
             self.event(line, made)
         else:
@@ -255,8 +255,9 @@ class Reading:
             self.name_path(path, made)
 
     def name_parts(self, spelled, made):
-        """Counts the paths of a multi's parts."""
-        for path in map(paths.path_of, spelled):
+        """Counts the paths of a multi's parts, which stay with it."""
+        made.part_paths = list(map(paths.path_of, spelled))
+        for path in made.part_paths:
             if path is not None:
                 self.name_path(path, made)
 
@@ -278,7 +279,7 @@ class Reading:
             entry[3] = made.n
         return entry
 
-    def reply(self, made, asked):
+    def reply(self, talk, line, made, asked):
         run, connection, error, microseconds = self.run, self.connection, made.error, made.microseconds
         if not hasattr(asked, "seen"):      # the request itself isn't there, or not chosen
             self.name(asked)
@@ -299,17 +300,26 @@ class Reading:
         if ms is not None and asked.moment is not None:
             run.density.add(connection.number, asked.moment, ms, 1 if error else 0)
         if asked.path is not None:
-            self.judge_path(asked, ms, error)
+            self.judge_path(asked.path, asked, ms, error is not None)
+        elif made.op == "multi":
+            self.judge_parts(talk.results(line), asked, ms, error is not None)
         # A node that isn't there can be watched by exists alone.
         if getattr(asked, "is_watching", False) and (error is None or made.op == "exists" and error == "NONODE"):
             self.watch(asked.path, asked)[0] += 1
         if self.tracing:
             self.tracing.request(connection, asked, made)
 
-    def judge_path(self, asked, ms, error):
-        entry = self.run.paths.entries.get(asked.path)
+    def judge_parts(self, errors, asked, ms, has_failed):
+        """Counts what became of the paths of a multi's parts; where it has no results, all failed."""
+        failed = listing.failed_parts(errors) if errors else range(len(asked.part_paths)) if has_failed else ()
+        for number, path in enumerate(asked.part_paths):
+            if path is not None:
+                self.judge_path(path, asked, ms, number in failed)
+
+    def judge_path(self, path, asked, ms, has_failed):
+        entry = self.run.paths.entries.get(path)
         if entry:
-            entry[1] += error is not None
+            entry[1] += has_failed
             if ms is not None and ms > entry[2]:
                 entry[2:] = ms, self.connection.number, asked.n
 

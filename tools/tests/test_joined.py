@@ -50,6 +50,18 @@ class Joined(ToolCase):
                 self.assertEqual("1 replies have a time before" in self.said("zkreport.py", "--text", lines=lines),
                                  backwards > 0)
 
+    def test_a_path_that_is_null(self):
+        """It is shown as in a listing, which has another spelling for no path."""
+        asked = {"n": 3, "side": "C", "xid": 1, "op": "sync", "path": None, "at": 5}
+        answered = {"n": 4, "side": "S", "xid": 1, "op": "sync", "zxid": "0x5", "path": None, "at": 7, "ms": 2.0, "of": 3}
+        for lines in ([asked, {**answered, "asked": None}], [{**answered, "asked": None}]):
+            found = json.loads(self.said("zkstat.py", "--json", lines=lines))
+            self.assertEqual([each["path"] for each in found["slowest"]], ["~"])
+        found = json.loads(self.said("zkstat.py", "--json", lines=[answered]))
+        self.assertEqual([each["path"] for each in found["slowest"]], [None])
+        found = json.loads(self.said("zkstat.py", "--json", lines=[asked, {**asked, "n": 4, "path": "~"}]))
+        self.assertEqual([each["path"] for each in found["unanswered"]], ["~", '"~"'])
+
     def test_comparison_of_replies_without_their_requests(self):
         """As zkjson --slower leaves them."""
         paths = []

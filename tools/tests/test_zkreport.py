@@ -54,7 +54,7 @@ Busiest paths
 requests  failed  max ms  path
        5       2     100  "/a"
        1       0       -  "/b/\1b[2J"
-       1       0       -  "/b"
+       1       1       1  "/b"
 
 Watches
 set  set again  fired  events         connection  path

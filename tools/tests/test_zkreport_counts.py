@@ -140,6 +140,24 @@ class Counts(ToolCase):
         row, = self.table(self.report(path), "Connections")
         self.assertEqual(" ".join(row.split()), "#1 - a - - - 0 0 0 0 server: ETIMEDOUT whole")
 
+    def test_paths_of_the_parts_of_a_multi(self):
+        """Each counts as a request that took as long as the multi, and has failed if that part failed itself; where
+        none did, the last one with an error has, and where the server refused the multi all have."""
+        parts = [{"op": "delete", "path": f"/{name}", "version": -1} for name in "abcd"]
+        ok, rest, none, bad = (
+            {"op": "fail", "err": code, "errName": name}
+            for code, name in ((0, "OK"), (-2, "RUNTIMEINCONSISTENCY"), (-101, "NONODE"), (-103, "BADVERSION")))
+        done, lines = {"op": "delete"}, report_lines.Lines()
+        for n, results in enumerate(([done] * 4, [ok, none, rest, rest], [none, done, bad, rest], [ok, ok, rest, rest],
+                                     [done, ok, ok, done], None, []), 1):
+            lines.ask(100 * n, "multi", n, parts=parts)
+            if results != []:
+                lines.answer(101 * n, n, zxid="0x5", **({"parts": results} if results else
+                                                        {"err": -4, "errName": "CONNECTIONLOSS"}))
+        path = lines.write(self.folder / "a.json", ending="whole", unanswered=1)
+        self.assertEqual([line.split() for line in self.table(self.report(path), "Busiest paths")],
+                         [["7", failed, "6", f'"/{name}"'] for failed, name in zip("2232", "abcd")])
+
     def test_a_page_of_a_run_that_lacks_a_message(self):
         """The first difference leads to no message of this run: the other one alone has a request, or a connection."""
         asked = 'C 1 sync path="/a"', 'S 1 sync zxid=5 path="/a"'
