@@ -131,18 +131,25 @@ class Selection:
                 made.parts = talk.paths(line, made)     # for its reply, which comes alone
 
     def of_sessions(self, found):
-        """Holds messages back until the session of their connection is known."""
+        """Holds messages back until the session of their connection is known, or the connection has ended."""
         held = {}
         for each in found:
             connection = each[1].connection
             if not connection.known:
+                if connection not in held:
+                    yield from self.released(held, [one for one in held if one.ending])
                 held.setdefault(connection, []).append(each)
                 continue
-            early = held.pop(connection, ())
+            if connection in held:
+                yield from self.released(held, [connection])
             if connection.session in self.sessions:
-                yield from early
                 yield each
-        for connection, early in held.items():
+        yield from self.released(held, list(held))
+
+    def released(self, held, connections):
+        """The chosen ones of the messages that are held back of these connections."""
+        for connection in connections:
+            early = held.pop(connection)
             if connection.session in self.sessions:
                 yield from early
 

@@ -36,6 +36,20 @@ class Joined(ToolCase):
         self.assertIn("1 connections, 1 sessions, 3 messages, 2 requests, 1 failed, 1 unanswered, 0 events\n", found)
         self.assertIn('        5  exists     "/b"\n', found)
 
+    def test_connections_of_a_session_are_in_order(self):
+        """Also where the first has no connect response, so that its session is not known before its ending."""
+        asked = {"n": 1, "side": "C", "op": "connect", "version": 0, "zxid": "0x0", "timeout": 9, "session": "0x7",
+                 "passwd": None, "ro": None}
+        given = {"n": 2, "side": "S", "op": "connect", "version": 0, "timeout": 9, "session": "0x7", "passwd": None,
+                 "ro": None, "of": 1}
+        lines = [{"connection": name, **each} for name, more in (("b", []), ("a", [given]), ("c", []), ("d", [given]))
+                 for each in (asked, *more, {"ending": "whole", "unanswered": 1 - len(more)})]
+        found = self.said("zkreport.py", "--text", "--session", "0x7", lines=lines)
+        rows = found.partition("\nConnections\n")[2].split("\n\n")[0].splitlines()[1:]
+        self.assertEqual([row.split()[:3] for row in rows],
+                         [[f"#{number}", "0x7", name] for number, name in enumerate("bacd", 1)])
+        self.assertEqual(found, self.said("zkreport.py", "--text", lines=lines))
+
     def test_replies_with_a_time_before_their_request(self):
         """A reply has no ms where its time is before that of its request, or where one of them has no time."""
         request, reply, other = MESSAGES
