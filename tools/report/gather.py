@@ -12,7 +12,7 @@ from report import kept, paths, sources
 WATCHING = {operation.name for operation in operations.ALL if "watch:bit" in operation.request.split()}
 WATCH_LISTS = ("dataWatches", "existWatches", "childWatches")
 CLOSE = "closeSession"
-HEARD = {listing.CONNECT, CLOSE}
+HEARD = {listing.CONNECT, CLOSE}         # the operations that a Heard takes
 NO_CONNECTION = '{"connection": 0'
 MOST_WATCHES = 20_000
 MOST_SILENT = 200       # connections without a message that are kept
@@ -71,7 +71,11 @@ class Watch(list):
 
 
 class Heard:
-    """What the connect messages of a connection say, and whether the client closed the session, whatever is chosen."""
+    """What the connect messages of a connection say, and whether the client closed the session, whatever is chosen.
+
+    `asked_session` is the session that the client asked for, "0x0" for a new one; `session` and `timeout` are those that
+    the server gave, where "0x0" is a session that it no longer knew. Each is None where its message isn't there, or was
+    made up by pcap2zkr. `is_closed` says that the client asked to close the session."""
 
     asked_session = session = timeout = None
     is_closed = False
@@ -123,11 +127,12 @@ class Connection:
         return known and known.session
 
     def span(self):
-        """When it begins and ends, by its capture or else by its messages, whether or not they are chosen."""
-        about, known = self.about, self.known
-        begun = known and known.begun if about.begun is None else about.begun
-        ended = known and known.ended if about.ended is None else about.ended
-        return begun, begun if None in (begun, ended) else max(begun, ended)
+        """When it begins and ends: the least and the greatest of the times of its capture, if any, and of its messages,
+        whether or not they are chosen. Without a beginning there is only an end."""
+        both = [each for each in (self.about, self.known) if each]
+        begun = min((each.begun for each in both if each.begun is not None), default=None)
+        ended = max((each.ended for each in both if each.ended is not None), default=begun)
+        return begun, ended if begun is None else max(begun, ended)
 
     def is_refused(self):
         """Whether the server no longer knew the session."""

@@ -124,11 +124,17 @@ class Counts(ToolCase):
         if not PROGRAM.exists():
             self.skipTest("the program zkdump is not built")
         begun, ended = "1970-01-01T00:00:01.000Z", "1970-01-01T00:00:05.000Z"
-        lines = self.listing("a.json", *self.run_inside("zkjson.py", path)[1].splitlines())
-        for each in (path, lines):
-            found, = json.loads(self.run_inside("zkstat.py", "--json", each)[1])["connections"]
-            self.assertEqual((found["begun"], found["ended"]), (begun, ended), each)
-            self.assertIn(f"\nfrom {begun} to {ended}\n", self.report(each))
+        for known in (None, facts.Facts(begun=1900.0, ended=1600.0), facts.Facts(begun=1500.0), facts.Facts(ended=3.0)):
+            if known:
+                facts.write(path, known)
+            lines = self.listing("a.json", *self.run_inside("zkjson.py", path)[1].splitlines())
+            for each in (path, lines):
+                found, = json.loads(self.run_inside("zkstat.py", "--json", each)[1])["connections"]
+                self.assertEqual((found["begun"], found["ended"]), (begun, ended), each)
+                found = self.report(each)
+                self.assertIn(f"\nfrom {begun} to {ended}\n", found, known)
+                self.assertIn(f"  {begun}     4 s  ", self.table(found, "Connections")[0])
+            (self.folder / "a.facts.json").unlink(missing_ok=True)
 
     def test_facts_that_know_the_end_alone(self):
         """The time of the end, and that an error on the server's side was it."""
