@@ -62,8 +62,8 @@ class Reader:
     def compare(self, found, inputs):
         """Compares the run with that of the other files; what is missing of these is reported with the run."""
         other = self.read(inputs)
-        found.run.warnings += [*other.run.warnings, *(f"{each.name}: bytes of it are missing"
-                                                      for each in other.with_holes())]
+        found.run.warnings += [*other.run.warnings, *(f"{name}: bytes of it are missing"
+                                                      for name in other.run.with_holes)]
         comparison = against.Comparison(found.run.connections, other.run.connections, self.opener, self.chosen)
         return against.tables(found, other, comparison)
 
@@ -158,7 +158,7 @@ def read_all(parser, words):
 def is_incomplete(found):
     """Whether something is missing of what was to be read; reports messages without times, where these choose."""
     selection.complain(found.run.untimed)
-    return found.run.warnings or found.with_holes() or found.run.untimed
+    return found.run.warnings or found.run.with_holes or found.run.untimed
 
 
 def main():

@@ -147,10 +147,12 @@ class Connection:
 
 class Run:
     """What is found of all connections of a report. `whole` counts connections, whatever their parts, and `silent`
-    those without a message; of these only the first are kept."""
+    those without a message; of these only the first are kept. `with_holes` names the connections of which bytes are
+    missing, also where nothing of them is chosen."""
 
     def __init__(self):
         self.connections, self.by_source, self.warnings, self.whole, self.silent = [], {}, [], 0, 0
+        self.with_holes = []
         self.untimed = 0        # the connections with messages that choices by time left out
         self.kept, self.density = kept.Kept(), kept.Density()
         self.parts = {}         # of the lines of zkjson, as Source.take_facts has them
@@ -167,10 +169,12 @@ class Run:
                     heard[made.connection].take(line, made)
                 yield line, made, asked
 
+        def name_of(known):
+            return source.name if known.name == source.path else known.name
+
         def reading(known):
             if known not in readings:
-                name = source.name if known.name == source.path else known.name
-                readings[known] = Reading(self, self.connection(source, name), tracing)
+                readings[known] = Reading(self, self.connection(source, name_of(known)), tracing)
                 readings[known].connection.known, readings[known].connection.heard = known, heard[known]
             return readings[known]
         with opener.conversation(source) as talk:
@@ -182,6 +186,8 @@ class Run:
             for made in chosen.left(talk):
                 reading(made.connection).left(made)
             silent = [known for known in talk.connections() if known not in readings] if chosen.all else []
+            holed = [name_of(known) for known in talk.connections() if known.has_hole()]
+        self.with_holes += holed or [source.name] * source.has_hole()
         self.untimed += chosen.take_untimed()
         if chosen.all and not readings:
             silent = silent or [None]

@@ -18,6 +18,7 @@ class Merged:
         numbers = self.add_connections(other)
         run = self.run
         run.warnings += other.warnings
+        run.with_holes += other.with_holes
         run.untimed += other.untimed
         add_kept(run.kept, other.kept, numbers)
         for path, entry in other.paths.entries.items():

@@ -39,6 +39,10 @@ class Source:
         for word, equals, value in (each.partition("=") for each in words):
             self.notes[word] = ",".join(filter(None, (self.notes.get(word), value))) if equals else None
 
+    def has_hole(self):
+        """Whether bytes of the connection are known to be missing."""
+        return not {"hole", "lost"}.isdisjoint(self.notes)
+
     def take_facts(self, known, parts):
         """Takes the facts of the recording, or None. `parts` has the first part of each connection that has several,
         and which parts there are."""

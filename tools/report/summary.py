@@ -276,11 +276,6 @@ class Summary:
         return {name: found.short for name, found in (("paths", self.run.paths), ("watches", self.run.watches))
                 if found.short}
 
-    def with_holes(self):
-        """The connections of which bytes are missing."""
-        return [each for each in self.run.connections if {"hole", "lost"} & set(each.about.notes)
-                or each.known and each.known.has_hole()]
-
     def links(self):
         """The connection and the message that each row leads to, without repetition."""
         return dict.fromkeys((row[-2], row[-1]) for rows in self.tables.values() for row in rows

@@ -74,6 +74,21 @@ class Counts(ToolCase):
         self.assertEqual((session.split()[2], session.split()[8:10]), ("2", ["0.039", "s"]))
         self.assertEqual(self.report("--jobs", 2, path, status=1), found)
 
+    def test_missing_bytes_whatever_is_chosen(self):
+        """What is chosen may be among them, so the status is 1 where nothing of the connection is in the report, too."""
+        lines = report_lines.Lines()
+        lines.connect(0, 1)
+        whole = lines.write(self.folder / "whole.json", ending="whole", unanswered=0)
+        holed = lines.write(self.folder / "holed.json", ending="whole", unanswered=0, facts={"hole": ["S"]})
+        for choice in ((), ("--path", "/a"), ("--op", "sync"), ("--session", "0x9"), ("--slower", "99"),
+                       ("--from", "2024-01-01"), ("--jobs", "1", "--path", "/a")):
+            with self.subTest(choice=choice):
+                self.report(*choice, whole)
+                self.report(*choice, holed, status=1)
+                self.assertEqual(self.run_inside("zkstat.py", *choice, holed)[0], 1)
+        found = self.report("--op", "sync", whole, "--against", holed, status=1)
+        self.assertIn("\nnot read: holed.json: bytes of it are missing\n", found)
+
     def test_facts_of_a_connection_without_a_message(self):
         """Its ending alone, in the lines of zkjson, says when it was and who ended it."""
         known = {"server": "10.0.0.2:2181", "begun": report_lines.T, "ended": report_lines.T + 20, "closed": "S"}
