@@ -138,12 +138,6 @@ class Connection:
         """Whether the server no longer knew the session."""
         return self.heard.session == "0x0"
 
-    def take_facts(self, parts):
-        """Takes the facts that its ending has."""
-        if self.known.facts:
-            self.about = sources.Source(self.source.path, self.source.name)
-            self.about.take_facts(self.known.facts, parts)
-
 
 class Run:
     """What is found of all connections of a report. `whole` counts connections, whatever their parts, and `silent`
@@ -155,7 +149,7 @@ class Run:
         self.with_holes = []
         self.untimed = 0        # the connections with messages that choices by time left out
         self.kept, self.density = kept.Kept(), kept.Density()
-        self.parts = {}         # of the lines of zkjson, as Source.take_facts has them
+        self.parts, self.abouts = {}, []    # of the lines of zkjson: as Source.take_facts has them, and of whom
         self.paths = kept.Counted(Path)
         self.watches = kept.Counted(Watch, MOST_WATCHES)
 
@@ -185,8 +179,9 @@ class Run:
                 current.take(talk, line, made, asked)
             for made in chosen.left(talk):
                 reading(made.connection).left(made)
-            silent = [known for known in talk.connections() if known not in readings] if chosen.all else []
-            holed = [name_of(known) for known in talk.connections() if known.has_hole()]
+            every = talk.connections()
+            silent = [known for known in every if known not in readings] if chosen.all else []
+            holed = [name_of(known) for known in every if known.has_hole()]
         self.with_holes += holed or [source.name] * source.has_hole()
         self.untimed += chosen.take_untimed()
         if chosen.all and not readings:
@@ -197,13 +192,23 @@ class Run:
             found.is_silent = True
             if self.silent > MOST_SILENT:
                 self.connections.pop()
-        if source.has_objects and readings:
+        if source.has_objects:
             self.whole = whole
-            for each in readings.values():
-                each.connection.take_facts(self.parts)
-                self.place(each.connection)
+            self.take_facts(source, every, readings)
         for each in readings.values():
             each.end()
+
+    def take_facts(self, source, every, readings):
+        """Takes the facts that the endings of these connections have, also those of which nothing is chosen: they say
+        which parts there are."""
+        for known in every:
+            if known.facts:
+                self.abouts.append(about := sources.Source(source.path, source.name))
+                about.take_facts(known.facts, self.parts)
+                if known in readings:
+                    readings[known].connection.about = about
+        for each in readings.values():
+            self.place(each.connection)
 
     def silent_left_out(self):
         """How many connections without a message are not kept."""

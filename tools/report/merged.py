@@ -13,7 +13,7 @@ class Merged:
 
     def add(self, other, sources):
         """Adds the run of one file, and its sources."""
-        for source in sources:
+        for source in (*sources, *other.abouts):
             source.join(self.parts)
         numbers = self.add_connections(other)
         run = self.run
@@ -34,8 +34,6 @@ class Merged:
         for each in other.connections:
             numbers[each.number] = len(run.connections)
             each.number = len(run.connections)
-            if each.about is not each.source:
-                each.about.join(self.parts)
             run.place(each)
             run.connections.append(each)
             for operation in each.operations.values():

@@ -73,6 +73,11 @@ class Counts(ToolCase):
         session, = self.table(found, "Sessions")
         self.assertEqual((session.split()[2], session.split()[8:10]), ("2", ["0.039", "s"]))
         self.assertEqual(self.report("--jobs", 2, path, status=1), found)
+        # A part is called the same where nothing of the first one is chosen.
+        choice = "--from", "2023-11-14T22:13:20.040Z"
+        found = self.report(*choice, path, status=1)
+        self.assertEqual([line.split()[0] for line in self.table(found, "Connections")], ["#1.2", "#2"])
+        self.assertEqual(self.report("--jobs", 2, *choice, path, status=1), found)
 
     def test_missing_bytes_whatever_is_chosen(self):
         """What is chosen may be among them, so the status is 1 where nothing of the connection is in the report, too."""
