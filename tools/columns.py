@@ -22,7 +22,7 @@ numpy = None        # loaded where something is counted: it takes longer than mo
 
 TOOLS = pathlib.Path(__file__).resolve().parent
 PLACES = (TOOLS / "columns" / "out" / "zkcolumns", TOOLS.parent.parent.parent / "lib" / "zkdump" / "zkcolumns")
-HEAD, PATCH = struct.Struct("=IIIIQQQQdd"), struct.Struct("=QII")
+HEAD, PATCH = struct.Struct("=IIIIQQQQddqq"), struct.Struct("=QII")
 NAMES, MESSAGES, END = range(3)
 NOT_READ = 4                    # the status of a recording whose trouble the plain form reports
 ERROR, XID, PATH, NULL_PATH, CHOSEN, WATCH, MADE_UP = (1 << bit for bit in range(7))
@@ -116,6 +116,11 @@ class Block:
         return b"".join([self.text[begin:end] for begin, end in zip(begins.tolist(), ends.tolist())])
 
 
+def exact(moment, whole):
+    """A time, None for none; where a float isn't exact, of the whole milliseconds."""
+    return None if moment != moment else moment if moment < listing.TOO_COARSE else int(whole)
+
+
 def text_of(value):
     return "".join(forms.pieces_of_text(value, 0, len(value)))
 
@@ -156,7 +161,7 @@ class Columns(listing.Listing):
         """The kind of the next block, and the block; None if the program has written none."""
         head = self.program.stdout.read(HEAD.size)
         if len(head) == HEAD.size:
-            kind, records, patches, known, paths, text, session, backwards, begun, ended = HEAD.unpack(head)
+            kind, records, patches, known, paths, text, session, backwards, *times = HEAD.unpack(head)
             try:
                 block = Block(*(self.exactly(size) for size in
                                 (records * RECORD.size, patches * PATCH.size, paths, text)))
@@ -166,7 +171,7 @@ class Columns(listing.Listing):
                 connection = self.connection
                 connection.known, connection.backwards = bool(known) or self.usual[0], backwards
                 connection.session = listing.hexadecimal(session) if session else self.usual[1]
-                connection.begun, connection.ended = (None if each != each else each for each in (begun, ended))
+                connection.begun, connection.ended = map(exact, times[:2], times[2:])
                 if kind == END:
                     self.close()
                 return kind, block
@@ -215,7 +220,7 @@ class Columns(listing.Listing):
                                str(record.xid) if record.flags & XID else None, self.operations[record.operation],
                                None if record.of else block.path(record), self.error(record))
         if record.moment == record.moment:
-            made.moment = record.moment
+            made.moment = exact(record.moment, block.text[record.text:record.text + record.at_length] or record.moment)
         if record.microseconds == record.microseconds:
             made.microseconds = int(record.microseconds)
         made.chosen, made.made_up = bool(record.flags & CHOSEN), bool(record.flags & MADE_UP)
@@ -243,7 +248,8 @@ class Columns(listing.Listing):
                                        len(name) + (len(xid) + 3 if xid else 2))
                 middle = begin + at_length
                 if moment == moment:
-                    made.moment, made.at = moment, text[begin:middle]
+                    made.at = text[begin:middle]
+                    made.moment = moment if moment < listing.TOO_COARSE else int(made.at)
                     if microseconds == microseconds:
                         made.microseconds = int(microseconds)
                 asked = nothing

@@ -14,6 +14,7 @@ ALL_ONES = listing.hexadecimal(-1)
 MADE_UP = {"C": {"version": -1, "zxid": ALL_ONES, "timeout": -1, "session": ALL_ONES, "passwd": None, "ro": None},
            "S": {"version": -1, "timeout": -1, "session": ALL_ONES, "passwd": None, "ro": None}}
 NEEDED = object()
+WHOLE_AT = re.compile(r'"at":\s*(\d+)\.\d+\s*[,}]', re.ASCII)
 # The fields of an ending, as an ending line has them in order; these two are texts.
 ENDING_FIELDS = ("unanswered", "side", "frame", "offset", "place", "reason", "expected", "got")
 ENDING_TEXTS = ("side", "reason")
@@ -108,7 +109,7 @@ class Joined(listing.Conversations):
                 if "ending" in made:
                     known.end(made)
                     continue
-                message = known.message(made)
+                message = known.message(made, line)
                 asked = known.asked(message, made)
             except ValueError as error:
                 raise listing.NoListing(f"line {n}: {error}") from None
@@ -155,8 +156,8 @@ class Known:
         self.connection, self.last, self.requests = listing.Connection(name), 0, {}
         self.waiting, self.lost = None, ()
 
-    def message(self, made):
-        """The message of an object."""
+    def message(self, made, line):
+        """The message of an object, which a line has."""
         connection, n = self.connection, value(made, "n", (int,))
         if connection.ending or n <= self.last:
             raise ValueError(f"message {n} of connection {json.dumps(connection.name)} comes after its message "
@@ -180,6 +181,8 @@ class Known:
             # Of a part the session comes with the ending, as where the connect messages were left out.
             connection.known &= not message.made_up
         if at is not None:
+            if at >= listing.TOO_COARSE:
+                at = int((WHOLE_AT.search(line) or (0, at))[1])
             message.moment = at
             connection.timed(at)
         message.microseconds = None if ms is None else round(ms * 1000)
@@ -198,7 +201,8 @@ class Known:
             asked = listing.Message(self.connection, of, "C", message.xid, message.op, path_of(made, "asked"), None)
             if message.moment is not None and message.microseconds is not None:
                 # (to the microsecond, as times are)
-                asked.moment = round(message.moment - message.microseconds / 1000, 3)
+                asked.moment = round(message.moment - message.microseconds / 1000, 3) \
+                    if message.moment < listing.TOO_COARSE else message.moment + -message.microseconds // 1000
         elif message.microseconds is None and None not in (message.moment, asked.moment):
             self.connection.backwards += message.moment < asked.moment
         return asked

@@ -22,6 +22,8 @@ NOT_DONE = ("OK", "RUNTIMEINCONSISTENCY")   # the results of a failed multi's pa
 CONNECT, EVENT = "connect", "event"
 ASKED = {CONNECT, *(operation.name for operation in operations.ALL if operation.release)}
 UNREAD = "unread"       # in place of the ending of one of many recordings, which can't be read
+# From these milliseconds on a float has not each microsecond (columns/recording.c), and not each millisecond.
+COARSE, TOO_COARSE = 8 * 10**12, 1 << 53
 
 # Spellings of a line. A number has no more digits than a long has.
 NUMBER = r"(?:0|-?[1-9]\d{0,18})"
@@ -119,11 +121,11 @@ class Message:
 
     `captured` says of a request that waits that its reply, if there was one, is not among bytes that are missing.
     `connection` is the Connection that it belongs to; `made_up` says that pcap2zkr made it up, at the beginning of what
-    follows a loss. `error` is the name of a reply's error, or its number: of a
-    failed multi, that of the part that failed; and of an event, its kind. `at` is the message's time as it is spelled,
-    `moment` the same as a number of milliseconds since 1970, and `microseconds`, or `ms`, how long a reply took, unless
-    its time is before that of its request. `end` is the place after the operation in the line; `parts` is for the
-    readers of the rest of it, and `chosen` for selection.py.
+    follows a loss. `error` is the name of a reply's error, or its number: of a failed multi, that of the part that
+    failed; and of an event, its kind. `at` is the message's time as it is spelled, `moment` the same as a number of
+    milliseconds since 1970, from TOO_COARSE on of whole ones, and `microseconds`, or `ms`, how long a reply took,
+    unless its time is before that of its request. `end` is the place after the operation in the line; `parts` is for
+    the readers of the rest of it, and `chosen` for selection.py.
     """
 
     at = moment = microseconds = chosen = None
@@ -139,6 +141,12 @@ class Message:
 def hexadecimal(number):
     """A session or a zxid as ZooKeeper's logs print it."""
     return f"0x{number & 0xffff_ffff_ffff_ffff:x}"
+
+
+def billionths(at):
+    """A time as it is spelled, in billionths of a millisecond."""
+    whole, _, part = str(at).partition(".")
+    return int(whole + part.ljust(9, "0"))
 
 
 def error_of_parts(names):
@@ -273,7 +281,10 @@ class Listing(Conversations):
                     self.times.refuse(n, of_side, lines)
                 if at is not None:
                     made.at = at
-                    made.moment = moment = float(at)
+                    moment = float(at)
+                    if moment >= TOO_COARSE:
+                        moment = billionths(at) // 10**9
+                    made.moment = moment
                     if moment > ended:
                         connection.ended = ended = moment
                     if moment < begun:
@@ -302,7 +313,10 @@ class Listing(Conversations):
             raise NoListing(f"line {made.n}: the request of this reply is missing before it: name the whole listing")
         asked = lane.popleft()
         if made.moment is not None and asked.moment is not None:
-            microseconds = round((made.moment - asked.moment) * 1000)
+            took = made.moment - asked.moment
+            if made.moment >= COARSE:
+                took = (billionths(made.at) - billionths(asked.at)) / 10**9
+            microseconds = round(took * 1000)
             if microseconds < 0:
                 self.connection.backwards += 1
             else:

@@ -13,6 +13,8 @@
 /* Statuses beside 0: what Python alone reports, before anything was written, and what the system refuses. */
 enum { STATUS_WORDS = 2, STATUS_SYSTEM = 3, STATUS_NOT_READ = 4 };
 enum { LARGEST_PIECE = 16777220, LONGEST_TIME = 32, BLOCK = 1 << 16, MULTI = 14 };
+/* From these milliseconds on a double has not each of them. */
+#define TOO_COARSE 9007199254740992.0
 
 /* Ends the program with a line on standard error. */
 _Noreturn void stop(int status, const char *what);
@@ -39,8 +41,8 @@ struct source {
 };
 
 /* A recording that is being read, and what is known of its present piece: its side, its size, how many of its bytes are
- * still to come, and its time, which is NAN if there is none, with its spelling. `damage` is the reason of a damage, at
- * `offset`. */
+ * still to come, and its time, which is NAN if there is none, with its spelling, and in `time` as the head of a piece
+ * has it. `damage` is the reason of a damage, at `offset`. */
 struct recording {
     struct source bytes, times;
     bool is_zkr2, has_times;
@@ -48,12 +50,13 @@ struct recording {
     uint64_t offset;
     size_t size, left;
     double moment;
+    int64_t time;
     char spelled[LONGEST_TIME];
     const char *damage;
 };
 
 /* Opens a recording and the file of its times, if there is one. STATUS_NOT_READ if the head is damaged, or the times
- * aren't one for each piece. */
+ * aren't one for each piece, or so late that a double has not each microsecond. */
 void open_recording(struct recording *recording, const char *path, const char *times);
 
 /* Goes to the next piece; false at the end and at a damage. */
@@ -69,6 +72,7 @@ const uint8_t *piece_bytes(struct recording *recording, size_t *length);
 struct asked {
     uint64_t n;
     double moment;
+    int64_t time;
     int32_t xid, operation;
     uint32_t flags, count;
     size_t paths;

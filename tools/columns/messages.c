@@ -125,6 +125,9 @@ static void take_time(struct state *state, struct record *record) {
     if (isnan(record->moment)) return;
     state->head.begun = fmin(state->head.begun, record->moment);
     state->head.ended = fmax(state->head.ended, record->moment);
+    int64_t time = state->recording.time;
+    if (time < state->head.first) state->head.first = time;
+    if (time > state->head.last) state->head.last = time;
 }
 
 /* Takes the request of a reply, and how long that took. */
@@ -133,7 +136,9 @@ static struct asked take_reply(struct state *state, const struct zk_message *vie
     struct asked asked = answer(lane_of(state->lanes, view->kind, view->xid), paths);
     record->of = asked.n;
     record->asked_moment = asked.moment;
-    double microseconds = nearbyint((record->moment - asked.moment) * 1000);
+    double took = record->moment - asked.moment;
+    if (record->moment >= TOO_COARSE && !isnan(asked.moment)) took = (double)(state->recording.time - asked.time);
+    double microseconds = nearbyint(took * 1000);
     if (microseconds < 0) state->head.backwards++;
     else record->microseconds = microseconds;
     put_path(state, record, &asked, *paths);
@@ -154,6 +159,7 @@ static void take_request(struct state *state, const struct zk_message *view, con
                          struct record *record, struct asked asked) {
     bool ordinary = view->kind == ZK_REQUEST;
     asked.moment = record->moment;
+    asked.time = state->recording.time;
     if (ordinary && keep_paths(state, payload, count, view->operation == MULTI, &asked)) asked.flags |= FLAG_CHOSEN;
     put_path(state, record, &asked, state->of_message.at);
     if (ordinary && count == PATH_FIELDS && state->fields[1].name == ZK_NAME_WATCH && state->fields[1].number)
@@ -166,10 +172,10 @@ static void put_message(struct state *state, const struct message *message, stru
     record->text = state->text.end;
     if (state->json != NULL) {
         put_json(&state->text, &state->patches, state->json, message);
-    } else if (state->lines) {
+    } else if (state->lines || record->moment >= TOO_COARSE) {
         put_text(&state->text, message->at);
         record->at_length = (uint32_t)strlen(message->at);
-        put_line(state, message->side, &state->text);
+        if (state->lines) put_line(state, message->side, &state->text);
     }
     record->text_length = (uint32_t)(state->text.end - record->text);
     put(&state->records, record, sizeof *record);

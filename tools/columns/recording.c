@@ -1,7 +1,8 @@
 /* Recordings of both formats, and files of times, as tools/zkr.py reads them (docs/FORMATS.md, section 12). */
 #include "columns.h"
 
-enum { SOURCE_BLOCK = 1 << 18 };
+/* A time from 8 and 12 more digits on is left to tools/listing.py (COARSE there). */
+enum { SOURCE_BLOCK = 1 << 18, COARSE_DIGITS = 13 };
 
 static void open_source(struct source *source, const char *path) {
     source->file = fopen(path, "rb");
@@ -86,6 +87,7 @@ static bool piece_head(struct recording *recording) {
     recording->left = recording->size = length;
     if (recording->is_zkr2 && !recording->has_times) {
         int64_t time = (int64_t)((uint64_t)number_at(at + 1) << 32 | number_at(at + 5));
+        recording->time = time;
         recording->moment = time == 0 ? (double)NAN : (double)time;
         snprintf(recording->spelled, sizeof recording->spelled, "%lld", (long long)time);
     }
@@ -114,6 +116,8 @@ static bool next_time(struct source *times, char *spelled) {
     if (whole == spelled || end != spelled + length || (*whole == '.' && end == whole + 1) ||
         (*spelled == '0' && whole > spelled + 1))
         stop(STATUS_NOT_READ, "a line is not a time");
+    if (whole - spelled > COARSE_DIGITS || (whole - spelled == COARSE_DIGITS && *spelled >= '8'))
+        stop(STATUS_NOT_READ, "a double has not each microsecond of a time");
     if (length < got) length += times->at[length] == '\r' && length + 1 < got && times->at[length + 1] == '\n' ? 2 : 1;
     use(times, length);
     return true;

@@ -17,10 +17,12 @@ enum {
 /* In place of an operation's number. */
 enum { OP_CONNECT = 1000, OP_EVENT = 1001 };
 
+/* Of a block. `first` and `last` are the least and the greatest time where a double isn't exact. */
 struct head {
     uint32_t kind, records, patches, known;
     uint64_t paths, text, session, backwards;
     double begun, ended;
+    int64_t first, last;
 };
 
 /* A message. Of a reply path, path_length, FLAG_CHOSEN, asked_moment and `of` are those of its request. Times are

@@ -73,8 +73,8 @@ class Watch(list):
 class Heard:
     """What the connect messages of a connection say, and whether the client closed the session, whatever is chosen.
 
-    `asked_session` is the session that the client asked for, "0x0" for a new one; `session` and `timeout` are those that
-    the server gave, where "0x0" is a session that it no longer knew. Each is None where its message isn't there, or was
+    `asked_session` is the session that the client asked for, "0x0" for a new one; `session` and `timeout` are what the
+    server gave, where "0x0" is a session that it no longer knew. Each is None where its message isn't there, or was
     made up by pcap2zkr. `is_closed` says that the client asked to close the session."""
 
     asked_session = session = timeout = None

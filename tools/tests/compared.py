@@ -96,6 +96,15 @@ def cut(data, chance):
     return bytes(made), times
 
 
+def late_times(data):
+    """The recording with times of more digits than a float has, around the least of them and up to the greatest."""
+    head, made = zkr.Head("zkr2"), bytearray(zkr.Head("zkr2").to_bytes())
+    for number, piece in enumerate(zkr.Reader(io.BytesIO(data))):
+        made += head.piece(piece.side, (2**53 - 9, 2**53 + 2 * number - 9, 2**63 - 999 + number)[min(2, number // 30)],
+                           piece.data)
+    return bytes(made)
+
+
 def lossy_recordings(folder, paths):
     """Recordings with their facts and times, of captures of these, from which packets are missing."""
     chance = random.Random(3)
@@ -131,8 +140,10 @@ def recordings(zkdump, folder, paths):
     made = folder / "values.zkr"
     made.write_bytes(subprocess.run([zkdump, "build"], input="\n".join(values()).encode(), stdout=subprocess.PIPE,
                                     check=True).stdout)
+    late = folder / "late.zkr"
+    late.write_bytes(late_times(made.read_bytes()))
     lossy = lossy_recordings(folder, [path for path in paths if path.stat().st_size < 30_000][:6])
-    yield from ((path, False) for path in (*paths, made, *lossy))
+    yield from ((path, False) for path in (*paths, made, late, *lossy))
     chance = random.Random(17)
     for number, path in enumerate(chance.choices([path for path in paths if path.stat().st_size < 100_000], k=40)):
         path, (data, times) = folder / f"{number}.zkr", cut(path.read_bytes(), chance)

@@ -85,4 +85,5 @@ class Choices(ToolCase):
         self.assertEqual(reply["parts"], [{"op": "fail", "err": 0, "errName": "OK", "asked": "/a"},
                                           {"op": "fail", "err": -103, "errName": "BADVERSION", "asked": "/b"}])
         _, out, _ = self.run_tool("zkreport.py", "--text", "--slower", "5", path)
-        self.assertIn("".join(f'       1       {failed}      20  "{each}"\n' for failed, each in ((0, "/a"), (1, "/b"))), out)
+        self.assertIn("".join(f'       1       {failed}      20  "{each}"\n'
+                              for failed, each in ((0, "/a"), (1, "/b"))), out)

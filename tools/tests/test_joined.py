@@ -67,7 +67,8 @@ class Joined(ToolCase):
     def test_a_path_that_is_null(self):
         """It is shown as in a listing, which has another spelling for no path."""
         asked = {"n": 3, "side": "C", "xid": 1, "op": "sync", "path": None, "at": 5}
-        answered = {"n": 4, "side": "S", "xid": 1, "op": "sync", "zxid": "0x5", "path": None, "at": 7, "ms": 2.0, "of": 3}
+        answered = {"n": 4, "side": "S", "xid": 1, "op": "sync", "zxid": "0x5", "path": None, "at": 7, "ms": 2.0,
+                    "of": 3}
         for lines in ([asked, {**answered, "asked": None}], [{**answered, "asked": None}]):
             found = json.loads(self.said("zkstat.py", "--json", lines=lines))
             self.assertEqual([each["path"] for each in found["slowest"]], ["~"])

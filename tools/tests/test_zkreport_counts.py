@@ -80,7 +80,7 @@ class Counts(ToolCase):
         self.assertEqual(self.report("--jobs", 2, *choice, path, status=1), found)
 
     def test_missing_bytes_whatever_is_chosen(self):
-        """What is chosen may be among them, so the status is 1 where nothing of the connection is in the report, too."""
+        """What is chosen may be among them: the status is 1, also where nothing of the connection is in the report."""
         lines = report_lines.Lines()
         lines.connect(0, 1)
         whole = lines.write(self.folder / "whole.json", ending="whole", unanswered=0)
@@ -155,6 +155,38 @@ class Counts(ToolCase):
                 self.assertIn(f"\nfrom {begun} to {ended}\n", found, known)
                 self.assertIn(f"  {begun}     4 s  ", self.table(found, "Connections")[0])
             (self.folder / "a.facts.json").unlink(missing_ok=True)
+
+    def test_times_of_more_digits_than_a_float_has(self):
+        """They are exact, and so are latencies: of whole milliseconds in the recording, and of fractions beside it."""
+        if not PROGRAM.exists():
+            self.skipTest("the program zkdump is not built")
+        frames, path = [], self.folder / "a.zkr"
+        for side, payload in ((b"C", struct.pack(">iqiqi", 0, 0, 9, 0, -1)), (b"S", struct.pack(">iiqi", 0, 9, 7, -1)),
+                              (b"C", struct.pack(">ii", -2, 11)), (b"S", struct.pack(">iqi", -2, 5, 0))):
+            frames.append((side, struct.pack(">i", len(payload)) + payload))
+        for last, fractions, latencies in ((("0993", "0996", "0999", "1001"), None, (3, 2)),
+                                           (("0999", "0998", "0993", "0994"), None, (None, 1)),
+                                           (("0993", "0995", "0995", "0999"), ("500", "001", "751", "250"),
+                                            (1.501, 3.499))):
+            times = [f"900719925474{each}" for each in last]
+            head = zkr.Head("zkr1" if fractions else "zkr2")
+            path.write_bytes(head.to_bytes() + b"".join(head.piece(side, int(at), frame)
+                                                        for (side, frame), at in zip(frames, times)))
+            if fractions:
+                self.listing("a.zkr.times", *(f"{at}.{part}" for at, part in zip(times, fractions)))
+            lines = self.listing("a.json", *self.run_inside("zkjson.py", path)[1].splitlines())
+            for each in (path, lines):
+                with self.subTest(last=last, each=each):
+                    found = json.loads(self.run_inside("zkstat.py", "--json", each)[1])
+                    begun, ended = f"{min(times)} ms", f"{max(times)} ms"
+                    self.assertEqual([(row["begun"], row["ended"]) for row in found["connections"]], [(begun, ended)])
+                    slowest = {row["op"]: (row["ms"], row["time"]) for row in found["slowest"]}
+                    self.assertEqual(slowest, {name: (ms, f"{at} ms") for name, ms, at in zip(
+                        ("connect", "ping"), latencies, times[::2]) if ms})
+                    found = self.report(each)
+                    self.assertIn(f"\nfrom {begun} to {ended}\n", found)
+                    self.assertEqual([" ".join(line.split()[:3]) for line in self.table(found, "Slowest requests")],
+                                     [f"{ms:g} {at}" for ms, at in sorted(slowest.values(), reverse=True)])
 
     def test_facts_that_know_the_end_alone(self):
         """The time of the end, and that an error on the server's side was it."""
