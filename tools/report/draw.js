@@ -14,17 +14,30 @@ function duration(ms) {
   if (size < 1) return `${+ms.toFixed(3)} ms`;
   if (size < 1000) return `${+ms.toPrecision(3)} ms`;
   if (size < 60000) return `${+(ms / 1000).toPrecision(3)} s`;
-  if (size < 3600000) return `${Math.floor(ms / 60000)} min ${Math.round(ms % 60000 / 1000)} s`;
-  return `${Math.floor(ms / 3600000)} h ${Math.round(ms % 3600000 / 60000)} min`;
+  const seconds = Math.round(ms / 1000), minutes = Math.round(ms / 60000);
+  if (size < 3600000) return `${Math.floor(seconds / 60)} min ${seconds % 60} s`;
+  return `${Math.floor(minutes / 60)} h ${minutes % 60} min`;
 }
 
+const LATEST = 253402300800000;     // the end of the year 9999
+
+// A time as tools/zkr.py's clock has it: after the year 9999 its milliseconds since 1970.
 function iso(ms) {
-  return new Date(ms).toISOString();
+  return ms < LATEST ? new Date(ms).toISOString() : `${BigInt(Math.floor(ms))} ms`;
+}
+
+function dayOf(ms) {
+  return ms < LATEST ? iso(ms).slice(0, 10) : iso(ms);
+}
+
+// The time of day, up to this place of the whole time.
+function timeOfDay(ms, end = 23) {
+  return ms < LATEST ? iso(ms).slice(11, end) : iso(ms);
 }
 
 // A place on the axis of time as a person reads it: the time of day, or where there are no times the message's number.
 function place(x) {
-  return timed ? iso(Math.round((data.begun + x) * 1000) / 1000).slice(11, 23) : `message ${count(Math.round(x))}`;
+  return timed ? timeOfDay(Math.round((data.begun + x) * 1000) / 1000) : `message ${count(Math.round(x))}`;
 }
 
 function element(name, attributes = {}, ...children) {
@@ -70,10 +83,11 @@ const STEPS = [1, 2, 5, 10, 20, 50, 100, 200, 500, 1e3, 2e3, 5e3, 1e4, 15e3, 3e4
 function ticks([low, high], most) {
   const base = timed ? data.begun : 0, least = (high - low) / most;
   const step = timed ? STEPS.find(each => each >= least) ?? Math.ceil(least / 864e5) * 864e5 : roundStep(least);
-  const found = [];
-  for (let at = Math.ceil((base + low) / step) * step; at <= base + high; at += step) {
-    const label = !timed ? count(at) : step >= 864e5 ? iso(at).slice(0, 10)
-      : iso(at).slice(11, step >= 6e4 ? 16 : step >= 1e3 ? 19 : 23);
+  const found = [], first = Math.ceil((base + low) / step) * step;
+  for (let i = 0, at = first; at <= base + high; at = first + ++i * step) {
+    if (at - base === found.at(-1)?.x) continue;        // a late time has not each millisecond
+    const label = !timed ? count(at) : step >= 864e5 ? dayOf(at)
+      : timeOfDay(at, step >= 6e4 ? 16 : step >= 1e3 ? 19 : 23);
     found.push({ x: at - base, label });
   }
   return found;
@@ -87,7 +101,7 @@ function roundStep(least) {
 // What the axis of time is called.
 function axisName() {
   if (!timed) return "message number (there are no times)";
-  const from = iso(data.begun).slice(0, 10), to = iso(data.ended).slice(0, 10);
+  const from = dayOf(data.begun), to = dayOf(data.ended);
   return `time of day, UTC, ${from === to ? from : `${from} to ${to}`}`;
 }
 

@@ -19,6 +19,28 @@ class Scripts(ToolCase):
                 "  each => cellText(\"ms\", each))));")
         self.assertEqual(self.of_script(code), ["0.001", "1.25", "12345.678", "123456.7", "1000000000", "–"])
 
+    def of_draw(self, data, found):
+        """What draw.js makes of this data."""
+        return self.of_script("const document = { getElementById() {} }, filter = {}, timed = true, "
+                              f"data = {json.dumps(data)};\n{(TOOLS / 'report' / 'draw.js').read_text('utf-8')}\n"
+                              f"console.log(JSON.stringify({found}));")
+
+    def test_times_after_the_year_9999(self):
+        """They are milliseconds, as a file has them by mistake, and no picture has ticks without end."""
+        begun = 1_795_332_633_000_123_904
+        shown = f"{begun} ms"
+        self.assertEqual(self.of_draw({"begun": begun, "ended": begun},
+                                      "[iso(data.begun), place(0.5), axisName(), ticks([0, 1], 3)]"),
+                         [shown, shown, f"time of day, UTC, {shown}", [{"x": 0, "label": shown}]])
+        last = 253_402_300_799_999
+        self.assertEqual(self.of_draw({"begun": last, "ended": last + 1}, "[iso(data.begun), iso(data.ended), place(1), "
+                                      "timeOfDay(data.begun), dayOf(data.begun)]"),
+                         ["9999-12-31T23:59:59.999Z", f"{last + 1} ms", f"{last + 1} ms", "23:59:59.999", "9999-12-31"])
+
+    def test_lengths_of_time(self):
+        self.assertEqual(self.of_draw({}, "[0.25, 1500, 59999, 60000, 119900, 3599400, 3600000, 7199999].map(duration)"),
+                         ["0.25 ms", "1.5 s", "60 s", "1 min 0 s", "2 min 0 s", "59 min 59 s", "1 h 0 min", "2 h 0 min"])
+
     def test_how_a_connection_ended(self):
         """By an error with a name or without one as by a reset, whatever else has such a word."""
         code = (f"{(TOOLS / 'report' / 'sessions.js').read_text('utf-8')}\n"
