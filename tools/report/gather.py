@@ -261,8 +261,7 @@ class Reading:
         elif op == "multi":
             self.name_parts(talk.paths(line, made), made)
         elif op == "setWatches":
-            for path in watched_paths(line):
-                self.set_again(path, made)
+            made.watched = watched_paths(line)
 
     def name(self, made):
         """Counts the path of a request, which stays with it in place of its spelling."""
@@ -322,6 +321,8 @@ class Reading:
         # A node that isn't there can be watched by exists alone.
         if getattr(asked, "is_watching", False) and (error is None or made.op == "exists" and error == "NONODE"):
             self.watch(asked.path, asked)[0] += 1
+        for path in getattr(asked, "watched", ()) if error is None else ():
+            self.set_again(path, asked)
         if self.tracing:
             self.tracing.request(connection, asked, made)
 

@@ -257,6 +257,20 @@ class Counts(ToolCase):
                               "\nno difference: 1 exchanges and events are the same\n", found)
                 self.report("--op", "connect", here, "--against", there)
 
+    def test_watches_that_could_not_be_set(self):
+        """A request that failed or has no reply has set none: one that asks for a watch, and setWatches."""
+        listing = self.listing(
+            "a.show", *CONNECTED, 'C 1 getData path="/a" watch=1', "S 1 getData zxid=5 err=-101/NONODE",
+            'C 2 exists path="/b" watch=1', "S 2 exists zxid=5 err=-101/NONODE",
+            *(line for paths, reply in (('"/c"', " err=-118/SESSIONMOVED"), ('"/d"', ""))
+              for line in (f"C -8 setWatches zxid=5 dataWatches=[{paths}] existWatches=[] childWatches=[]",
+                           f"S -8 setWatches zxid=5{reply}")),
+            'C -8 setWatches zxid=5 dataWatches=["/e"] existWatches=[] childWatches=[]', 'C 3 exists path="/f" watch=1',
+            ". whole unanswered=2")
+        for path in (listing, self.listing("a.json", *self.run_inside("zkjson.py", listing)[1].splitlines())):
+            self.assertEqual([line.split() for line in self.table(self.report(path), "Watches")],
+                             [["1", again, "0", "-", "#1", f'"/{name}"'] for again, name in ("0b", "1d")])
+
     def test_more_watches_than_are_kept(self):
         """Of five that are kept the rarer ones are forgotten for a sixth; one that was set once and fired three times
         is none of these."""
