@@ -20,17 +20,26 @@ function cellText(kind, value) {
   return shownText(value);
 }
 
-function sortKey(value) {
-  if (value === null || value === undefined) return -Infinity;
+// By what a value is sorted; null comes before all others.
+function sortKey(kind, value) {
+  if (value === null || value === undefined) return null;
+  if (kind === "connection") return value.slice(1).split(".").reduce((sum, each) => sum + each.padStart(9, "0"), "");
+  if (kind === "session") return BigInt(value);
   if (typeof value !== "object") return value;
   return "size" in value ? value.text : Object.values(value).reduce((sum, each) => sum + each, 0);
+}
+
+function compareKeys(a, b) {
+  if (a === null || b === null) return (b === null) - (a === null);
+  return a < b ? -1 : a > b ? 1 : 0;
 }
 
 function sorted(name, rows) {
   const order = orders[name];
   if (!order) return rows;
-  const compare = (a, b) => (a < b ? -1 : a > b ? 1 : 0);
-  return rows.slice().sort((a, b) => order.direction * compare(sortKey(a[order.column]), sortKey(b[order.column])));
+  const { column, direction } = order, kind = data.tables[name].columns[column][2];
+  return rows.map(row => [sortKey(kind, row[column]), row])
+    .sort(([a], [b]) => direction * compareKeys(a, b)).map(([, row]) => row);
 }
 
 function drawTables(indices) {

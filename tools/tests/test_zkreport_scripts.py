@@ -19,6 +19,23 @@ class Scripts(ToolCase):
                 "  each => cellText(\"ms\", each))));")
         self.assertEqual(self.of_script(code), ["0.001", "1.25", "12345.678", "123456.7", "1000000000", "–"])
 
+    def test_rows_in_the_order_of_a_column(self):
+        """Connections and sessions go by their numbers, and what is not there comes first."""
+        sizes = {"text": "/b", "size": 900}
+        values = {"connection": ["#1", "#1.2", "#1.10", "#2", "#10"], "session": [None, "0x7", "0x1f", "0x100003780a6001f"],
+                  "error": [None, None, "-999", "NODEEXISTS", "NONODE"], "path": [None, "/a", sizes, "/c"],
+                  "ms": [None, 0.5, 2, 10], "counts": [{}, {"NodeCreated": 2}, {"NodeCreated": 1, "NodeDeleted": 9}]}
+        code = ("const document = { getElementById() {} }, data = { tables: { a: { columns: [] } } };\n"
+                + "".join((TOOLS / "report" / name).read_text("utf-8") for name in ("draw.js", "tables.js"))
+                + f"const values = {json.dumps(values)};\n"
+                "console.log(JSON.stringify(Object.keys(values).map(kind => [1, -1].map(direction => {\n"
+                "  orders.a = { column: 0, direction }; data.tables.a.columns[0] = ['', '', kind];\n"
+                "  const rows = values[kind].map(each => [each]);\n"
+                "  return sorted('a', [...rows.slice(2), ...rows.slice(0, 2).reverse()]).map(([each]) => each);\n"
+                "}))));")
+        for (kind, wanted), (up, down) in zip(values.items(), self.of_script(code)):
+            self.assertEqual((up, down), (wanted, wanted[::-1]), kind)
+
     def of_draw(self, data, found):
         """What draw.js makes of this data."""
         return self.of_script("const document = { getElementById() {} }, filter = {}, timed = true, "
