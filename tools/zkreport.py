@@ -38,13 +38,12 @@ class Reader:
 
     def __init__(self, parser, words, folder):
         self.port, self.folder, self.chosen = words.port, folder, selection.Selection(words)
-        self.opener, self.sources = sources.Opener(parser, words.zkdump), []
+        self.opener = sources.Opener(parser, words.zkdump)
 
     def run(self, inputs, tracing=None):
         """What is found of all connections of these files."""
         run = gather.Run()
         for source in sources.sources_of(inputs, self.folder, self.port, run.warnings):
-            self.sources.append(source)
             run.read(source, self.opener, self.chosen, tracing)
         return run
 
@@ -64,7 +63,7 @@ class Reader:
         other = self.read(inputs)
         found.run.warnings += [*other.run.warnings, *(f"{name}: bytes of it are missing"
                                                       for name in other.run.with_holes)]
-        comparison = against.Comparison(found.run.connections, other.run.connections, self.opener, self.chosen)
+        comparison = against.Comparison(found.run, other.run, self.opener, self.chosen)
         return against.tables(found, other, comparison)
 
 
@@ -134,12 +133,11 @@ def words_of(arguments=None, kind=zkr.Words):
 
 
 def partial(options, paths):
-    """What is found of one file, and its sources; or an Unread."""
+    """What is found of one file; or an Unread."""
     def one(path):
         parser, words = words_of(options, fleet.Strict)
         with tempfile.TemporaryDirectory(prefix="zkreport-") as folder:
-            reader = Reader(parser, words, folder)
-            return reader.run([path]), reader.sources
+            return Reader(parser, words, folder).run([path])
     return fleet.attempt(one, *paths)
 
 
@@ -151,7 +149,7 @@ def read_all(parser, words):
             found.add_unread(sources.Source(path, os.path.basename(path)), result.reason)
             unread = True
         else:
-            found.add(*result)
+            found.add(result)
     return summary.Summary(found.run), unread
 
 

@@ -110,48 +110,57 @@ class Side:
         return found and " ".join([found["ending"], *words])
 
 
+def connections_of(run):
+    """The sources of a run, each with its connection; None where nothing of that is chosen."""
+    found = {}
+    for connection in run.connections:
+        if found.setdefault(connection.source, connection) is not connection:
+            raise ValueError(f"{connection.source.path} has several connections: --against compares files of one each")
+    return [(source, found.get(source)) for source in run.sources]
+
+
 class Comparison:
-    """The comparison of two runs, each given as its connections. `first` is the first difference, or None."""
+    """The comparison of two runs. `first` is the first difference, or None."""
 
     def __init__(self, ours, theirs, opener, chosen):
         self.equal, self.first = 0, None
-        as_objects = any(connection.source.has_objects for connection in (*ours, *theirs))
-        for run in (ours, theirs):
-            for before, after in zip(run, run[1:]):
-                if before.source is after.source:
-                    raise ValueError(f"{after.source.path} has several connections: --against compares files of one "
-                                     "each")
-        for number, (mine, other) in enumerate(itertools.zip_longest(ours, theirs)):
-            if mine is None or other is None:
-                names = ((each and each.name, None) for each in (mine, other))
-                self.differ(number, mine or other, "connection", *names)
+        as_objects = any(source.has_objects for source in (*ours.sources, *theirs.sources))
+        for (source, mine), (its, other) in itertools.zip_longest(*map(connections_of, (ours, theirs)),
+                                                                  fillvalue=(None, None)):
+            if mine is other is None:
                 continue
-            with opener.conversation(mine.source) as one, opener.conversation(other.source) as two:
-                self.compare(number, mine, *(Side(talk, chosen, as_objects) for talk in (one, two)))
+            if source is None or its is None:
+                names = ((each and each.name, None) for each in (mine, other))
+                self.differ(mine, (mine or other).label, "connection", *names)
+                continue
+            with opener.conversation(source) as one, opener.conversation(its) as two:
+                self.compare(mine, mine.label if mine else source.name,
+                             *(Side(talk, chosen, as_objects) for talk in (one, two)))
 
-    def compare(self, number, connection, mine, other):
-        """Compares a pair of connections."""
+    def compare(self, connection, label, mine, other):
+        """Compares a pair of connections; the first is called so."""
         for one, two in itertools.zip_longest(mine.exchanges(), other.exchanges()):
             if one and two and one.texts() == two.texts():
                 self.equal += 1
             elif one and two and one.request == two.request:
-                self.differ(number, connection, "reply", *((each.answer, each.reply or each.n) for each in (one, two)))
+                self.differ(connection, label, "reply", *((each.answer, each.reply or each.n) for each in (one, two)))
             else:
                 requests = ((each.request, each.n) if each else (None, None) for each in (one, two))
-                self.differ(number, connection, "request", *requests)
+                self.differ(connection, label, "request", *requests)
         for one, two in itertools.zip_longest(mine.events, other.events, fillvalue=(None, None)):
             if one[0] == two[0]:
                 self.equal += 1
             else:
-                self.differ(number, connection, "event", one, two)
+                self.differ(connection, label, "event", one, two)
         endings = mine.ending(), other.ending()
         if None not in endings and len(set(endings)) > 1:
-            self.differ(number, connection, "ending", *((each, None) for each in endings))
+            self.differ(connection, label, "ending", *((each, None) for each in endings))
 
-    def differ(self, number, connection, kind, one, two):
+    def differ(self, connection, label, kind, one, two):
+        """Takes a difference from this connection; None where the run has none."""
         if self.first is None:
-            self.first = {"connection": number, "label": connection.label, "kind": kind, "equal": self.equal,
-                          "messages": [one[1], two[1]],
+            self.first = {"connection": connection and connection.number, "label": label, "kind": kind,
+                          "equal": self.equal, "messages": [one[1], two[1]],
                           "texts": around(without_credentials(one[0]), without_credentials(two[0]))}
 
 

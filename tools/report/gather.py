@@ -146,7 +146,7 @@ class Run:
 
     def __init__(self):
         self.connections, self.by_source, self.warnings, self.whole, self.silent = [], {}, [], 0, 0
-        self.with_holes = []
+        self.sources, self.with_holes = [], []
         self.untimed = 0        # the connections with messages that choices by time left out
         self.kept, self.density = kept.Kept(), kept.Density()
         self.parts, self.abouts = {}, []    # of the lines of zkjson: as Source.take_facts has them, and of whom
@@ -156,6 +156,7 @@ class Run:
     def read(self, source, opener, chosen, tracing=None):
         """Reads what is chosen of a source. `tracing` gets the requests and events, for a trace."""
         readings, heard, whole = {}, collections.defaultdict(Heard), self.whole
+        self.sources.append(source)
 
         def messages(talk):
             for line, made, asked in talk:
@@ -317,7 +318,7 @@ class Reading:
         if asked.path is not None:
             self.judge_path(asked.path, asked, ms, error is not None)
         elif made.op == "multi":
-            self.judge_parts(talk.results(line), asked, ms, error is not None)
+            self.judge_parts(talk.results(line) if error else (), asked, ms, error is not None)
         # A node that isn't there can be watched by exists alone.
         if getattr(asked, "is_watching", False) and (error is None or made.op == "exists" and error == "NONODE"):
             self.watch(asked.path, asked)[0] += 1

@@ -11,9 +11,9 @@ class Merged:
     def __init__(self):
         self.run, self.parts = gather.Run(), {}
 
-    def add(self, other, sources):
-        """Adds the run of one file, and its sources."""
-        for source in (*sources, *other.abouts):
+    def add(self, other):
+        """Adds the run of one file."""
+        for source in (*other.sources, *other.abouts):
             source.join(self.parts)
         numbers = self.add_connections(other)
         run = self.run

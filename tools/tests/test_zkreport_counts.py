@@ -242,6 +242,24 @@ class Counts(ToolCase):
         self.assertIn('    here message 3: auth kind=0 scheme="digest" auth=.. 14 bytes\n',
                       self.report(listings[0], "--against", listings[1], status=1))
 
+    def test_connections_of_which_nothing_is_chosen_are_compared(self):
+        """They keep their places: what one connection asked here, and another there, differs."""
+        create = 'C 1 create path="/a" blob=~ acl=[] flags=0', 'S 1 create zxid=5 path="/a"'
+        sync = 'C 1 sync path="/a"', 'S 1 sync zxid=5 path="/a"'
+        first, other = (self.listing(name, *CONNECTED, *lines, WHOLE) for name, lines in (("a", sync), ("b", create)))
+        again, one = (self.listing(name, *CONNECTED, *lines, WHOLE) for name, lines in (("c", create), ("d", sync)))
+        page, choice = self.folder / "a.html", ("--op", "create", "--against")
+        found = self.report("-o", page, first, other, *choice, again, "--against", one, status=1)
+        self.assertIn("\nthe first difference is a request of connection a, after 0 exchanges and events that are the "
+                      'same:\n    here: nothing\n    there message 3: create path="/a"', found)
+        self.assertIn('"first":{"connection":null,"label":"a",', page.read_text("utf-8"))
+        for here, there, wanted in (([other, first], [again, one], "no difference: 1 exchanges"),
+                                    ([first, other], [one, again], "no difference: 1 exchanges"),
+                                    ([other], [again, one], "no difference: 1 exchanges"),
+                                    ([first], [one, again], "the first difference is a connection of connection #1")):
+            others = [word for path in there for word in ("--against", path)]
+            self.assertIn(f"\n{wanted}", self.report("--op", "create", *here, *others, status=int(wanted[0] == "t")))
+
     def test_endings_are_compared(self):
         """By what they say of the connection, and not of the numbers of its frames; where all of it is compared."""
         whole, cut, later, refused, none = (
