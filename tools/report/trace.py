@@ -25,8 +25,8 @@ class Trace:
             self.out.flush()
 
     def request(self, connection, asked, made):
-        """Takes a request and its reply, or None if it has none. A reply with a time before its request's ends it at
-        once: an end before its beginning would be shown as none."""
+        """Takes a request and its reply, or None if it has none, or its reply may be among missing bytes. A reply with
+        a time before its request's ends it at once: an end before its beginning would be shown as none."""
         if asked.moment is None or made and made.moment is None:
             return
         self.ids += 1
@@ -38,7 +38,8 @@ class Trace:
         if made:
             end, facts = max(made.moment, asked.moment), {"message": made.n, "error": made.error}
         else:
-            end, facts = max(connection.known.ended, asked.moment), {"answered": False}
+            end = max(connection.known.ended, asked.moment)
+            facts = {"answered": False} if asked.captured else {"captured": False}
         self.put(ph="e", ts=microseconds(end), args=facts, **where)
 
     def event(self, connection, made, path):

@@ -119,6 +119,18 @@ class Counts(ToolCase):
         self.assertEqual({(each["pid"], each["tid"]) for each in events}, {(1, 1)})
         self.assertIn({"name": "session 0x7"}, [each["args"] for each in events if each["ph"] == "M"])
 
+    def test_a_trace_of_requests_without_a_reply(self):
+        """It says where the reply may be among missing bytes."""
+        lines = report_lines.Lines()
+        lines.ask(50, "sync", 1, path="/a")
+        for number, (known, wanted) in enumerate(((None, {"answered": False}), ({"hole": ["S"]}, {"captured": False}))):
+            trace = self.folder / f"{number}.trace"
+            more = {"facts": known, "notCaptured": [1], "waiting": []} if known else {"waiting": [1]}
+            path = lines.write(self.folder / "a.json", ending="whole", unanswered=1, **more)
+            self.assertEqual(self.run_inside("zkreport.py", "--trace", trace, path), (int(bool(known)), "", ""))
+            end, = (each for each in json.loads(trace.read_text())["traceEvents"] if each["ph"] == "e")
+            self.assertEqual(end["args"], wanted)
+
     def test_long_latencies_and_connections(self):
         """They are exact: 12,345.678 ms, 2,345,678.901 ms, and 100,000.123 s from the first message to the last."""
         lines = report_lines.Lines()
