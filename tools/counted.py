@@ -105,7 +105,7 @@ def add_slowest(numpy, found, talk, block, timed):
         if record.microseconds > found.least:
             made = talk.message(block, record)
             asked = listing.Message(talk.connection, record.of, "C", made.xid, made.op, block.path(record), None)
-            asked.moment = record.asked_moment if made.moment < listing.TOO_COARSE else \
-                made.moment - made.microseconds // 1000
+            asked.moment = columns.exact(record.asked_moment, block.text[record.text + record.at_length:
+                                                                         record.text + record.text_length])
             zxid = None if record.operation == columns.CONNECT else listing.hexadecimal(record.zxid)
             found.add_slow(zxid, made, asked)

@@ -14,6 +14,7 @@ ALL_ONES = listing.hexadecimal(-1)
 MADE_UP = {"C": {"version": -1, "zxid": ALL_ONES, "timeout": -1, "session": ALL_ONES, "passwd": None, "ro": None},
            "S": {"version": -1, "timeout": -1, "session": ALL_ONES, "passwd": None, "ro": None}}
 NEEDED = object()
+# Of a time that a float has not exactly, what is before the point.
 WHOLE_AT = re.compile(r'"at":\s*(\d+)\.\d+\s*[,}]', re.ASCII)
 # The fields of an ending, as an ending line has them in order; these two are texts.
 ENDING_FIELDS = ("unanswered", "side", "frame", "offset", "place", "reason", "expected", "got")

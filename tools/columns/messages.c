@@ -176,6 +176,7 @@ static void put_message(struct state *state, const struct message *message, stru
         put_text(&state->text, message->at);
         record->at_length = (uint32_t)strlen(message->at);
         if (state->lines) put_line(state, message->side, &state->text);
+        else if (message->asked != NULL) put_number(&state->text, message->asked->time);
     }
     record->text_length = (uint32_t)(state->text.end - record->text);
     put(&state->records, record, sizeof *record);

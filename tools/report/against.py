@@ -138,7 +138,7 @@ class Comparison:
                              *(Side(talk, chosen, as_objects) for talk in (one, two)))
 
     def compare(self, connection, label, mine, other):
-        """Compares a pair of connections; the first is called so."""
+        """Compares a pair of connections; `label` is what the first is called."""
         for one, two in itertools.zip_longest(mine.exchanges(), other.exchanges()):
             if one and two and one.texts() == two.texts():
                 self.equal += 1

@@ -97,11 +97,11 @@ def cut(data, chance):
 
 
 def late_times(data):
-    """The recording with times of more digits than a float has, around the least of them and up to the greatest."""
-    head, made = zkr.Head("zkr2"), bytearray(zkr.Head("zkr2").to_bytes())
+    """The recording with times of more digits than a float has, the least and the greatest of these, and others."""
+    head = zkr.Head("zkr2")
+    made = bytearray(head.to_bytes())
     for number, piece in enumerate(zkr.Reader(io.BytesIO(data))):
-        made += head.piece(piece.side, (2**53 - 9, 2**53 + 2 * number - 9, 2**63 - 999 + number)[min(2, number // 30)],
-                           piece.data)
+        made += head.piece(piece.side, (5000, 2**53 - 9, 2**53 + number, 2**63 - 999)[number % 4] + number, piece.data)
     return bytes(made)
 
 
