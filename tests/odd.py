@@ -83,6 +83,37 @@ class Odd:
             lines = [line for each in found[2:] for line in each["line"]]
             yield lines == [f'C -4 auth kind=0 scheme=" auth=#41" auth={shown}'], f"{lines}"
 
+    def test_zero_bytes_in_texts(self):
+        """They are shown as in lines, and so are backslashes beside them; in other texts a backslash is itself."""
+        def text(data):
+            return struct.pack(">i", len(data)).hex() + data.hex()
+        path, shown, stat = text(b"/a\0b\\c\0"), "/a\\00b\\5cc\\00", "00" * 68
+        pieces = [piece(zkr.CLIENT, f"00000001 00000006 {path}"),
+                  piece(zkr.SERVER, "00000001 0000000000000005 00000000 00000001 0000001f"
+                                    f"{text(b'di' + bytes(1) + b'g')} {text(bytes(2))} {stat}"),
+                  piece(zkr.CLIENT, f"00000002 00000008 {text(b'/a' + bytes([92]) + b'r')} 00"),
+                  piece(zkr.SERVER, "00000002 0000000000000005 00000000 00000003"
+                                    f"{text(b'x' + bytes(1) + b'y')} {text(b'q' + bytes([92]) + b'r')} {text(b'')}"),
+                  piece(zkr.SERVER, f"ffffffff ffffffffffffffff 00000000 00000003 00000003 {path}"),
+                  piece(zkr.CLIENT, f"00000003 0000000e 0000000d 00 ffffffff {path} 00000000 ffffffff 01 ffffffff")]
+        capture = capture_of([*HEADS, *pieces])
+        found = self.plugin.frames(capture, "-2")[2:]
+        told = [(each["path"], each["scheme"], each["acl.id"], each["child"]) for each in found]
+        wanted_of = [([shown], [], [], []), ([shown], ["di\\00g"], ["\\00\\00"], []), (["/a\\r"], [], [], []),
+                     (["/a\\r"], [], [], ["x\\00y", "q\\r", ""]), ([shown], [], [], []), ([shown], [], [], [])]
+        yield told == wanted_of, f"{told}"
+        yield not any("stray" in self.plugin.read(capture, "-V", *words) for words in ((), ("-2",))), "stray characters"
+        infos = self.plugin.read(capture, "-Y", "zookeeper.xid", "-T", "fields", "-e", "_ws.col.Info").splitlines()
+        yield [info.rpartition(" ")[2] for info in infos] == [shown, shown, "/a\\r", "/a\\r", shown, "#3"], f"{infos}"
+        tree = self.plugin.read(capture, "-V", "-O", "zookeeper", "-Y", "zookeeper.part.op")
+        yield f"Part 1: check {shown}\n" in tree, tree[-900:]
+
+    def ending_with_empty_texts(self):
+        """A capture of a request, its reply and an event, each with an empty path at the end."""
+        return capture_of([*HEADS, piece(zkr.CLIENT, "00000001 00000009 00000000"),
+                           piece(zkr.SERVER, "00000001 0000000000000005 00000000 00000000"),
+                           piece(zkr.SERVER, "ffffffff ffffffffffffffff 00000000 00000003 00000003 00000000")])
+
     def test_times_before_1970(self):
         """A node's times are longs, which may be negative."""
         stat = "0000000000000001 0000000000000002 {:016x} {:016x}" + "00000000" * 9

@@ -285,8 +285,10 @@ class Tests(Connections, Odd):
         yield page == found, f"the page lacks {sorted(found - page)[:3]}, tshark {sorted(page - found)[:3]}"
 
     def test_mutants(self):
-        """Mutated connections, many in one capture, under the address sanitizer."""
+        """Mutated connections, many in one capture, under the address sanitizer; and one that ends with empty texts."""
         plugin = dissected.Plugin(self.folder, self.words.libzk, sanitized=True)
+        out = plugin.read(self.ending_with_empty_texts(), "-V", "-O", "zookeeper")
+        yield not plugin.trouble(out) and out.count("Path: ") == 3, f"empty texts: {plugin.trouble(out)}"
         sent = [list(wire.conversation(pieces_of(path))) for path in WHOLE if path.stat().st_size < 60_000]
         for first in range(0, self.words.mutants, MUTANTS_A_RUN):
             seeds = range(first, min(first + MUTANTS_A_RUN, self.words.mutants))

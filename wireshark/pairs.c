@@ -66,7 +66,7 @@ static void note_asked(struct call *call, const guint8 *payload, guint32 length)
     const struct zk_field *path = field_of(first, MIN(message.read.count, FIRST), ZK_NAME_PATH);
     call->is_known = message.read.status == ZK_WELL;
     if (path && !path->null) {
-        call->path = (const char *)wmem_strndup(wmem_file_scope(), (const char *)payload + path->place, path->length);
+        call->path = text_of(wmem_file_scope(), payload + path->place, path->length);
     }
     if (call->op == OP_MULTI && call->is_known) {
         note_parts(call, payload, length, message.read.count);

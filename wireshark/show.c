@@ -111,7 +111,7 @@ static void show_info(const struct shown *shown, const char *path) {
         col_append_str(cinfo, COL_INFO, "no frame");
     }
     if (path && *path) {
-        col_append_fstr(cinfo, COL_INFO, " %s", path);
+        col_append_fstr(cinfo, COL_INFO, " %s", format_text(pinfo->pool, (const void *)path, strlen(path)));
     }
 }
 
@@ -280,14 +280,13 @@ static void show_fields(const struct shown *shown) {
 
 /* The path of a message, or of the request that it answers. */
 static const char *path_of(const struct shown *shown) {
-    packet_info *pinfo = shown->pinfo;
     const struct call *call = shown->frame->call;
     const struct zk_field *path = shown_field(shown, ZK_NAME_PATH);
     if (path && !path->null) {
-        return (const char *)tvb_format_text(pinfo->pool, shown->tvb, (int)(FRAME_HEAD + path->place),
-                                             (int)path->length);
+        int at = (int)(FRAME_HEAD + path->place), size = (int)path->length;
+        return text_of(shown->pinfo->pool, tvb_get_ptr(shown->tvb, at, size), path->length);
     }
-    return call && call->path ? format_text(pinfo->pool, (const void *)call->path, strlen(call->path)) : NULL;
+    return call ? call->path : NULL;
 }
 
 /* What is said of a frame besides its fields. */

@@ -7,6 +7,7 @@
 
 #include <epan/strutil.h>
 #include <epan/to_str.h>
+#include <string.h>
 
 #include "names.h"
 
@@ -88,8 +89,27 @@ static void append_to_part(const struct branches *in, tvbuff_t *tvb, packet_info
     if (field->name == ZK_NAME_ERR) {
         proto_item_append_text(in->part.item, ": fails, %s", name_of((gint32)field->number, error_names));
     } else if (field->name == ZK_NAME_PATH && !field->null) {
-        proto_item_append_text(in->part.item, " %s", tvb_format_text(pinfo->pool, tvb, at, (int)field->length));
+        const char *path = text_of(pinfo->pool, tvb_get_ptr(tvb, at, (int)field->length), field->length);
+        proto_item_append_text(in->part.item, " %s", format_text(pinfo->pool, (const void *)path, strlen(path)));
     }
+}
+
+char *text_of(wmem_allocator_t *scope, const guint8 *bytes, gsize length) {
+    if (length == 0) {
+        return (char *)wmem_strdup(scope, ""); /* of which there may be no bytes */
+    }
+    if (!memchr(bytes, 0, length)) {
+        return (char *)wmem_strndup(scope, (const char *)bytes, length);
+    }
+    wmem_strbuf_t *text = wmem_strbuf_new(scope, "");
+    for (const guint8 *at = bytes; at < bytes + length; at++) {
+        if (*at == 0 || *at == '\\') {
+            wmem_strbuf_append_printf(text, "\\%02x", *at);
+        } else {
+            wmem_strbuf_append_c(text, (char)*at);
+        }
+    }
+    return wmem_strbuf_finalize(text);
 }
 
 static gboolean is_of_entry(guint16 name) {
@@ -137,6 +157,17 @@ static void add_none(proto_tree *tree, tvbuff_t *tvb, const struct zk_field *fie
                         field->null ? "null" : field->length > 0 ? "hidden" : "empty");
 }
 
+static proto_item *add_text(proto_tree *tree, tvbuff_t *tvb, int hf, int at, int size) {
+    const guint8 *bytes = tvb_get_ptr(tvb, at, size);
+    if (!memchr(bytes, 0, (gsize)size)) {
+        return proto_tree_add_item(tree, hf, tvb, at, size, ENC_UTF_8);
+    }
+    char *text = text_of(NULL, bytes, (gsize)size);
+    proto_item *item = proto_tree_add_string(tree, hf, tvb, at, size, text);
+    wmem_free(NULL, text);
+    return item;
+}
+
 static proto_item *add_field(proto_tree *tree, tvbuff_t *tvb, const struct zk_field *field, enum name name, int at) {
     int hf = hf_field[name], size = (int)field->length;
     if (field->kind == ZK_KIND_TEXT || field->kind == ZK_KIND_BLOB) {
@@ -145,7 +176,8 @@ static proto_item *add_field(proto_tree *tree, tvbuff_t *tvb, const struct zk_fi
             add_none(tree, tvb, field, hf, at);
             return NULL;
         }
-        return proto_tree_add_item(tree, hf, tvb, at, size, field->kind == ZK_KIND_TEXT ? ENC_UTF_8 : ENC_NA);
+        return field->kind == ZK_KIND_TEXT ? add_text(tree, tvb, hf, at, size)
+                                           : proto_tree_add_item(tree, hf, tvb, at, size, ENC_NA);
     }
     if (name == FIELD_CTIME || name == FIELD_MTIME) {
         /* Milliseconds, which ENC_TIME_MSECS reads without their sign. */

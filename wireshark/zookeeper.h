@@ -175,6 +175,10 @@ extern gint ett_message, ett_list, ett_stat, ett_part, ett_acl;
 extern expert_field ei_refused, ei_unread, ei_newer, ei_order, ei_unasked, ei_error, ei_no_frame, ei_again, ei_cut,
     ei_many;
 
+/* These bytes of a text as a field's value, which in Wireshark ends at a zero byte: where there is one, that is \00, and
+ * a backslash \5c, as in lines. */
+char *text_of(wmem_allocator_t *scope, const guint8 *bytes, gsize length);
+
 /* Adds the fields of the header of a message of this kind, as far as `length` bytes of its payload have them. Of this
  * and of what follows: the payload begins after the first FRAME_HEAD bytes. */
 void tree_head(tvbuff_t *tvb, proto_tree *tree, guint32 kind, guint32 length);
