@@ -57,7 +57,8 @@ class Odd:
             yield found == ["ruok", "imok"], f"{found}"
 
     def test_secrets_that_are_not_read_are_hidden(self):
-        """A credential after a fault, as of an auth under another xid, the front of one that was cut, and SASL's."""
+        """A credential after a fault, as of an auth under another xid, the front of one that was cut, and SASL's, also
+        where the request was lost. Another reply whose request was lost is shown, a path too."""
         secret, password = "736563726574", "000102030405060708090a0b0c0d0e0f"
         auth = f"00000064 00000000 00000006 646967657374 0000000c {secret * 2}"
         welcome = "00000000 00007530 0100000000000001 00000010" + password
@@ -66,13 +67,20 @@ class Odd:
         token = f"0000000c {secret * 2}"
         sasl = [HEADS[0], HEADS[1], piece(zkr.CLIENT, f"00000001 00000066 {token}"),
                 piece(zkr.SERVER, f"00000001 0000000000000005 00000000 {token}")]
-        for given, snap in ((pieces, 65535), (cut, 54 + 36), (sasl, 65535)):  # 54 bytes before TCP's data
-            capture = wire.pcap(packed(wire.conversation(given)), snap=snap)
+        sent = [list(wire.conversation(given)) for given in (pieces, cut, sasl)]
+        alone = sent[2][:5] + sent[2][6:]
+        for given, snap in ((sent[0], 65535), (sent[1], 54 + 36), (sent[2], 65535), (alone, 65535), (alone, 54 + 33)):
+            capture = wire.pcap(packed(given), snap=snap)  # 54 bytes before TCP's data
             for hide in (True, False):
                 found = [value.replace(":", "") for each in self.plugin.frames(capture, hide=hide)
                          for name, values in each.items() if name not in ("packet", "frame") for value in values]
                 leaks = [value for value in found if secret in value or password[:24] in value]
                 yield found and bool(leaks) != hide, f"hidden: {hide}, of packets of {snap} bytes: {leaks}"
+        for body in ("00000003 2f6162", "00000002 00000002 6162 00000001 63", "00000002 6162" + "00" * 68):
+            given = list(wire.conversation([*HEADS, piece(zkr.SERVER, f"00000001 0000000000000005 00000000 {body}")]))
+            found = [value.replace(":", "") for each in self.plugin.frames(wire.pcap(packed(given)), hide=True)[2:]
+                     for value in each["unread"]]
+            yield found == [body.replace(" ", "")], f"hidden of a reply that is not SASL's: {body}, {found}"
 
     def test_credentials_in_lines(self):
         """A line's credential alone is hidden, whatever its scheme has; and nothing where the credential is null."""

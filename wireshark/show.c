@@ -239,9 +239,17 @@ static void read_fields(struct shown *shown) {
     shown->op = call ? call->op : shown->frame->kind == ZK_REQUEST ? shown->message.read.operation : 0;
 }
 
+/* Whether a reply may be one of SASL, as far as its bytes say it: what follows its header is one text or data, and is
+ * no path. */
+static gboolean may_have_token(const struct shown *shown) {
+    enum { AT = FRAME_HEAD + REPLY_HEAD, BEHIND = AT + 4 };
+    return shown->there > BEHIND && tvb_get_ntohl(shown->tvb, AT) == shown->size - BEHIND &&
+           *tvb_get_ptr(shown->tvb, BEHIND, 1) != '/';
+}
+
 /* Whether the bytes that weren't read may have a password or a credential, which SASL's tokens of both sides are. */
 static gboolean has_unread_secret(const struct shown *shown) {
-    if (shown->op == OP_SASL) {
+    if (shown->op == OP_SASL || (shown->frame->kind == ZK_REPLY && !shown->frame->call && may_have_token(shown))) {
         return TRUE;
     }
     if (shown->frame->kind == ZK_CONNECT || shown->frame->kind == ZK_CONNECTED) {
