@@ -1,12 +1,13 @@
 """Tests of the plugin for Wireshark that are about connections: pairs, losses, captures in disorder, and passes."""
 
+import itertools
 import json
 import random
 import re
 import subprocess
 
 import dissected
-from dissected import TOP, joined, lossy, pieces_of, wire
+from dissected import TOP, joined, lossy, pieces_of, wire, zkr
 from captured import disturbed
 from listed import listings_of
 
@@ -108,6 +109,24 @@ class Connections:
         packets = [packet for at, each in enumerate(sent) for packet in dissected.packed(each, client=40_000 + at)]
         packets.sort(key=lambda each: each[0])
         yield from self.looked_over(wire.pcap(packets, snap=96), "96 bytes of each packet")
+
+    def test_the_ends_without_a_syn(self):
+        """Who is the server is known by what is said where no SYN says it, whichever port Decode As names; also where
+        the first bytes are the front of a long frame."""
+        for name in ("kazoo_basic", "kazoo_multi"):
+            path, cutters = TOP / "captures" / f"{name}.zkr", zkr.Cutter()
+            said = [("CS".index(side), xid) for side, xid in re.findall(
+                r"^([CS]) (-?\d+|event|connect) ", path.with_suffix(".show").read_text(), re.M)]
+            said = [([str(side)], {"connect": [], "event": ["-1"]}.get(xid, [xid])) for side, xid in said]
+            sent = list(wire.conversation(pieces_of(path)))[3:-3]
+            ended = [len(list(cutters.take(zkr.Piece(each.side, None, each.data)))) for each in sent]
+            long = next((at for at in range(1, len(sent)) if ended[at - 1] == 1 and not any(ended[at:at + 5])), 9)
+            for first, version, port in itertools.product((0, 6, long), (4, 6), (9999, 41822)):
+                capture = wire.pcap(dissected.packed(sent[first:], server=9999, version=version))
+                found = self.plugin.frames(capture, "-d", f"tcp.port=={port},zookeeper")
+                shown = [(each["side"], each["xid"]) for each in found]
+                yield shown == said[sum(ended[:first]):], \
+                    f"{name} from {first} on, IPv{version}, {port}: {len(shown)} of {sum(ended[first:])}, {shown[:2]}"
 
     def test_the_ports_are_used_again(self):
         first, second = (list(wire.conversation(pieces_of(path), 1448, (number, 2 * number)))

@@ -38,18 +38,6 @@ static wmem_flag forget(wmem_allocator_t *allocator _U_, wmem_cb_event_t event _
     return FALSE;
 }
 
-static const struct tcp_analysis *tcp_of(packet_info *pinfo) {
-    return (const struct tcp_analysis *)conversation_get_proto_data(find_or_create_conversation(pinfo), proto_tcp);
-}
-
-/* Whether a packet goes to the server, whose port TCP knows by the SYN. Without that it is the port that ZooKeeper was
- * found by, which may be the client's where a user names that in Decode As. */
-static gboolean is_to_server(packet_info *pinfo) {
-    const struct tcp_analysis *tcp = tcp_of(pinfo);
-    guint32 port = tcp && tcp->server_port ? tcp->server_port : pinfo->match_uint;
-    return port == pinfo->destport || (port != pinfo->srcport && pinfo->destport < pinfo->srcport);
-}
-
 struct connection *connection_of(packet_info *pinfo) {
     conversation_t *conversation = find_or_create_conversation(pinfo);
     struct connection *connection =
@@ -58,9 +46,7 @@ struct connection *connection_of(packet_info *pinfo) {
         return connection;
     }
     connection = wmem_new0(wmem_file_scope(), struct connection);
-    gboolean to_server = is_to_server(pinfo);
-    copy_address_wmem(wmem_file_scope(), &connection->server, to_server ? &pinfo->dst : &pinfo->src);
-    connection->port = to_server ? pinfo->destport : pinfo->srcport;
+    begin_sides(connection, pinfo);
     connection->waiting = wmem_map_new(wmem_file_scope(), g_direct_hash, g_direct_equal);
     connection->early = wmem_map_new(wmem_file_scope(), g_direct_hash, g_direct_equal);
     connection->kept = wmem_map_new(wmem_file_scope(), hash_of_kept, equal_kept);
@@ -77,26 +63,6 @@ struct connection *connection_of(packet_info *pinfo) {
     }
     conversation_add_proto_data(conversation, proto_zookeeper, connection);
     return connection;
-}
-
-guint32 side_of(const struct connection *connection, const packet_info *pinfo) {
-    return pinfo->destport == connection->port && addresses_equal(&pinfo->dst, &connection->server) ? ZK_CLIENT
-                                                                                                 : ZK_SERVER;
-}
-
-/* Whether these are a connect message, whole. */
-static gboolean is_connect(const struct piece *piece) {
-    if (piece->there < FRAME_HEAD + 4) {
-        return FALSE;
-    }
-    gint32 length = int_at(piece->bytes);
-    const guint8 *payload = piece->bytes + FRAME_HEAD;
-    if (length < 4 || (guint32)length > piece->there - FRAME_HEAD || int_at(payload) != 0) {
-        return FALSE;
-    }
-    struct zk_payload judged = piece->side == ZK_CLIENT ? zk_judge_first(payload, (size_t)length)
-                                                        : zk_judge_connected(payload, (size_t)length);
-    return judged.status == ZK_WELL;
 }
 
 /* Whether a client's first bytes are a word of four letters. Where the client may have said more before them, letters
@@ -132,7 +98,7 @@ static void begin(struct connection *connection, packet_info *pinfo, struct way 
         judge_end(&connection->judge);
         return;
     }
-    way->whole |= is_connect(piece);
+    way->whole |= is_connect(piece->side, piece->bytes, piece->there);
     way->sure = way->whole;
     if (!way->whole) {
         way->sought = TRUE;

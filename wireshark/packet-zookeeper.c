@@ -68,6 +68,7 @@ int dissect_zookeeper(tvbuff_t *tvb, packet_info *pinfo, proto_tree *tree, void 
     }
     struct connection *connection = connection_of(pinfo);
     guint32 there = tvb_captured_length(tvb), size = tvb_reported_length(tvb), used = 1;
+    learn_server(connection, pinfo, tvb_get_ptr(tvb, 0, (int)there), there);
     struct piece piece = {tcp, side_of(connection, pinfo), 0, NULL, 0, 0, 0, FALSE};
     begin_columns(pinfo);
     for (guint32 at = 0; at < there && used > 0; at += used) {

@@ -94,6 +94,7 @@ struct calls {
 struct connection {
     address server;
     guint32 port;
+    gboolean server_known;   /* by the SYN, or by what was said */
     struct way way[2];
     gboolean words;          /* the client says words of four letters */
     gboolean late;           /* the connection isn't whole in the capture */
@@ -110,7 +111,6 @@ struct connection {
 };
 
 struct connection *connection_of(packet_info *pinfo);
-guint32 side_of(const struct connection *connection, const packet_info *pinfo);
 
 /* A piece of a side's bytes, as TCP gives it. */
 struct piece {
@@ -125,6 +125,21 @@ struct piece {
 
 /* What these bytes begin with: on the first pass found out, later looked up; NULL: it isn't known. */
 const struct kept *kept_of(struct connection *connection, packet_info *pinfo, const struct piece *piece);
+
+/* ---- Sides (sides.c) */
+
+/* What TCP's own code keeps of the connection; NULL: nothing. */
+const struct tcp_analysis *tcp_of(packet_info *pinfo);
+
+/* Finds out, of a new connection, which end is the server; where no SYN said it, what is said may yet do so, and turns
+ * the two around if it has to. */
+void begin_sides(struct connection *connection, packet_info *pinfo);
+void learn_server(struct connection *connection, packet_info *pinfo, const guint8 *bytes, guint32 there);
+
+guint32 side_of(const struct connection *connection, const packet_info *pinfo);
+
+/* Whether these bytes begin with a whole connect message of this side. */
+gboolean is_connect(guint32 side, const guint8 *bytes, guint32 there);
 
 /* ---- Frames (frames.c) */
 
