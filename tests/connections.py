@@ -128,6 +128,14 @@ class Connections:
                 yield shown == said[sum(ended[:first]):], \
                     f"{name} from {first} on, IPv{version}, {port}: {len(shown)} of {sum(ended[first:])}, {shown[:2]}"
 
+    def test_each_packet_has_words_in_the_list(self):
+        """Also one that has the middle of a frame alone, and whose bytes wait for others."""
+        sent = [list(wire.conversation(pieces_of(path), 37))[9:] for path in WHOLE if path.stat().st_size < 20_000]
+        for words in ((), ("-2",)):
+            told = self.plugin.read(joined(sent), *words, "-T", "fields", "-e", "_ws.col.Info").splitlines()
+            wrong = [at + 1 for at, info in enumerate(told) if not info]
+            yield told and not wrong, f"of {len(told)} packets {len(wrong)} have none: {wrong[:5]}"
+
     def test_the_ports_are_used_again(self):
         first, second = (list(wire.conversation(pieces_of(path), 1448, (number, 2 * number)))
                          for path, number in zip(WHOLE[-2:], (1000, 700_000)))

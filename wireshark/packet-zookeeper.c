@@ -50,11 +50,14 @@ static guint32 dissect_piece(tvbuff_t *tvb, packet_info *pinfo, proto_tree *tree
         return 0;
     }
     int part = (int)MIN(kept->size, piece->size), captured = (int)MIN((guint32)part, piece->there);
+    if (kept->what == AGAIN && piece->tcp->is_reassembled) {
+        return (guint32)MAX(part, 1); /* what waits is put together from its first byte on, however much was used */
+    }
     tvbuff_t *own = tvb_new_subset_length_caplen(tvb, at, captured, part);
+    begin_columns(pinfo);
     if (kept->what == A_FRAME && captured >= FRAME_HEAD) {
         show_frame(own, pinfo, tree, connection, kept->frame, piece->side);
-    } else if (kept->what != AGAIN || !piece->tcp->is_reassembled) {
-        /* What waits is put together from its first byte on, however much of it was used. */
+    } else {
         show_bytes(own, pinfo, tree, kept->what, piece->side);
     }
     col_set_fence(pinfo->cinfo, COL_INFO);
@@ -70,7 +73,6 @@ int dissect_zookeeper(tvbuff_t *tvb, packet_info *pinfo, proto_tree *tree, void 
     guint32 there = tvb_captured_length(tvb), size = tvb_reported_length(tvb), used = 1;
     learn_server(connection, pinfo, tvb_get_ptr(tvb, 0, (int)there), there);
     struct piece piece = {tcp, side_of(connection, pinfo), 0, NULL, 0, 0, 0, FALSE};
-    begin_columns(pinfo);
     for (guint32 at = 0; at < there && used > 0; at += used) {
         piece.number = tcp->seq + at;
         piece.bytes = tvb_get_ptr(tvb, (int)at, (int)(there - at));
