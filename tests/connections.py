@@ -146,8 +146,8 @@ class Connections:
         yield len(sessions) == 2 and not alone, f"{sessions}, without a pair {alone}"
 
     def test_one_pass_is_two_passes(self):
-        """But for what isn't known yet, in which packet a request will be answered, and for bytes without a frame,
-        which TCP doesn't give again."""
+        """But for what isn't known yet, in which packet a request will be answered, and where bytes that wait are
+        shown."""
         for share in (0, 0.1):
             capture = joined(lossy(list(wire.conversation(pieces_of(path))), random.Random(1), share) for path in WHOLE)
             one, two = ([each for each in found if each["kind"]] for found in
@@ -159,3 +159,7 @@ class Connections:
             one, two = ([each for each in found if each["packet"] not in early] for found in (one, two))
             other = [(a, b) for a, b in zip(one, two) if a != b]
             yield one and len(one) == len(two) and not other, f"{share} lost: {len(one)} and {len(two)}, {other[:1]}"
+        begun = [list(wire.conversation(pieces_of(path), 37))[at:at + 60] for path in WHOLE for at in (11, 18, 22, 33)]
+        one, two = (sorted(value for each in self.plugin.frames(joined(begun), *words) for value in each["no_frame"])
+                    for words in ((), ("-2",)))
+        yield one and one == two, f"bytes without a frame: {len(one)} times, and on later passes {len(two)}"

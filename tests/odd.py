@@ -184,6 +184,22 @@ class Odd:
         shown = [int(each["xid"][0]) for each in found if each["kind"] == ["2"]]
         yield shown == list(range(3, 13)), f"{shown}"
 
+    def test_what_waited_in_vain(self):
+        """A request of 17 bytes with an empty path, of a capture that begins late, waits for more bytes. Before these
+        come, a reply says that frames follow one another; then the request is one, and those after it wait on. Later
+        passes get all in one packet, and show it there."""
+        asked = "00000001 00000004 00000002 2f61 00", "00000002 00000003 00000000 00", \
+            "00000003 00000005 00000002 2f61 00000800" + "61" * 2048 + "ffffffff"
+        answers = [piece(zkr.SERVER, f"{xid:08x} 0000000000000005 ffffff9b") for xid in (1, 2, 3)]
+        first, second, third = (piece(zkr.CLIENT, digits) for digits in asked)
+        sent = list(wire.conversation([*HEADS, first, second, answers[0], third, *answers[1:]]))[5:-3]
+        for words, packets in (((), (1, 4, 5)), (("-2",), (1, 5, 5))):
+            found = self.plugin.frames(wire.pcap(packed(sent)), *words)
+            shown = [(each["xid"], each["packet"]) for each in found if each["kind"] == ["2"]]
+            links = [each["response_to"] for each in found if each["kind"] == ["4"]]
+            wanted_of = [([str(at + 1)], packet) for at, packet in enumerate(packets)]
+            yield shown == wanted_of and links == [[str(packet)] for packet in packets], f"{words}: {shown}, {links}"
+
     def test_replies_out_of_order(self):
         """Of each reply the oldest request before it that has no reply yet is noted, and nothing where there is none:
         of those to 3 and 2 that is 1. What was passed so is noted no more of later replies."""

@@ -141,12 +141,39 @@ static void seek(struct way *way) {
 
 static struct kept *keep(struct connection *connection, packet_info *pinfo, const struct piece *piece, enum what what,
                          guint32 size) {
+    struct way *way = connection->way + piece->side;
     struct kept *kept = wmem_new0(wmem_file_scope(), struct kept);
     kept->packet = pinfo->num;
     kept->number = piece->number;
     kept->what = what;
     kept->size = size;
+    if (piece->tcp->is_reassembled && (what == A_FRAME || what == NO_FRAME)) {
+        struct taken *taken = wmem_new(wmem_file_scope(), struct taken);
+        *taken = (struct taken){kept, piece->tcp->seq, way->taken};
+        way->taken = taken;
+    }
     wmem_map_insert(connection->kept, kept, kept);
+    return kept;
+}
+
+/* What was found here in fewer of the same bytes that TCP put together; NULL: nothing. */
+static const struct kept *taken_here(const struct way *way, const struct piece *piece) {
+    const struct taken *taken = piece->tcp->is_reassembled ? way->taken : NULL;
+    while (taken && taken->from == piece->tcp->seq && taken->kept->number != piece->number) {
+        taken = taken->before;
+    }
+    return taken && taken->from == piece->tcp->seq ? taken->kept : NULL;
+}
+
+/* What was shown of bytes that waited on with others after them: later passes get all of these in this packet. */
+static struct kept *keep_later(struct connection *connection, packet_info *pinfo, const struct piece *piece,
+                               const struct kept *taken) {
+    struct kept *kept = keep(connection, pinfo, piece, taken->what, taken->size);
+    kept->frame = taken->frame;
+    kept->later = TRUE;
+    if (piece->side == ZK_CLIENT && taken->frame && taken->frame->call) {
+        taken->frame->call->later = pinfo->num;
+    }
     return kept;
 }
 
@@ -254,6 +281,10 @@ static struct kept *look(struct connection *connection, packet_info *pinfo, cons
 /* A byte that was captured before: how many such bytes are here, and whether they are the rest of a frame. */
 static struct kept *look_again(struct connection *connection, packet_info *pinfo, const struct piece *piece,
                                const struct way *way) {
+    const struct kept *taken = taken_here(way, piece);
+    if (taken) {
+        return keep_later(connection, pinfo, piece, taken);
+    }
     guint32 known = way->next - piece->number;
     for (wmem_list_frame_t *at = wmem_list_head(way->gaps); at; at = wmem_list_frame_next(at)) {
         gint32 before = (gint32)(((struct gap *)wmem_list_frame_data(at))->from - piece->number);
@@ -298,7 +329,7 @@ const struct kept *kept_of(struct connection *connection, packet_info *pinfo, co
     struct piece piece = *given;
     struct way *way = connection->way + piece.side;
     if (PINFO_FD_VISITED(pinfo)) {
-        struct kept wanted = {pinfo->num, piece.number, A_FRAME, 0, NULL};
+        struct kept wanted = {.packet = pinfo->num, .number = piece.number};
         return (const struct kept *)wmem_map_lookup(connection->kept, &wanted);
     }
     if (!way->begun && !connection->words) {

@@ -12,7 +12,7 @@
 
 /* What is here, if the first pass didn't come by. */
 static struct kept guess(packet_info *pinfo, const struct piece *piece) {
-    struct kept kept = {pinfo->num, piece->number, NO_FRAME, piece->size, NULL};
+    struct kept kept = {.packet = pinfo->num, .number = piece->number, .what = NO_FRAME, .size = piece->size};
     if (frame_is_plausible(piece->side, piece->bytes, piece->there, pref_limit)) {
         struct frame *frame = wmem_new0(pinfo->pool, struct frame);
         frame->kind = piece->side == ZK_CLIENT ? ZK_REQUEST
@@ -50,7 +50,7 @@ static guint32 dissect_piece(tvbuff_t *tvb, packet_info *pinfo, proto_tree *tree
         return 0;
     }
     int part = (int)MIN(kept->size, piece->size), captured = (int)MIN((guint32)part, piece->there);
-    if (kept->what == AGAIN && piece->tcp->is_reassembled) {
+    if (kept->later ? !PINFO_FD_VISITED(pinfo) : kept->what == AGAIN && piece->tcp->is_reassembled) {
         return (guint32)MAX(part, 1); /* what waits is put together from its first byte on, however much was used */
     }
     tvbuff_t *own = tvb_new_subset_length_caplen(tvb, at, captured, part);

@@ -170,11 +170,12 @@ static void show_request(const struct shown *shown, const struct call *call) {
     packet_info *pinfo = shown->pinfo;
     proto_tree *tree = shown->tree;
     tvbuff_t *tvb = shown->tvb;
+    guint32 asked = call->later && PINFO_FD_VISITED(pinfo) ? call->later : call->asked;
     generated(proto_tree_add_int(tree, hf_field[FIELD_OP], tvb, 0, 0, call->op));
     if (call->path && !shown_field(shown, ZK_NAME_PATH)) {
         generated(proto_tree_add_string(tree, hf_field[FIELD_PATH], tvb, 0, 0, call->path));
     }
-    generated(proto_tree_add_uint(tree, hf_response_to, tvb, 0, 0, call->asked));
+    generated(proto_tree_add_uint(tree, hf_response_to, tvb, 0, 0, asked));
     if (nstime_cmp(&pinfo->abs_ts, &call->when) >= 0) {
         nstime_t took;
         nstime_delta(&took, &pinfo->abs_ts, &call->when);

@@ -35,6 +35,7 @@ struct call {
     guint32 asked, answered; /* packets; 0: none */
     nstime_t when;
     const char *path;
+    guint32 later;           /* the packet of the request on later passes; 0: the same */
     guint32 count;           /* of parts */
     gint32 *parts;
     gboolean is_known;       /* all of it was read */
@@ -64,6 +65,14 @@ struct kept {
     enum what what;
     guint32 size;            /* its bytes; of MORE those that are missing */
     struct frame *frame;
+    gboolean later;          /* it was shown in an earlier packet, whose bytes only this one has on later passes */
+};
+
+/* What was found in bytes that TCP put together, and where these begin. */
+struct taken {
+    const struct kept *kept;
+    guint32 from;
+    struct taken *before;
 };
 
 /* Bytes of a side that weren't captured when those after them were. */
@@ -79,6 +88,7 @@ struct way {
     guint32 next, end;       /* after the last frame; after the one that begins there, if that is known */
     guint32 since;           /* since this packet frames follow one another */
     struct gap rest;         /* a frame that isn't whole where its front was captured */
+    struct taken *taken;     /* the newest */
     wmem_list_t *gaps;
 };
 
@@ -190,8 +200,8 @@ extern gint ett_message, ett_list, ett_stat, ett_part, ett_acl;
 extern expert_field ei_refused, ei_unread, ei_newer, ei_order, ei_unasked, ei_error, ei_no_frame, ei_again, ei_cut,
     ei_many;
 
-/* These bytes of a text as a field's value, which in Wireshark ends at a zero byte: where there is one, that is \00, and
- * a backslash \5c, as in lines. */
+/* These bytes of a text as a field's value, which in Wireshark ends at a zero byte: where there is one, that is \00,
+ * and a backslash \5c, as in lines. */
 char *text_of(wmem_allocator_t *scope, const guint8 *bytes, gsize length);
 
 /* Adds the fields of the header of a message of this kind, as far as `length` bytes of its payload have them. Of this
