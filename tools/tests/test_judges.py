@@ -116,8 +116,8 @@ for name in ("kazoo_basic", "refused_c_path_not_utf8"):
         self.assertEqual(self.run_inside(script), (0, "False False False False\nFalse False True False\n"))
 
     def test_a_plugin_that_shows_nothing(self):
-        wanted = ("False False", "True True False True True False False", "False True False True",
-                  "False True False True False True")
+        wanted = ("False False False", "True True False True True False False", "False True False True",
+                  "False True False True False True False True False True False False False")
         self.assertEqual(self.run_inside(PLUGIN), (0, "".join(f"{line}\n" for line in wanted)))
 
     def test_no_program_that_must_not_compile(self):
