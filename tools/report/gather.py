@@ -329,7 +329,7 @@ class Reading:
 
     def judge_parts(self, errors, asked, ms, has_failed):
         """Counts what became of the paths of a multi's parts; where it has no results, all failed."""
-        failed = listing.failed_parts(errors) if errors else range(len(asked.part_paths)) if has_failed else ()
+        failed = set(listing.failed_parts(errors)) if errors else range(len(asked.part_paths)) if has_failed else ()
         for number, path in enumerate(asked.part_paths):
             if path is not None:
                 self.judge_path(path, asked, ms, number in failed)

@@ -1,11 +1,14 @@
 """Tests of what zkreport counts, of what it says of a connection, and of runs that it compares."""
 
 import json
+import resource
 import struct
+import subprocess
+import sys
 import unittest.mock
 
 import report_lines
-from support import PROGRAM, ToolCase, zkr
+from support import PROGRAM, TOOLS, ToolCase, zkr
 
 import facts  # (support says where)
 
@@ -227,6 +230,17 @@ class Counts(ToolCase):
         path = lines.write(self.folder / "a.json", ending="whole", unanswered=1)
         self.assertEqual([line.split() for line in self.table(self.report(path), "Busiest paths")],
                          [["7", failed, "6", f'"/{name}"'] for failed, name in zip("2232", "abcd")])
+
+    def test_a_multi_of_many_parts_that_failed(self):
+        """It takes no time that grows as the square of their number: here half a second of the processor."""
+        parts, results = 60_000 * ['delete path="/a" version=-1'], 60_000 * ["fail err=-101/NONODE"]
+        path = self.listing("a.show", *CONNECTED, f"C 1 multi {{{';'.join(parts)}}}",
+                            f"S 1 multi zxid=5 {{{';'.join(results)}}}", WHOLE)
+        done = subprocess.run([sys.executable, TOOLS / "zkreport.py", "--text", path], capture_output=True, text=True,
+                              preexec_fn=lambda: resource.setrlimit(resource.RLIMIT_CPU, (8, 8)), check=False)
+        self.assertEqual((done.returncode, done.stderr), (0, ""))
+        self.assertEqual([line.split() for line in self.table(done.stdout, "Busiest paths")],
+                         [["60000", "60000", "-", '"/a"']])
 
     def test_a_page_of_a_run_that_lacks_a_message(self):
         """The first difference leads to no message of this run: the other one alone has a request, or a connection."""
