@@ -2,6 +2,8 @@
 
 import argparse
 import datetime
+import itertools
+import operator
 import re
 
 import columns
@@ -78,6 +80,14 @@ def add_words(parser):
                         "earlier")
 
 
+def ended_of(held):
+    """The first connections, and the last one, of those of which messages are held back, where these have ended: to
+    look at each of them whenever one begins would take too long."""
+    has_ended = operator.attrgetter("ending")
+    return dict.fromkeys((*itertools.takewhile(has_ended, held),
+                          *filter(has_ended, itertools.islice(reversed(held), 1))))
+
+
 def complain(untimed):
     """Reports this number of connections with messages without times."""
     if untimed:
@@ -137,7 +147,7 @@ class Selection:
             connection = each[1].connection
             if not connection.known:
                 if connection not in held:
-                    yield from self.released(held, [one for one in held if one.ending])
+                    yield from self.released(held, ended_of(held))
                 held.setdefault(connection, []).append(each)
                 continue
             if connection in held:

@@ -1,8 +1,11 @@
 """The lines of zkjson as input: what is said of them is what is said of their recording."""
 
+import argparse
 import json
+import types
 
 from support import ToolCase
+import selection
 
 SESSION = "0x100000000000001"
 MESSAGES = [{"n": 3, "side": "C", "xid": 1, "op": "exists", "path": "/a", "watch": False},
@@ -49,6 +52,27 @@ class Joined(ToolCase):
         self.assertEqual([row.split()[:3] for row in rows],
                          [[f"#{number}", "0x7", name] for number, name in enumerate("bacd", 1)])
         self.assertEqual(found, self.said("zkreport.py", "--text", lines=lines))
+
+    def test_many_connections_whose_session_is_not_known(self):
+        """Each is looked at a few times, however many there are, whether or not their endings are there."""
+        looked = []
+
+        class Connection:
+            known, session = False, "0x7"
+
+            def __init__(self, ending):
+                self.word = ending
+
+            @property
+            def ending(self):
+                looked.append(self)
+                return self.word
+        words = argparse.Namespace(**dict.fromkeys(("path", "op", "slower", "begin", "end")), session=["0x7"])
+        for ending in (None, {"ending": "whole"}):
+            messages = [(None, types.SimpleNamespace(connection=Connection(ending)), None) for _ in range(500)]
+            looked.clear()
+            self.assertEqual(list(selection.Selection(words).chosen(None, messages)), messages)
+            self.assertLess(len(looked), 2000)
 
     def test_replies_with_a_time_before_their_request(self):
         """A reply has no ms where its time is before that of its request, or where one of them has no time."""
