@@ -15,7 +15,7 @@ function duration(ms) {
   if (size < 1000) return `${+ms.toPrecision(3)} ms`;
   if (size < 60000) return `${+(ms / 1000).toPrecision(3)} s`;
   const seconds = Math.round(ms / 1000), minutes = Math.round(ms / 60000);
-  if (size < 3600000) return `${Math.floor(seconds / 60)} min ${seconds % 60} s`;
+  if (Math.abs(seconds) < 3600) return `${Math.floor(seconds / 60)} min ${seconds % 60} s`;
   return `${Math.floor(minutes / 60)} h ${minutes % 60} min`;
 }
 

@@ -22,7 +22,8 @@ class Scripts(ToolCase):
     def test_rows_in_the_order_of_a_column(self):
         """Connections and sessions go by their numbers, and what is not there comes first."""
         sizes = {"text": "/b", "size": 900}
-        values = {"connection": ["#1", "#1.2", "#1.10", "#2", "#10"], "session": [None, "0x7", "0x1f", "0x100003780a6001f"],
+        values = {"connection": ["#1", "#1.2", "#1.10", "#2", "#10"],
+                  "session": [None, "0x7", "0x1f", "0x100003780a6001f"],
                   "error": [None, None, "-999", "NODEEXISTS", "NONODE"], "path": [None, "/a", sizes, "/c"],
                   "ms": [None, 0.5, 2, 10], "counts": [{}, {"NodeCreated": 2}, {"NodeCreated": 1, "NodeDeleted": 9}]}
         code = ("const document = { getElementById() {} }, data = { tables: { a: { columns: [] } } };\n"
@@ -50,13 +51,15 @@ class Scripts(ToolCase):
                                       "[iso(data.begun), place(0.5), axisName(), ticks([0, 1], 3)]"),
                          [shown, shown, f"time of day, UTC, {shown}", [{"x": 0, "label": shown}]])
         last = 253_402_300_799_999
-        self.assertEqual(self.of_draw({"begun": last, "ended": last + 1}, "[iso(data.begun), iso(data.ended), place(1), "
-                                      "timeOfDay(data.begun), dayOf(data.begun)]"),
+        self.assertEqual(self.of_draw({"begun": last, "ended": last + 1}, "[iso(data.begun), iso(data.ended), "
+                                      "place(1), timeOfDay(data.begun), dayOf(data.begun)]"),
                          ["9999-12-31T23:59:59.999Z", f"{last + 1} ms", f"{last + 1} ms", "23:59:59.999", "9999-12-31"])
 
     def test_lengths_of_time(self):
-        self.assertEqual(self.of_draw({}, "[0.25, 1500, 59999, 60000, 119900, 3599400, 3600000, 7199999].map(duration)"),
-                         ["0.25 ms", "1.5 s", "60 s", "1 min 0 s", "2 min 0 s", "59 min 59 s", "1 h 0 min", "2 h 0 min"])
+        self.assertEqual(self.of_draw({}, "[0.25, 1500, 59999, 60000, 119900, 3599400, 3599500, 3600000, 7199999]"
+                                      ".map(duration)"),
+                         ["0.25 ms", "1.5 s", "60 s", "1 min 0 s", "2 min 0 s", "59 min 59 s", "1 h 0 min", "1 h 0 min",
+                          "2 h 0 min"])
 
     def test_how_a_connection_ended(self):
         """By an error with a name or without one as by a reset, whatever else has such a word."""
