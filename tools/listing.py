@@ -84,9 +84,9 @@ class Connection:
 
     `name` is what it is called, and `session` the number of its session in hexadecimal: that of the connect response,
     else that which the client asked for, else None. `begun` and `ended` are the least and the greatest time of its
-    messages, in milliseconds since 1970; `ending` is its ending line, its numbers as numbers; and `backwards` counts the
-    replies whose time is before that of their request. `known` says that the session no longer changes. `facts` has the
-    facts beside its recording, or None.
+    messages, in milliseconds since 1970; `ending` is its ending line, its numbers as numbers; and `backwards` counts
+    the replies whose time is before that of their request. `known` says that the session no longer changes. `facts` has
+    the facts beside its recording, or None.
     """
 
     def __init__(self, name, facts=None):

@@ -17,8 +17,7 @@ sys.path.append(str(TOP / "bench"))
 import costs  # noqa: E402  (found by the line above)
 
 JOBS = TOP / "crates" / "bench_jobs" / "out" / "bench_jobs"
-# In the place of record.py: it ends each connection after the first request.
-# Recorders whose connections end early: each after its first bytes, or all but the first ones by a reset.
+# In the place of record.py: connections end early, each after its first bytes, or all but the first ones by a reset.
 LISTENS = """import signal, socket, struct, sys, threading
 signal.signal(signal.SIGTERM, lambda *_: sys.exit())
 listener = socket.create_server(("127.0.0.1", 0), backlog=256)
