@@ -23,7 +23,7 @@ CONNECT, EVENT = "connect", "event"
 ASKED = {CONNECT, *(operation.name for operation in operations.ALL if operation.release)}
 UNREAD = "unread"       # in place of the ending of one of many recordings, which can't be read
 # From these milliseconds on a float has not each microsecond (columns/recording.c), and not each millisecond.
-COARSE, TOO_COARSE = 8 * 10**12, 1 << 53
+COARSE, TOO_COARSE = 8e12, 2.0 ** 53
 
 # Spellings of a line. A number has no more digits than a long has.
 NUMBER = r"(?:0|-?[1-9]\d{0,18})"

@@ -319,11 +319,12 @@ class Reading:
             self.judge_path(asked.path, asked, ms, error is not None)
         elif made.op == "multi":
             self.judge_parts(talk.results(line) if error else (), asked, ms, error is not None)
+        elif made.op == "setWatches" and error is None:
+            for path in getattr(asked, "watched", ()):
+                self.set_again(path, asked)
         # A node that isn't there can be watched by exists alone.
         if getattr(asked, "is_watching", False) and (error is None or made.op == "exists" and error == "NONODE"):
             self.watch(asked.path, asked)[0] += 1
-        for path in getattr(asked, "watched", ()) if error is None else ():
-            self.set_again(path, asked)
         if self.tracing:
             self.tracing.request(connection, asked, made)
 
