@@ -183,7 +183,7 @@ class Zkplay(ToolCase):
         """It is waited for as long as it takes some bytes."""
         path, data = self.folder / "long.zkr", bytes(16_000_000)
         path.write_bytes(b"ZKR1" + zkr.Head().piece(zkr.SERVER, 0, len(data).to_bytes(4, "big") + data))
-        player, address = self.play(path, "--wait", "0.5")
+        player, address = self.play(path, "--wait", "1")
         with socket.socket() as client:
             client.setsockopt(socket.SOL_SOCKET, socket.SO_RCVBUF, 1 << 16)
             client.connect(address)
