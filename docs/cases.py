@@ -7,7 +7,7 @@ In docs/EXAMPLES.md and the page beside the cases, the code in a paragraph, in a
 cases that are named there, or last above it under the same heading. At the beginning of EXAMPLES.md it is of the case
 FIRST. Each of these has to be in one of them:
 
-- `C: 0000000f ..` or `S: ..`, among that side's bytes, and digits alone in its recording;
+- `C: 0000000f ..` or `S: ..`, among that side's bytes, and digits alone in its recording, but for a decimal number;
 - a message's line, an ending's, one of standard error, or a word of a line as `blob=~`; so is what a table has under
   the heads COLUMNS;
 - options, among its arguments.
@@ -66,11 +66,11 @@ def has(name, code):
     sides, whole, lines, words = case(name)
     if re.match(r"[CS]: [0-9a-f]{4}", code) and ".." not in code:
         return has_bytes(sides[code[0]], code[3:].replace(" ", ""))
-    if re.fullmatch(r"[0-9a-f ]{6,}", code):
+    if re.fullmatch(r"(?![1-9]\d*$)[0-9a-f ]{6,}", code):
         return has_bytes(whole, code.replace(" ", ""))
     if re.match(r"[CS] |\. |line \d+: (?!column [A-Z])", code):
         return any(re.match(rf"{re.escape(code)}(?!\w)", line) for line in lines)
-    if re.match(r"\w+=", code):
+    if re.match(r"\w+=.", code):
         return any(f" {code} " in f"{line} " for line in lines)
     if re.match(r"--\w", code):
         return any(code in f"{each} " for each in words)

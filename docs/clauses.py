@@ -6,9 +6,9 @@
 A page names clauses of a function as `call` (clause, ..) or, within brackets, as (`call`, clause, ..; ..), and calls of
 a trait or type as `Type` (call, ..). Each such word must be the name of a clause of a function of that name in
 crates/*/src, or of a call of that type; and what a table's last column names under one of the heads CARRYING a function
-or type. What any code of a page spells as `Type::call` or `crate::call` must be a function there, or a variant, and a
-name of small letters with an underscore a word of some source, or a file's. Without arguments it reads the pages of
-words.py.
+or type. What any code of a page spells as `Type::call` or `crate::call` must be a function there, a variant, or spelled
+so by a source in Rattle or Rust, and a name of small letters with an underscore a word of some source, or a file's.
+Without arguments it reads the pages of words.py.
 
 It prints what is wrong and one last line. The status is 0 if nothing is, and something was there to be checked.
 """
@@ -106,6 +106,7 @@ def in_sources():
         found.update(re.findall(r"\w+", text))
         if path.suffix in (".rt", ".rs"):
             found.update(owned(path, text))
+            found.update(re.findall(r"\b(?=(\w+::\w+))", text))
     return found
 
 

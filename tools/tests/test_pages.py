@@ -35,14 +35,14 @@ class Clauses(ToolCase):
 
     def test_a_name_in_any_code_of_a_page(self):
         page = self.folder / "PAGE.md"
-        page.write_text("`zk_jute::laws`, `Ask::Multi`, `FromRead::read`, `put_escaped`, `connect_answered`, `_view`; "
-                        "`Origin::has`, `Talk::put_escaped`, `zk_jute::read_all`, `Op::Gone`, "
-                        f"`{GONE}`\n")
+        page.write_text("`zk_jute::laws`, `Ask::Multi`, `FromRead::read`, `put_escaped`, `connect_answered`, `_view`, "
+                        "`zk_jute::ItemFault`, `Vec::new`; `Origin::has`, `Talk::put_escaped`, `zk_jute::read_all`, "
+                        f"`Op::Gone`, `{GONE}`\n")
         done = subprocess.run([sys.executable, TOP / "docs" / "clauses.py", page], capture_output=True, text=True,
                               check=False)
         self.assertEqual(done.stdout.splitlines(), [f"PAGE.md: no source has {name}" for name in (
             "Op::Gone", "Origin::has", "Talk::put_escaped", GONE, "zk_jute::read_all")] + [
-                "5 passed, 5 failed"])
+                "7 passed, 5 failed"])
         page.write_text("words\n")
         done = subprocess.run([sys.executable, TOP / "docs" / "clauses.py", page], capture_output=True, text=True,
                               check=False)
@@ -60,7 +60,7 @@ C: 00000011 00000001 00000003 00000004 2fc3a922 01
 C: the connect request
 ```
 
-`C 1 exists path="/\\c3\\a9\\22" watch=1`, with `watch=1`, `. whole unanswered=1`.
+`C 1 exists path="/\\c3\\a9\\22" watch=1`, with `watch=1`, `. whole unanswered=1`. Of no case: `watch=`, `4194304`.
 
 | Case | The frame | offset | place | reason | |
 |---|---|---|---|---|---|
