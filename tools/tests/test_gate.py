@@ -10,6 +10,9 @@ from support import TOP, ToolCase
 
 CRATES = "# each crate\nlow:\nhigh: low\nother:\nlow_tests: low\nzkdump: high\n"
 PASSED, SKIPPED = "1 passed, 0 failed", "skipped: the stored cases, since the program isn't built"
+# The variables without those that name a repository, as a hook of git has them, or settings.
+OWN = {**{name: value for name, value in os.environ.items() if not name.startswith("GIT_")},
+       "GIT_CONFIG_GLOBAL": os.devnull}
 
 
 class Quick(ToolCase):
@@ -79,13 +82,13 @@ class Whole(ToolCase):
 
     def git(self, *words):
         who = ("-c", "user.name=one", "-c", "user.email=one@example.org")
-        return subprocess.run(["git", *who, *words], cwd=self.folder, capture_output=True, text=True,
+        return subprocess.run(["git", *who, *words], cwd=self.folder, env=OWN, capture_output=True, text=True,
                               check=True).stdout.strip()
 
     def whole(self):
         """The status, and the line of the commit, if it is there."""
         done = subprocess.run([self.folder / "test"], capture_output=True, text=True, check=False,
-                              env={**os.environ, "PATH": f"{self.folder / 'bin'}:{os.environ['PATH']}"})
+                              env={**OWN, "PATH": f"{self.folder / 'bin'}:{os.environ['PATH']}"})
         found = re.findall(r"^commit: (.*)$", done.stdout, re.M)
         return done.returncode, found[0] if found else None
 
