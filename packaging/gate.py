@@ -28,7 +28,8 @@ def commit():
 def lines(begun=None):
     """These lines; `begun` is the commit with which the gate began."""
     now = commit()
-    yield f"commit: {now if begun in (None, now) else 'none, since the gate began with another'}"
+    same = begun in (None, now) or now.startswith("none")
+    yield f"commit: {now if same else 'none, since the gate began with another'}"
     for path in (PROGRAM, LIBRARY):
         yield f"sha256 of {path.relative_to(TOP)}: {hashlib.sha256(path.read_bytes()).hexdigest()}"
 

@@ -102,6 +102,9 @@ class Whole(ToolCase):
         self.assertEqual(self.whole(), (0, "none, since the gate began with another"))
         (self.folder / "bin" / "rt").write_text("#!/bin/sh\ngit checkout --quiet .\n")
         self.assertEqual(self.whole(), (0, "none, since the gate began with another"))
+        (self.folder / "bin" / "rt").write_text("#!/bin/sh\ntouch more\n")
+        self.git("commit", "--quiet", "--all", "--message=third")
+        self.assertEqual(self.whole(), (0, "none, since the tree has changes"))
 
     def test_a_step_that_says_nothing(self):
         (self.folder / "tests" / "devices.py").write_text("")
