@@ -93,6 +93,7 @@ struct frame *frame_new(struct connection *connection, packet_info *pinfo, const
         call_answer(connection, pinfo, frame);
         if (frame->call) {
             struct way *client = connection->way + ZK_CLIENT;
+            connection->sureness = KNOWN;
             way->sure = TRUE;
             client->sure |= !client->sought && frame->call->asked >= client->since;
         }

@@ -31,7 +31,7 @@ void begin_sides(struct connection *connection, packet_info *pinfo) {
     const struct tcp_analysis *tcp = tcp_of(pinfo);
     guint32 port = tcp ? tcp->server_port : 0;
     set_server(connection, pinfo, is_to_server(pinfo, port));
-    connection->server_known = port != 0;
+    connection->sureness = port != 0 ? KNOWN : GUESSED;
 }
 
 guint32 side_of(const struct connection *connection, const packet_info *pinfo) {
@@ -53,21 +53,6 @@ gboolean is_connect(guint32 side, const guint8 *bytes, guint32 there) {
     return judged.status == ZK_WELL;
 }
 
-/* Who says these bytes: whose connect message they are, or whose frames are found in them first. */
-static guint32 speaker_of(const guint8 *bytes, guint32 there) {
-    for (guint32 side = ZK_CLIENT; side <= ZK_SERVER; side++) {
-        if (is_connect(side, bytes, there)) {
-            return side;
-        }
-    }
-    struct hole_end client = hole_end(ZK_CLIENT, bytes, there, pref_limit);
-    struct hole_end server = hole_end(ZK_SERVER, bytes, there, pref_limit);
-    if (client.found && server.found) {
-        return client.place < server.place ? ZK_CLIENT : ZK_SERVER;
-    }
-    return client.found ? ZK_CLIENT : server.found ? ZK_SERVER : NOBODY;
-}
-
 /* Whose frame may begin here, of which the front is there. */
 static guint32 may_be_of(const guint8 *bytes, guint32 there) {
     gboolean client = frame_is_plausible(ZK_CLIENT, bytes, there, pref_limit);
@@ -75,19 +60,41 @@ static guint32 may_be_of(const guint8 *bytes, guint32 there) {
     return client == server ? NOBODY : client ? ZK_CLIENT : ZK_SERVER;
 }
 
+struct speaker {
+    guint32 side;
+    enum sureness sureness;
+};
+
+/* Who says these bytes: whose connect message they are, or whose frames are found in them first. */
+static struct speaker speaker_of(const guint8 *bytes, guint32 there) {
+    for (guint32 side = ZK_CLIENT; side <= ZK_SERVER; side++) {
+        if (is_connect(side, bytes, there)) {
+            return (struct speaker){side, KNOWN};
+        }
+    }
+    struct hole_end client = hole_end(ZK_CLIENT, bytes, there, pref_limit);
+    struct hole_end server = hole_end(ZK_SERVER, bytes, there, pref_limit);
+    if (!client.found && !server.found) {
+        return (struct speaker){may_be_of(bytes, there), GUESSED};
+    }
+    gboolean is_client = client.found && (!server.found || client.place < server.place);
+    gsize place = is_client ? client.place : server.place;
+    return (struct speaker){is_client ? ZK_CLIENT : ZK_SERVER, place > 0 ? WITHIN : FROM_FIRST};
+}
+
 void learn_server(struct connection *connection, packet_info *pinfo, const guint8 *bytes, guint32 there) {
-    if (connection->server_known || PINFO_FD_VISITED(pinfo)) {
+    if (connection->sureness == KNOWN || PINFO_FD_VISITED(pinfo)) {
         return;
     }
-    guint32 speaker = speaker_of(bytes, there);
-    connection->server_known = speaker != NOBODY;
-    if (!connection->server_known) {
-        speaker = may_be_of(bytes, there);
+    struct speaker speaker = speaker_of(bytes, there);
+    if (speaker.side == NOBODY || speaker.sureness < connection->sureness) {
+        return;
     }
-    if (speaker != NOBODY && speaker != side_of(connection, pinfo)) {
+    connection->sureness = speaker.sureness;
+    if (speaker.side != side_of(connection, pinfo)) {
         struct way client = connection->way[ZK_CLIENT];
         connection->way[ZK_CLIENT] = connection->way[ZK_SERVER];
         connection->way[ZK_SERVER] = client;
-        set_server(connection, pinfo, speaker == ZK_CLIENT);
+        set_server(connection, pinfo, speaker.side == ZK_CLIENT);
     }
 }

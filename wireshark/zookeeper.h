@@ -101,10 +101,15 @@ struct calls {
     struct call *oldest, *newest;
 };
 
+/* By what it is known which end of a connection is the server: by ports, or the front of a frame; by frames within a
+ * packet, which a node's data may have, too; by frames from a packet's first byte on; by the SYN, a connect message, or
+ * a reply whose request was found. */
+enum sureness { GUESSED, WITHIN, FROM_FIRST, KNOWN };
+
 struct connection {
     address server;
     guint32 port;
-    gboolean server_known;   /* by the SYN, or by what was said */
+    enum sureness sureness;  /* of which end is the server */
     struct way way[2];
     gboolean words;          /* the client says words of four letters */
     gboolean late;           /* the connection isn't whole in the capture */
