@@ -57,18 +57,24 @@ class Odd:
             yield found == ["ruok", "imok"], f"{found}"
 
     def test_frames_within_a_data(self):
-        """Where a capture begins, without its SYN, in a client's data that has replies, the sides aren't exchanged."""
+        """Where a capture begins, without its SYN, in a client's data that has replies, the sides aren't exchanged, also
+        where a segment begins with these: the port is a server's, or messages come that say otherwise."""
         replies = "00000010 00000001 0000000000000005 00000000" * 3
-        text = f"00000001 00000005 00000002 2f61 00000900 {'61' * 2000 + replies + '61' * 244} ffffffff"
-        pieces = [*HEADS, piece(zkr.CLIENT, text), piece(zkr.SERVER, "00000001 0000000000000005 ffffff9b")]
-        for xid in range(2, 6):
-            pieces += (piece(zkr.CLIENT, f"{xid:08x} 00000003 00000002 2f61 01"),
-                       piece(zkr.SERVER, f"{xid:08x} 0000000000000005 ffffff9b"))
-        sent = list(wire.conversation(pieces))
-        first = next(at for at, each in enumerate(sent) if bytes.fromhex(replies) in each.data)
-        found = self.plugin.frames(wire.pcap(packed(sent[first:])), "-2")[-8:]
-        shown = [(each["side"], each["xid"]) for each in found]
-        yield shown == [([side], [str(xid)]) for xid in range(2, 6) for side in "01"], f"{shown}"
+        for before, port in ((2000, 2181), (1426, 2181), (2000, 9999), (1426, 9999)):  # 1448 bytes begin with 22 others
+            data = "61" * before + replies + "61" * (2244 - before)
+            pieces = [*HEADS, piece(zkr.CLIENT, f"00000001 00000005 00000002 2f61 00000900 {data} ffffffff"),
+                      piece(zkr.SERVER, "00000001 0000000000000005 ffffff9b")]
+            for xid in range(2, 6):
+                pieces += (piece(zkr.CLIENT, f"{xid:08x} 00000003 00000002 2f61 01"),
+                           piece(zkr.SERVER, f"{xid:08x} 0000000000000005 ffffff9b"))
+            sent = list(wire.conversation(pieces))
+            first = next(at for at, each in enumerate(sent) if bytes.fromhex(replies) in each.data)
+            capture = wire.pcap(packed(sent[first:], server=port))
+            found = self.plugin.frames(capture, "-2", "-d", f"tcp.port=={port},zookeeper")
+            wrong = [each["packet"] for each in found if each["kind"] == ["4"] and each["side"] == ["0"]]
+            shown = [(each["side"], each["xid"]) for each in found[-8:]]
+            yield shown == [([side], [str(xid)]) for xid in range(2, 6) for side in "01"], f"{before}, {port}: {shown}"
+            yield port != 2181 or not wrong, f"{before}, {port}: replies of the client in {wrong}"
 
     def test_secrets_that_are_not_read_are_hidden(self):
         """A credential after a fault, as of an auth under another xid, the front of one that was cut, and SASL's, also

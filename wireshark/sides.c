@@ -1,11 +1,13 @@
 /* sides.c
- * Which end of a connection is the server: the one that TCP's SYN names, or else the one that what is said fits.
+ * Which end of a connection is the server: the one that TCP's SYN or zookeeper.tcp.port names, or else the one that what
+ * is said fits.
  *
  * SPDX-License-Identifier: GPL-2.0-or-later
  */
 #include "zookeeper.h"
 
 #include <epan/conversation.h>
+#include <epan/prefs.h>
 
 #include "hole.h"
 
@@ -15,8 +17,19 @@ const struct tcp_analysis *tcp_of(packet_info *pinfo) {
     return (const struct tcp_analysis *)conversation_get_proto_data(find_or_create_conversation(pinfo), proto_tcp);
 }
 
-/* Whether a packet goes to the server, as far as ports say it. Without a SYN that is the port that ZooKeeper was found
- * by, which may be the client's where a user names that in Decode As. */
+/* The server's port, by the SYN or by zookeeper.tcp.port; 0: neither says which of the two it is. */
+static guint32 server_port(packet_info *pinfo) {
+    const struct tcp_analysis *tcp = tcp_of(pinfo);
+    if (tcp && tcp->server_port != 0) {
+        return tcp->server_port;
+    }
+    const range_t *servers = prefs_get_range_value("zookeeper", "tcp.port");
+    gboolean to_server = value_is_in_range(servers, pinfo->destport);
+    return to_server == value_is_in_range(servers, pinfo->srcport) ? 0 : to_server ? pinfo->destport : pinfo->srcport;
+}
+
+/* Whether a packet goes to the server, as far as ports say it. Where that isn't known, it is the port that ZooKeeper was
+ * found by, which may be the client's where a user names that in Decode As. */
 static gboolean is_to_server(const packet_info *pinfo, guint32 known) {
     guint32 port = known ? known : pinfo->match_uint;
     return port == pinfo->destport || (port != pinfo->srcport && pinfo->destport < pinfo->srcport);
@@ -28,8 +41,7 @@ static void set_server(struct connection *connection, const packet_info *pinfo, 
 }
 
 void begin_sides(struct connection *connection, packet_info *pinfo) {
-    const struct tcp_analysis *tcp = tcp_of(pinfo);
-    guint32 port = tcp ? tcp->server_port : 0;
+    guint32 port = server_port(pinfo);
     set_server(connection, pinfo, is_to_server(pinfo, port));
     connection->sureness = port != 0 ? KNOWN : GUESSED;
 }

@@ -101,9 +101,9 @@ struct calls {
     struct call *oldest, *newest;
 };
 
-/* By what it is known which end of a connection is the server: by ports, or the front of a frame; by frames within a
- * packet, which a node's data may have, too; by frames from a packet's first byte on; by the SYN, a connect message, or
- * a reply whose request was found. */
+/* By what it is known which end of a connection is the server: by the lower port, or the front of a frame; by frames
+ * within a packet, which a node's data may have, too; by frames from a packet's first byte on; by the SYN, the port of
+ * zookeeper.tcp.port, a connect message, or a reply whose request was found. */
 enum sureness { GUESSED, WITHIN, FROM_FIRST, KNOWN };
 
 struct connection {
