@@ -46,14 +46,15 @@ def words(text):
 
 
 def imports(text, keyword):
-    """What the lines `use Rattle.A.B.{x, y as z}` and `use Rattle.A.B as c` bring: a word to (module, name)."""
+    """What the lines `use Rattle.A.{B.x, B.y as z}` and `use Rattle.A.B as c` bring: a word to (module, name)."""
     for line in re.finditer(rf"^ *{keyword} (Rattle\.\S+?)(?:\.\{{(.*?)\}}| as (\S+?));?$", text, re.M | re.S):
         if line[3]:
             yield line[3], (line[1], None)
             continue
         for entry in line[2].split(","):
-            name, _, other = entry.strip().partition(" as ")
-            yield other or name, (line[1], name)
+            path, _, other = entry.strip().partition(" as ")
+            module, _, name = f"{line[1]}.{path}".rpartition(".")
+            yield other or name, (module, name)
 
 
 class Definition:

@@ -1,19 +1,13 @@
 -- Bodies: each has the items of its operation's shape, and they tell it apart.
 use Rattle.std.proofs.Common.{◌≡◌, List, [], refl, sym, ap, subst, ◌∙◌}
 use Rattle.std.proofs.lemmas.List.{append-nil}
-use Rattle.zk_jute.specs.Item.{Item, bytes_of, HaveBytes}
-use Rattle.zk_jute.specs.Wired.{Wired}
+use Rattle.zk_jute.specs.{Item.Item, Item.bytes_of, Item.HaveBytes, Wired.Wired}
 use Rattle.zk_jute.proofs.Layouts.{bytes_only}
-use Rattle.zk_records.specs.declared.op.Op.{Op}
+use Rattle.zk_records.specs.{declared.op.Op.Op, declared.op.PartOp.PartOp}
 use Rattle.zk_records.specs.declared.op.Op.TheVariants as ops
-use Rattle.zk_records.specs.declared.op.PartOp.{PartOp}
-use Rattle.zk_answers.specs.Held.{Body, PartDone}
+use Rattle.zk_answers.specs.{Held.Body, Held.PartDone, Results.AnswerAll, Frames.BodyFits, Faults.IsOfShape, Faults.shape_in, Faults.body_shape}
 use Rattle.zk_answers.specs.declared.frame.BodyOf.TheVariants as body
-use Rattle.zk_answers.specs.Rows.{Row, holds, bare, multi, row_of, by_op, Content, remake, items_in}
-use Rattle.zk_answers.specs.Results.{AnswerAll}
-use Rattle.zk_answers.specs.Frames.{BodyFits}
-use Rattle.zk_answers.specs.Rows.{op_of_body, body_items}
-use Rattle.zk_answers.specs.Faults.{IsOfShape, shape_in, body_shape}
+use Rattle.zk_answers.specs.Rows.{Row, holds, bare, multi, row_of, by_op, Content, remake, items_in, op_of_body, body_items}
 use Rattle.zk_answers.proofs.Results.{multi_only}
 
 -- a body is its operation and its content

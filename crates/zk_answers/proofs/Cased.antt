@@ -2,22 +2,15 @@
 use Rattle.std.proofs.Common.{◌≡◌, ℕ, ◌+◌, inl, inr, List, [], ◌∷◌, ◌++◌, length, refl, sym, ap, subst, ◌∙◌, append_assoc, arith}
 use Rattle.std.specs.Prelude.{ℤ}
 use Rattle.std.proofs.lemmas.List.{append-nil, length-append}
-use Rattle.zk_jute.specs.declared.fault.Reason.{Reason}
-use Rattle.zk_jute.specs.declared.fault.Reason.TheVariants.{BadPart}
-use Rattle.zk_jute.specs.Item.{Kind, Int, Item, kind_of, bytes_of, HaveBytes}
-use Rattle.zk_jute.specs.Layout.{IsValueOf}
-use Rattle.zk_jute.specs.Apart.{cons_is}
+use Rattle.zk_jute.specs.{declared.fault.Reason.Reason, declared.fault.Reason.TheVariants.BadPart, Item.Kind, Item.Int, Item.Item, Item.kind_of, Item.bytes_of, Item.HaveBytes, Layout.IsValueOf, Apart.cons_is}
 use Rattle.zk_jute.specs.Faults.{IsNext, IsBad, IsFault, Opens}
 use Rattle.zk_jute.proofs.Layouts.{bytes_both, have_parts}
-use Rattle.zk_records.specs.declared.header.MultiHeader.{MultiHeader}
-use Rattle.zk_records.specs.declared.op.PartOp.{PartOp}
+use Rattle.zk_records.specs.{declared.header.MultiHeader.MultiHeader, declared.op.PartOp.PartOp}
 use Rattle.zk_asks.specs.Parts.{marked, end_header}
-use Rattle.zk_asks.proofs.Openings.{cut}
-use Rattle.zk_asks.proofs.Opened.{within_mark, within_record, past_front}
+use Rattle.zk_asks.proofs.{Openings.cut, Opened.within_mark, Opened.within_record, Opened.past_front}
 use Rattle.zk_answers.specs.Results.{result_header, error_header, result_layout, IsDoneFault, in_mark, bad_mark, in_result, in_error, other_error, behind_result, behind_error}
 use Rattle.zk_answers.specs.Openings.{number_items, AreResults, no_result, a_result, an_error, Ends, AreMarked, last, result_before, error_before, IsBadMark, no_mark, no_number, IsBadPart, bad_part}
-use Rattle.zk_answers.proofs.Dones.{result_bytes, an_int}
-use Rattle.zk_answers.proofs.Opened.{ending}
+use Rattle.zk_answers.proofs.{Dones.result_bytes, Dones.an_int, Opened.ending}
 
 module _ (op : PartOp) (ops : List PartOp) where
   -- an opening within a part's result, which goes on

@@ -1,18 +1,10 @@
 -- Connect responses: a fault is unique and excludes each frame, and frames tell their payloads apart.
 use Rattle.std.proofs.Common.{◌≡◌, ℕ, Bool, Option, List, ◌++◌, ap, ◌∙◌}
-use Rattle.zk_jute.specs.declared.fault.Reason.{Reason}
-use Rattle.zk_jute.specs.Item.{HaveBytes}
-use Rattle.zk_jute.specs.Layout.{IsValueOf}
-use Rattle.zk_jute.specs.Flagged.{flag_items}
-use Rattle.zk_jute.proofs.Layouts.{have_parts}
-use Rattle.zk_jute.proofs.Sequels.{Same}
-use Rattle.zk_jute.proofs.Flagged.{flagged_unique, flagged_excludes, flagged_injective}
-use Rattle.zk_records.specs.Held.{ConnectResponse}
-use Rattle.zk_records.specs.Records.{connect_response}
-use Rattle.zk_answers.specs.Held.{ServerFrame}
+use Rattle.zk_jute.specs.{declared.fault.Reason.Reason, Item.HaveBytes, Layout.IsValueOf, Flagged.flag_items}
+use Rattle.zk_jute.proofs.{Layouts.have_parts, Sequels.Same, Flagged.flagged_unique, Flagged.flagged_excludes, Flagged.flagged_injective}
+use Rattle.zk_records.specs.{Held.ConnectResponse, Records.connect_response}
+use Rattle.zk_answers.specs.{Held.ServerFrame, Frames.IsConnected, Frames.IsSent, Frames.payload, Faults.IsConnectedFault}
 use Rattle.zk_answers.specs.declared.frame.ServerFrameOf.TheVariants as frame
-use Rattle.zk_answers.specs.Frames.{IsConnected, IsSent, payload}
-use Rattle.zk_answers.specs.Faults.{IsConnectedFault}
 
 hello_is : (hello : ConnectResponse) (flag : Option Bool) → HaveBytes (connect_response.items hello ++ flag_items flag) → IsValueOf connect_response.layout (connect_response.items hello)
 hello_is hello flag have = (connect_response.unfolds hello, (have_parts (connect_response.items hello) (flag_items flag) have).0)

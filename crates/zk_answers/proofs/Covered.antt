@@ -1,20 +1,13 @@
 -- The fault of a reply or an event over its openings is the one of the reader's cases.
 use Rattle.std.proofs.Common.{◌≡◌, ℕ, ◌+◌, ◌⊎◌, inl, inr, List, ◌++◌, length, refl, sym, ap, subst, ◌∙◌, append_assoc, arith}
 use Rattle.std.proofs.lemmas.List.{append_cancel_left, length-append}
-use Rattle.zk_jute.specs.declared.fault.Reason.{Reason}
-use Rattle.zk_jute.specs.declared.fault.Reason.TheVariants.{BadPart}
-use Rattle.zk_jute.specs.Item.{Item, bytes_of}
-use Rattle.zk_jute.specs.Faults.{IsFault, IsTrailing}
+use Rattle.zk_jute.specs.{declared.fault.Reason.Reason, declared.fault.Reason.TheVariants.BadPart, Item.Item, Item.bytes_of, Faults.IsFault, Faults.IsTrailing}
 use Rattle.zk_jute.proofs.Layouts.{bytes_both}
-use Rattle.zk_records.specs.declared.header.ReplyHeader.{ReplyHeader}
-use Rattle.zk_records.specs.declared.op.Op.{Op}
-use Rattle.zk_records.specs.declared.op.PartOp.{PartOp}
-use Rattle.zk_records.specs.Records.{reply_header, watcher_event}
+use Rattle.zk_records.specs.{declared.header.ReplyHeader.ReplyHeader, declared.op.Op.Op, declared.op.PartOp.PartOp, Records.reply_header, Records.watcher_event}
 use Rattle.zk_asks.proofs.Openings.{behind_front, drop_front}
 use Rattle.zk_answers.specs.Faults.{Shape, Fields, Results, IsOfShape, IsShapeFault, IsRestFault, in_shape, past_shape, rest_shape, IsHead, IsReplyFault, in_head, in_rest, IsEventFault, in_header, bad_err, in_event}
 use Rattle.zk_answers.specs.Openings.{IsOpened, IsBadIn, IsBehind, IsOpeningBehind, of_item, of_part, of_rest, IsReplyOpening, reply_header_of, reply_rest_of, IsEventOpening, event_header_of, event_err_of, event_rest_of}
-use Rattle.zk_answers.proofs.Opened.{done_opened}
-use Rattle.zk_answers.proofs.Cased.{marked_cased, part_cased}
+use Rattle.zk_answers.proofs.{Opened.done_opened, Cased.marked_cased, Cased.part_cased}
 
 shape_opened : (shape : Shape) (bytes : List ℕ) (p : ℕ) (r : Reason) → IsShapeFault shape bytes p r → IsFault (IsOpened shape) bytes p r ⊎ (IsBadIn shape bytes p × (r ≡ BadPart))
 shape_opened (Fields l) bytes p r f = inl f

@@ -4,24 +4,16 @@ use Rattle.std.specs.Prelude.{◌≢◌, ℤ, pos, negsuc}
 use Rattle.std.specs.List.{flat_map}
 use Rattle.std.proofs.lemmas.List.{append-nil}
 use Rattle.zk_jute.specs.declared.fault.Reason.TheVariants.{Trailing, EventErr, BadPart}
-use Rattle.zk_jute.specs.Item.{Int, Item, AnInt, bytes_of, HaveBytes}
-use Rattle.zk_jute.specs.Layout.{Layout, End, One, Unfolds, IsValueOf}
-use Rattle.zk_jute.specs.Wired.{ustring, vector}
-use Rattle.zk_jute.proofs.Steps.{IsBytes}
-use Rattle.zk_jute.proofs.Layouts.{have_both, bytes_both}
-use Rattle.zk_jute.proofs.Covers.{Covers, int_covered, text_covered, vector_covered}
+use Rattle.zk_jute.specs.{Item.Int, Item.Item, Item.AnInt, Item.bytes_of, Item.HaveBytes, Layout.Layout, Layout.End, Layout.One, Layout.Unfolds, Layout.IsValueOf, Wired.ustring, Wired.vector}
+use Rattle.zk_jute.proofs.{Steps.IsBytes, Layouts.have_both, Layouts.bytes_both, Covers.Covers, Covers.int_covered, Covers.text_covered, Covers.vector_covered}
 use Rattle.zk_jute.proofs.Deciding.{Starts, HasFault, layout_decided, left, whole_of, flagged_decided}
-use Rattle.zk_records.specs.Records.{connect_response, reply_header, multi_header, watcher_event}
-use Rattle.zk_records.specs.declared.header.ReplyHeader.{ReplyHeader}
-use Rattle.zk_records.specs.declared.header.MultiHeader.{MultiHeader}
-use Rattle.zk_records.specs.declared.op.Op.{Op}
+use Rattle.zk_records.specs.{Records.connect_response, Records.reply_header, Records.multi_header, Records.watcher_event, declared.header.ReplyHeader.ReplyHeader, declared.header.MultiHeader.MultiHeader, declared.op.Op.Op}
 use Rattle.zk_records.specs.declared.op.Op.TheVariants as ops
 use Rattle.zk_records.specs.declared.op.PartOp.{PartOp}
 use Rattle.zk_records.specs.declared.op.PartOp.TheVariants as parts
 use Rattle.zk_records.proofs.Covered.{connect_response_covered, reply_header_covered, multi_header_covered, watcher_event_covered, stat_covered, data_body_covered, acl_body_covered, children_body_covered, create_body_covered}
 use Rattle.zk_asks.specs.Parts.{end_header, marked}
-use Rattle.zk_asks.proofs.Choices.{int_decided, header_decided}
-use Rattle.zk_asks.proofs.Deciding.{flagged_whole}
+use Rattle.zk_asks.proofs.{Choices.int_decided, Choices.header_decided, Deciding.flagged_whole}
 use Rattle.zk_answers.specs.Held.{PartDone, Body, Reply, ServerFrame}
 use Rattle.zk_answers.specs.declared.frame.PartDoneOf.TheVariants as done
 use Rattle.zk_answers.specs.declared.frame.OutcomeOf.TheVariants as outcome
@@ -30,9 +22,7 @@ use Rattle.zk_answers.specs.Results.{result_header, error_header, done_items, mu
 use Rattle.zk_answers.specs.Rows.{Row, holds, bare, multi, row_of, Content, remake, items_in, op_of_body, body_items}
 use Rattle.zk_answers.specs.Faults.{IsConnectedFault, IsHead, IsHeadFault, Shape, Fields, Results, IsRestFault, in_shape, past_shape, shape_in, body_shape, rest_shape, IsReplyFault, in_rest, IsEventFault, bad_err, in_event}
 use Rattle.zk_answers.specs.Frames.{event_header, header_of, IsConnected, IsEvent, IsSent, IsReplyTo, BodyFits, payload}
-use Rattle.zk_answers.proofs.Bodies.{made_is, RowFits, made_fits}
-use Rattle.zk_answers.proofs.Dones.{Result, done_of, result_items, items_of, own_made}
-use Rattle.zk_answers.proofs.Replies.{failed_shape}
+use Rattle.zk_answers.proofs.{Bodies.made_is, Bodies.RowFits, Bodies.made_fits, Dones.Result, Dones.done_of, Dones.result_items, Dones.items_of, Dones.own_made, Replies.failed_shape}
 
 -- ---- the first payload
 

@@ -2,21 +2,11 @@
 use Rattle.std.proofs.Common.{◌≡◌, ℕ, ◌⊎◌, inl, inr, List, [], ◌∷◌, ◌++◌, refl, sym, ap, subst, ◌∙◌, append_assoc, arith}
 use Rattle.std.specs.Prelude.{ℤ, negsuc}
 use Rattle.std.specs.List.{flat_map}
-use Rattle.std.proofs.lemmas.Int.{ints}
-use Rattle.std.proofs.lemmas.List.{append-nil}
-use Rattle.zk_jute.specs.Held.{Text}
-use Rattle.zk_jute.specs.Item.{Item, AnInt, bytes_of, HaveBytes}
-use Rattle.zk_jute.specs.Layout.{IsValueOf, Unfolds, One, End}
-use Rattle.zk_jute.specs.Item.{Int}
-use Rattle.zk_jute.specs.Values.{text_items, text_unfolds, text_apart}
-use Rattle.zk_jute.specs.Wired.{int}
+use Rattle.std.proofs.{lemmas.Int.ints, lemmas.List.append-nil}
+use Rattle.zk_jute.specs.{Held.Text, Item.Item, Item.AnInt, Item.bytes_of, Item.HaveBytes, Item.Int, Layout.IsValueOf, Layout.Unfolds, Layout.One, Layout.End, Values.text_items, Values.text_unfolds, Values.text_apart, Wired.int}
 use Rattle.zk_jute.proofs.Layouts.{bytes_both}
-use Rattle.zk_records.specs.declared.header.MultiHeader.{MultiHeader}
-use Rattle.zk_records.specs.declared.stat.Stat.{Stat}
-use Rattle.zk_records.specs.declared.op.PartOp.{PartOp}
+use Rattle.zk_records.specs.{declared.header.MultiHeader.MultiHeader, declared.stat.Stat.Stat, declared.op.PartOp.PartOp, Codes.part_number, Records.multi_header, Records.stat}
 use Rattle.zk_records.specs.declared.op.PartOp.TheVariants as parts
-use Rattle.zk_records.specs.Codes.{part_number}
-use Rattle.zk_records.specs.Records.{multi_header, stat}
 use Rattle.zk_answers.specs.Held.{PartDone}
 use Rattle.zk_answers.specs.declared.frame.PartDoneOf.TheVariants as done
 use Rattle.zk_asks.specs.Parts.{end_header, marked}

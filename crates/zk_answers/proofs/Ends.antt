@@ -4,35 +4,22 @@ use Rattle.std.specs.Prelude.{pos, negsuc, ℤ, IfOk, IfErr}
 use Rattle.std.specs.Int.{w32}
 use Rattle.std.proofs.lemmas.Int.{to_z-of_z}
 use lib.Signed.{mag}
-use Rattle.std.proofs.Math.Seq.{drop-append_seam}
-use Rattle.std.proofs.lemmas.List.{length-append}
-use Rattle.zk_jute.specs.declared.fault.ItemFault.{ItemFault}
-use Rattle.zk_jute.specs.Item.{Item, bytes_of, HaveBytes}
-use Rattle.zk_jute.specs.Layout.{Layout, End, Unfolds, IsValueOf}
-use Rattle.zk_jute.specs.Told.{StandsAt, HasSureFault, IsToldAt, IsSurelyToldAt}
+use Rattle.std.proofs.{Math.Seq.drop-append_seam, lemmas.List.length-append}
+use Rattle.zk_jute.specs.{declared.fault.ItemFault.ItemFault, Item.Item, Item.bytes_of, Item.HaveBytes, Layout.Layout, Layout.End, Layout.Unfolds, Layout.IsValueOf, Told.StandsAt, Told.HasSureFault, Told.IsToldAt, Told.IsSurelyToldAt}
 use Rattle.zk_jute.specs.Verdict.{Says, IsValueAt}
-use Rattle.zk_jute.proofs.Covers.{text_covered}
-use Rattle.zk_jute.proofs.Judged.{errs_more}
-use Rattle.zk_records.specs.Records.{reply_header}
-use Rattle.zk_records.specs.declared.header.ReplyHeader.{ReplyHeader}
-use Rattle.zk_records.specs.declared.op.Op.{Op}
+use Rattle.zk_jute.proofs.{Covers.text_covered, Judged.errs_more}
+use Rattle.zk_records.specs.{Records.reply_header, declared.header.ReplyHeader.ReplyHeader, declared.op.Op.Op, declared.op.PartOp.PartOp}
 use Rattle.zk_records.specs.declared.op.Op.TheVariants as ops
-use Rattle.zk_records.specs.declared.op.PartOp.{PartOp}
 use Rattle.zk_records.specs.declared.op.PartOp.TheVariants as parts
 use Rattle.zk_records.proofs.Covered.{stat_covered}
-use Rattle.zk_answers.specs.Held.{Body, Outcome, PartDone}
+use Rattle.zk_answers.specs.{Held.Body, Held.Outcome, Held.PartDone, Results.Own, Results.IsDoneFault, Results.result_of, Results.result_layout, Fronts.AreDonesAt, Fronts.IsReplyUnder, Fronts.IsResultAt}
 use Rattle.zk_answers.specs.declared.frame.PartDoneOf.TheVariants as done
 use Rattle.zk_answers.specs.declared.frame.BodyOf.TheVariants as body
 use Rattle.zk_answers.specs.declared.frame.OutcomeOf.TheVariants as outcome
-use Rattle.zk_answers.specs.Results.{Own, IsDoneFault, result_of, result_layout}
 use Rattle.zk_answers.specs.Rows.{Row, holds, bare, multi, row_of, Content, remake, items_in, body_items}
 use Rattle.zk_answers.specs.Faults.{Shape, Fields, Results, IsShapeFault, shape_in, body_shape, IsHead}
-use Rattle.zk_answers.specs.Fronts.{AreDonesAt, IsReplyUnder, IsResultAt}
 use Rattle.zk_answers.specs.Scanned.{IsBodyAt, IsOutcomeAt}
-use Rattle.zk_answers.proofs.Bodies.{made_is, RowFits, made_fits}
-use Rattle.zk_answers.proofs.Deciding.{Covered, covered}
-use Rattle.zk_answers.proofs.Heads.{head_is}
-use Rattle.zk_answers.proofs.Refusals.{reply_found}
+use Rattle.zk_answers.proofs.{Bodies.made_is, Bodies.RowFits, Bodies.made_fits, Deciding.Covered, Deciding.covered, Heads.head_is, Refusals.reply_found}
 
 -- what a row's fields are is of its content
 row_covered : (r : Row) → Covered r → (left : List PartOp) (l : Layout) → shape_in r left ≡ Fields l → (items : List Item) → Unfolds l items → (x : Content r) × RowFits r left x × (items_in r x ≡ items)

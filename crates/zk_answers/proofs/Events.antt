@@ -2,21 +2,13 @@
 use Rattle.std.proofs.Common.{◌≡◌, ℕ, ◌+◌, ◌⊎◌, inl, inr, List, [], ◌++◌, refl, sym, ap, ◌∙◌, arith}
 use Rattle.std.specs.Prelude.{◌≢◌, ℤ, pos}
 use Rattle.std.proofs.lemmas.List.{append-nil}
-use Rattle.zk_jute.specs.declared.fault.Reason.{Reason}
-use Rattle.zk_jute.specs.declared.fault.Reason.TheVariants.{EventErr}
-use Rattle.zk_jute.specs.Item.{bytes_of, HaveBytes}
-use Rattle.zk_jute.specs.Layout.{IsValueOf}
-use Rattle.zk_jute.proofs.Layouts.{bytes_only, have_parts}
-use Rattle.zk_jute.proofs.Sequels.{Same}
-use Rattle.zk_records.specs.declared.header.ReplyHeader.{ReplyHeader}
-use Rattle.zk_records.specs.Held.{WatcherEvent}
-use Rattle.zk_records.specs.Records.{reply_header, watcher_event}
-use Rattle.zk_answers.specs.Held.{ServerFrame}
+use Rattle.zk_jute.specs.{declared.fault.Reason.Reason, declared.fault.Reason.TheVariants.EventErr, Item.bytes_of, Item.HaveBytes, Layout.IsValueOf}
+use Rattle.zk_jute.proofs.{Layouts.bytes_only, Layouts.have_parts, Sequels.Same}
+use Rattle.zk_records.specs.{declared.header.ReplyHeader.ReplyHeader, Held.WatcherEvent, Records.reply_header, Records.watcher_event}
+use Rattle.zk_answers.specs.{Held.ServerFrame, Frames.event_header, Frames.IsEvent, Frames.IsSent, Frames.payload}
 use Rattle.zk_answers.specs.declared.frame.ServerFrameOf.TheVariants as frame
-use Rattle.zk_answers.specs.Frames.{event_header, IsEvent, IsSent, payload}
 use Rattle.zk_answers.specs.Faults.{Fields, IsHead, IsRestFault, IsEventFault, in_header, bad_err, in_event}
-use Rattle.zk_answers.proofs.Heads.{Headed, headed_unique, headed_excludes, head_unique, stands_head}
-use Rattle.zk_answers.proofs.Rests.{rest_unique, rest_excludes}
+use Rattle.zk_answers.proofs.{Heads.Headed, Heads.headed_unique, Heads.headed_excludes, Heads.head_unique, Heads.stands_head, Rests.rest_unique, Rests.rest_excludes}
 
 abbrev pub Judged : ReplyHeader → List ℕ → ℕ → Reason → Type 0
 Judged header rest p r = ((header.err ≢ pos 0) × (p ≡ 12) × (r ≡ EventErr)) ⊎ ((header.err ≡ pos 0) × (behind : ℕ) × (p ≡ 16 + behind) × IsRestFault (Fields watcher_event.layout) rest behind r)

@@ -1,22 +1,14 @@
 -- Each frame's items are of a form, and the bytes of a form have no fault.
 use Rattle.std.proofs.Common.{ℕ, List, inl, inr, refl, subst}
-use Rattle.zk_jute.specs.declared.fault.Reason.{Reason}
-use Rattle.zk_jute.specs.Item.{Item, bytes_of}
-use Rattle.zk_jute.specs.Flagged.{flag_items}
-use Rattle.zk_jute.proofs.Layouts.{have_parts}
-use Rattle.zk_jute.proofs.Flagged.{flagged_excludes}
-use Rattle.zk_records.specs.declared.op.Op.{Op}
-use Rattle.zk_records.specs.declared.op.PartOp.{PartOp}
-use Rattle.zk_records.specs.Records.{connect_response, reply_header, watcher_event}
-use Rattle.zk_answers.specs.Held.{ServerFrame}
+use Rattle.zk_jute.specs.{declared.fault.Reason.Reason, Item.Item, Item.bytes_of, Flagged.flag_items}
+use Rattle.zk_jute.proofs.{Layouts.have_parts, Flagged.flagged_excludes}
+use Rattle.zk_records.specs.{declared.op.Op.Op, declared.op.PartOp.PartOp, Records.connect_response, Records.reply_header, Records.watcher_event}
+use Rattle.zk_answers.specs.{Held.ServerFrame, Faults.Fields, Faults.IsConnectedFault, Faults.IsReplyFault, Faults.IsEventFault, Faults.rest_shape, Forms.IsConnectedForm, Forms.IsReplyForm, Forms.IsEventForm}
 use Rattle.zk_answers.specs.declared.frame.ServerFrameOf.TheVariants as frame
 use Rattle.zk_answers.specs.Frames.{event_header, header_of, rest_items, frame_items, IsConnected, IsEvent, IsReplyTo, IsSent}
-use Rattle.zk_answers.specs.Faults.{Fields, IsConnectedFault, IsReplyFault, IsEventFault, rest_shape}
-use Rattle.zk_answers.specs.Forms.{IsConnectedForm, IsReplyForm, IsEventForm}
 use Rattle.zk_answers.proofs.Events as events
-use Rattle.zk_answers.proofs.Heads.{headed_excludes}
+use Rattle.zk_answers.proofs.{Heads.headed_excludes, Rests.rest_excludes}
 use Rattle.zk_answers.proofs.Replies as replies
-use Rattle.zk_answers.proofs.Rests.{rest_excludes}
 
 -- ---- a frame's items are of a form
 

@@ -1,12 +1,10 @@
 -- Forms: as many results answer as there are parts.
 use Rattle.std.proofs.Common.{◌≡◌, ℕ, zero, suc, List, [], ◌∷◌, length, Option, Some, ◌<◌, refl, subst, arith}
-use Rattle.std.specs.List.{slice_get}
-use Rattle.std.specs.Option.{IsSome}
+use Rattle.std.specs.{List.slice_get, Option.IsSome}
 use Rattle.std.proofs.lemmas.Option.{slice_get-get_or}
 use Rattle.zk_records.specs.declared.op.PartOp.{PartOp}
 use Rattle.zk_records.specs.declared.op.PartOp.TheVariants as parts
-use Rattle.zk_answers.specs.Held.{PartDone}
-use Rattle.zk_answers.specs.Results.{Answers, AnswerAll}
+use Rattle.zk_answers.specs.{Held.PartDone, Results.Answers, Results.AnswerAll}
 
 some_same : {X : Type 0} (x y : X) → ◌≡◌ {A = Option X} (Some x) (Some y) → x ≡ y
 some_same x y e = cc

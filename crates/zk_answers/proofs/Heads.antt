@@ -1,14 +1,10 @@
 -- Headers: bytes begin with one at most, and then have no fault of a header.
 use Rattle.std.proofs.Common.{◌≡◌, ℕ, ◌⊎◌, inl, inr, List, ◌++◌, refl, sym, subst, ◌∙◌}
-use Rattle.zk_jute.specs.declared.fault.Reason.{Reason}
-use Rattle.zk_jute.specs.Item.{Item, bytes_of, HaveBytes}
-use Rattle.zk_jute.specs.Layout.{IsValueOf}
-use Rattle.zk_jute.proofs.Layouts.{bytes_only, bytes_both, have_parts}
+use Rattle.zk_jute.specs.{declared.fault.Reason.Reason, Item.Item, Item.bytes_of, Item.HaveBytes, Layout.IsValueOf}
+use Rattle.zk_jute.proofs.{Layouts.bytes_only, Layouts.bytes_both, Layouts.have_parts, Decided.one_fault}
 use Rattle.std.specs.Prelude.{ℤ}
-use Rattle.zk_jute.proofs.Decided.{one_fault}
 use Rattle.zk_jute.proofs.Sequels.{Same, Sequel, excluded, sequel_same, sequel_not}
-use Rattle.zk_records.specs.declared.header.ReplyHeader.{ReplyHeader}
-use Rattle.zk_records.specs.Records.{reply_header}
+use Rattle.zk_records.specs.{declared.header.ReplyHeader.ReplyHeader, Records.reply_header}
 use Rattle.zk_answers.specs.Faults.{IsHead, IsHeadFault}
 
 pub head_is : (header : ReplyHeader) → HaveBytes (reply_header.items header) → IsValueOf reply_header.layout (reply_header.items header)

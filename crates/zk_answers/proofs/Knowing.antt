@@ -2,29 +2,15 @@
 use Rattle.std.proofs.Common.{◌≡◌, ℕ, ◌+◌, ◌≤◌, List, [], ◌++◌, length, drop, refl, sym, ap, subst, ◌∙◌, arith}
 use Rattle.std.specs.Prelude.{◌≢◌, ℤ, pos}
 use Rattle.std.proofs.lemmas.List.{append-nil, length-append}
-use Rattle.zk_jute.specs.Item.{Item, bytes_of, HaveBytes}
-use Rattle.zk_jute.specs.Layout.{IsValueOf}
-use Rattle.zk_jute.specs.Told.{StandsAt}
-use Rattle.zk_jute.specs.Standing.{OneStands}
-use Rattle.zk_jute.proofs.Layouts.{bytes_only, bytes_both, have_parts}
-use Rattle.zk_jute.proofs.Known.{stands_first, stands_last}
-use Rattle.zk_records.specs.declared.header.ReplyHeader.{ReplyHeader}
-use Rattle.zk_records.specs.Held.{WatcherEvent}
-use Rattle.zk_records.specs.declared.op.Op.{Op}
-use Rattle.zk_records.specs.declared.op.PartOp.{PartOp}
-use Rattle.zk_records.specs.Records.{reply_header, watcher_event}
-use Rattle.zk_answers.specs.Held.{Body, Outcome, Reply, ServerFrame}
+use Rattle.zk_jute.specs.{Item.Item, Item.bytes_of, Item.HaveBytes, Layout.IsValueOf, Told.StandsAt, Standing.OneStands}
+use Rattle.zk_jute.proofs.{Layouts.bytes_only, Layouts.bytes_both, Layouts.have_parts, Known.stands_first, Known.stands_last}
+use Rattle.zk_records.specs.{declared.header.ReplyHeader.ReplyHeader, Held.WatcherEvent, declared.op.Op.Op, declared.op.PartOp.PartOp, Records.reply_header, Records.watcher_event}
+use Rattle.zk_answers.specs.{Held.Body, Held.Outcome, Held.Reply, Held.ServerFrame, Faults.IsHead, Rows.Content, Rows.row_of, Rows.remake, Rows.items_in, Rows.op_of_body, Rows.body_items, Known.ABodyStands}
 use Rattle.zk_answers.specs.declared.frame.OutcomeOf.TheVariants as outcome
 use Rattle.zk_answers.specs.declared.frame.ServerFrameOf.TheVariants as frame
-use Rattle.zk_answers.specs.Faults.{IsHead}
 use Rattle.zk_answers.specs.Frames.{err_of, header_of, event_header, rest_items, IsEvent, IsOutcome, IsSent, IsReplyTo, OutcomeFits, payload}
-use Rattle.zk_answers.specs.Rows.{Content, row_of, remake, items_in, op_of_body, body_items}
-use Rattle.zk_answers.specs.Known.{ABodyStands}
 use Rattle.zk_asks.proofs.Knowing.{IsThe}
-use Rattle.zk_answers.proofs.Bodies.{IsMade, is_made}
-use Rattle.zk_answers.proofs.Heads.{head_unique}
-use Rattle.zk_answers.proofs.Replies.{reply_heads, reply_same}
-use Rattle.zk_answers.proofs.Refusals.{head_of}
+use Rattle.zk_answers.proofs.{Bodies.IsMade, Bodies.is_made, Heads.head_unique, Replies.reply_heads, Replies.reply_same, Refusals.head_of}
 
 -- ---- the body behind a header
 

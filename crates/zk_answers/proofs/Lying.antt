@@ -3,41 +3,22 @@ use Rattle.std.proofs.Common.{◌≡◌, ℕ, ◌+◌, ◌≤◌, List, [], ◌�
 use Rattle.std.specs.Prelude.{ℤ, Result, IfOk, ◌≢◌}
 use Rattle.std.specs.List.{flat_map}
 use Rattle.std.proofs.lemmas.List.{append-nil}
-use Rattle.zk_jute.specs.declared.fault.ItemFault.{ItemFault}
-use Rattle.zk_jute.specs.Item.{Item, AnInt, bytes_of, HaveBytes}
-use Rattle.zk_jute.specs.Layout.{IsValueOf, Unfolds}
+use Rattle.zk_jute.specs.{declared.fault.ItemFault.ItemFault, Item.Item, Item.AnInt, Item.bytes_of, Item.HaveBytes, Layout.IsValueOf, Layout.Unfolds, Told.StandsAt, Told.HasSureFault, Values.text_items, Values.text_unfolds, Held.Text}
 use Rattle.zk_jute.specs.Reading.{Read, ◌>>=◌, read_map, int_at, long_at}
-use Rattle.zk_jute.specs.Told.{StandsAt, HasSureFault}
-use Rattle.zk_jute.specs.Values.{text_items, text_unfolds}
-use Rattle.zk_jute.specs.Held.{Text}
-use Rattle.zk_jute.specs.Standing.{OneStands}
+use Rattle.zk_jute.specs.{Standing.OneStands, Shown.text_value, Shown.both_at, Shown.text_is_value, Shown.Stretch}
 use Rattle.zk_jute.specs.Wired.{Wired, int, long, ustring, ◌and◌}
-use Rattle.zk_jute.specs.Shown.{text_value, both_at, text_is_value, Stretch}
-use Rattle.zk_jute.proofs.Layouts.{bytes_only, have_both, have_parts}
-use Rattle.zk_jute.proofs.Sequels.{stands_then}
-use Rattle.zk_jute.proofs.Stretches.{stands_split}
+use Rattle.zk_jute.proofs.{Layouts.bytes_only, Layouts.have_both, Layouts.have_parts, Sequels.stands_then, Stretches.stands_split}
 use Rattle.zk_jute.proofs.Valued.{IsValued, int_valued, long_valued, both_valued, recast, stands_told}
-use Rattle.zk_records.specs.Records.{multi_header, stat}
-use Rattle.zk_records.specs.Codes.{part_number}
-use Rattle.zk_records.specs.declared.header.MultiHeader.{MultiHeader}
-use Rattle.zk_records.specs.declared.stat.Stat.{Stat}
-use Rattle.zk_records.specs.declared.op.PartOp.{PartOp}
+use Rattle.zk_records.specs.{Records.multi_header, Records.stat, Codes.part_number, declared.header.MultiHeader.MultiHeader, declared.stat.Stat.Stat, declared.op.PartOp.PartOp}
 use Rattle.zk_records.specs.declared.op.PartOp.TheVariants as parts
 use Rattle.zk_records.proofs.Numbers.{part_number_apart}
-use Rattle.zk_asks.specs.Multi.{AreHeaded}
-use Rattle.zk_asks.specs.Parts.{marked, end_header}
-use Rattle.zk_asks.specs.Shown.{part_numbered}
-use Rattle.zk_answers.specs.Fronts.{AreDonesAt, IsResultAt, IsDoneAt, IsDoneFaultAt}
-use Rattle.zk_answers.specs.Held.{PartDone}
+use Rattle.zk_asks.specs.{Multi.AreHeaded, Parts.marked, Parts.end_header, Shown.part_numbered}
+use Rattle.zk_answers.specs.{Fronts.AreDonesAt, Fronts.IsResultAt, Fronts.IsDoneAt, Fronts.IsDoneFaultAt, Held.PartDone, Shown.counts_value, Shown.stat_value, Shown.result_value, Shown.done_value}
 use Rattle.zk_answers.specs.declared.frame.PartDoneOf.TheVariants as done
 use Rattle.zk_answers.specs.Results.{error_header, result_header, done_items, mark_before, result_of, result_layout, Answers, AnswerAll, Own}
 use Rattle.zk_records.specs.Made as made
-use Rattle.zk_answers.specs.Shown.{counts_value, stat_value, result_value, done_value}
-use Rattle.zk_asks.proofs.Parted.{nine, mark_same}
-use Rattle.zk_asks.proofs.Parts.{mark_is}
-use Rattle.zk_asks.proofs.Knowing.{IsThe, found_there}
-use Rattle.zk_answers.proofs.Dones.{not_failed}
-use Rattle.zk_answers.proofs.Outcomes.{result_inside}
+use Rattle.zk_asks.proofs.{Parted.nine, Parted.mark_same, Parts.mark_is, Knowing.IsThe, Knowing.found_there}
+use Rattle.zk_answers.proofs.{Dones.not_failed, Outcomes.result_inside}
 
 -- ---- the records
 

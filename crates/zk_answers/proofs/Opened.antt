@@ -1,25 +1,15 @@
 -- The fault of a multi's results over their openings is the one of the reader's cases.
 use Rattle.std.proofs.Common.{◌≡◌, ℕ, zero, suc, ◌+◌, ◌⊎◌, inl, inr, Bool, true, false, List, [], ◌∷◌, ◌++◌, length, refl, sym, ap, subst, ◌∙◌, append_assoc, arith}
 use Rattle.std.specs.Prelude.{ℤ, pos, negsuc, ◌≢◌}
-use Rattle.std.proofs.lemmas.Int.{ints}
-use Rattle.std.proofs.lemmas.List.{append-nil, length-append, append_cancel_left}
-use Rattle.zk_jute.specs.declared.fault.Reason.{Reason}
-use Rattle.zk_jute.specs.declared.fault.Reason.TheVariants.{BadPart}
+use Rattle.std.proofs.{lemmas.Int.ints, lemmas.List.append-nil, lemmas.List.length-append, lemmas.List.append_cancel_left}
+use Rattle.zk_jute.specs.{declared.fault.Reason.Reason, declared.fault.Reason.TheVariants.BadPart, Layout.End, Layout.One, Layout.IsValueOf, Apart.cons_is, Apart.unfolds_only, Faults.Begins, Faults.IsNext, Faults.IsFault, Faults.Opens}
 use Rattle.zk_jute.specs.Item.{Kind, Int, Item, AnInt, kind_of, bytes_of, HaveBytes}
-use Rattle.zk_jute.specs.Layout.{End, One, IsValueOf}
-use Rattle.zk_jute.specs.Apart.{cons_is, unfolds_only}
-use Rattle.zk_jute.specs.Faults.{Begins, IsNext, IsFault, Opens}
 use Rattle.zk_jute.proofs.Layouts.{bytes_both, have_parts, have_both}
-use Rattle.zk_records.specs.declared.header.MultiHeader.{MultiHeader}
-use Rattle.zk_records.specs.declared.op.PartOp.{PartOp}
-use Rattle.zk_records.specs.Records.{multi_header}
+use Rattle.zk_records.specs.{declared.header.MultiHeader.MultiHeader, declared.op.PartOp.PartOp, Records.multi_header}
 use Rattle.zk_asks.specs.Parts.{marked, end_header}
-use Rattle.zk_asks.proofs.Openings.{NextIs, next_follows, behind_front}
-use Rattle.zk_asks.proofs.Opened.{mark_shape, loose, loose_begins}
+use Rattle.zk_asks.proofs.{Openings.NextIs, Openings.next_follows, Openings.behind_front, Opened.mark_shape, Opened.loose, Opened.loose_begins, Parts.mark_is, Parted.mark_same, Parted.end_bytes}
 use Rattle.zk_answers.specs.Results.{result_header, error_header, result_layout, IsDoneFault, in_mark, bad_mark, in_result, in_error, other_error, behind_result, behind_error}
 use Rattle.zk_answers.specs.Openings.{number_items, AreResults, no_result, a_result, an_error, Ends, AreMarked, last, result_before, error_before, no_mark, no_number, IsBadPart, bad_part}
-use Rattle.zk_asks.proofs.Parts.{mark_is}
-use Rattle.zk_asks.proofs.Parted.{mark_same, end_bytes}
 use Rattle.zk_answers.proofs.Dones.{result_mark, not_error, error_same}
 
 -- ---- headers

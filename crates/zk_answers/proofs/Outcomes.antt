@@ -4,19 +4,10 @@ use Rattle.std.specs.Prelude.{ℤ, ◌≢◌}
 use Rattle.std.specs.List.{flat_map, slice_get}
 use Rattle.std.proofs.lemmas.List.{append-nil, length-append, take-append-drop, length-drop, drop_more, take_more}
 use Rattle.std.proofs.lemmas.Option.{slice_get_within, get_or_from_slice_get}
-use Rattle.zk_jute.specs.declared.fault.ItemFault.{ItemFault}
-use Rattle.zk_jute.specs.declared.fault.Reason.{Reason}
-use Rattle.zk_jute.specs.declared.fault.Reason.TheVariants.{BadPart}
-use Rattle.zk_jute.specs.Item.{Int, Item, AnInt, bytes_of, HaveBytes}
-use Rattle.zk_jute.specs.Layout.{End, One, IsValueOf}
-use Rattle.zk_jute.specs.Faults.{IsFault}
-use Rattle.zk_jute.specs.Reading.{told_place}
-use Rattle.zk_jute.specs.Told.{StandsAt, IsToldFault, IsToldAt}
-use Rattle.zk_jute.proofs.Layouts.{bytes_both, have_both, have_parts}
-use Rattle.zk_jute.proofs.Sequels.{stands_then}
-use Rattle.zk_records.specs.declared.header.MultiHeader.{MultiHeader}
-use Rattle.zk_records.specs.declared.op.PartOp.{PartOp}
-use Rattle.zk_records.specs.Records.{multi_header}
+use Rattle.zk_jute.specs.{declared.fault.ItemFault.ItemFault, declared.fault.Reason.Reason, declared.fault.Reason.TheVariants.BadPart, Item.Int, Item.Item, Item.AnInt, Item.bytes_of, Item.HaveBytes, Layout.End, Layout.One, Layout.IsValueOf}
+use Rattle.zk_jute.specs.{Faults.IsFault, Reading.told_place, Told.StandsAt, Told.IsToldFault, Told.IsToldAt}
+use Rattle.zk_jute.proofs.{Layouts.bytes_both, Layouts.have_both, Layouts.have_parts, Sequels.stands_then}
+use Rattle.zk_records.specs.{declared.header.MultiHeader.MultiHeader, declared.op.PartOp.PartOp, Records.multi_header}
 use Rattle.zk_answers.specs.Held.{PartDone}
 use Rattle.zk_asks.specs.Parts.{marked}
 use Rattle.zk_asks.proofs.Parts.{told_behind, told_bad}

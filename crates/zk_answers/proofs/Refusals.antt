@@ -2,20 +2,10 @@
 use Rattle.std.proofs.Common.{◌≡◌, ℕ, ◌+◌, ◌≤◌, ◌<◌, inl, inr, List, ◌++◌, length, drop, refl, sym, ap, subst, ◌∙◌, arith}
 use Rattle.std.specs.Prelude.{◌≢◌, ℤ, pos, negsuc}
 use Rattle.std.proofs.lemmas.List.{append-nil}
-use Rattle.zk_jute.specs.declared.fault.ItemFault.{ItemFault}
-use Rattle.zk_jute.specs.declared.fault.Reason.{Reason}
+use Rattle.zk_jute.specs.{declared.fault.ItemFault.ItemFault, declared.fault.Reason.Reason, Item.Item, Item.bytes_of, Item.HaveBytes, Layout.IsValueOf, Reading.told_place, Told.StandsAt, Told.IsToldFault, Told.IsTold, Told.IsToldAt}
 use Rattle.zk_jute.specs.declared.fault.Reason.TheVariants.{Trailing, EventErr}
-use Rattle.zk_jute.specs.Item.{Item, bytes_of, HaveBytes}
-use Rattle.zk_jute.specs.Layout.{IsValueOf}
-use Rattle.zk_jute.specs.Reading.{told_place}
-use Rattle.zk_jute.specs.Told.{StandsAt, IsToldFault, IsTold, IsToldAt}
-use Rattle.zk_jute.proofs.Layouts.{have_both}
-use Rattle.zk_jute.proofs.Sequels.{stands_then, is_left, none_left}
-use Rattle.zk_records.specs.declared.header.ReplyHeader.{ReplyHeader}
-use Rattle.zk_records.specs.declared.op.Op.{Op}
-use Rattle.zk_records.specs.declared.op.PartOp.{PartOp}
-use Rattle.zk_records.specs.Records.{reply_header, watcher_event}
-use Rattle.zk_records.specs.Held.{WatcherEvent}
+use Rattle.zk_jute.proofs.{Layouts.have_both, Sequels.stands_then, Sequels.is_left, Sequels.none_left}
+use Rattle.zk_records.specs.{declared.header.ReplyHeader.ReplyHeader, declared.op.Op.Op, declared.op.PartOp.PartOp, Records.reply_header, Records.watcher_event, Held.WatcherEvent}
 use Rattle.zk_answers.specs.Held.{Outcome}
 use Rattle.zk_answers.specs.declared.frame.ServerFrameOf.TheVariants as frame
 use Rattle.zk_answers.specs.Frames.{err_of, event_header, rest_items, IsOutcome, OutcomeFits, IsSent, IsEvent, IsReplyTo, payload}

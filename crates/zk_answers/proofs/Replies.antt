@@ -1,24 +1,15 @@
 -- Replies: given the request, a fault is unique and excludes each frame, and frames tell their payloads apart.
 use Rattle.std.proofs.Common.{◌≡◌, ℕ, zero, suc, ◌+◌, inl, inr, List, refl, sym, ap, subst, ◌∙◌, arith}
 use Rattle.std.specs.Prelude.{◌≢◌, ℤ, pos, negsuc}
-use Rattle.zk_jute.specs.declared.fault.Reason.{Reason}
-use Rattle.zk_jute.specs.Item.{bytes_of, HaveBytes}
-use Rattle.zk_jute.specs.Layout.{End}
-use Rattle.zk_jute.proofs.Layouts.{have_parts}
-use Rattle.zk_jute.proofs.Sequels.{Same}
-use Rattle.zk_records.specs.declared.header.ReplyHeader.{ReplyHeader}
-use Rattle.zk_records.specs.declared.op.Op.{Op}
-use Rattle.zk_records.specs.declared.op.PartOp.{PartOp}
-use Rattle.zk_records.specs.Records.{reply_header}
-use Rattle.zk_answers.specs.Held.{Outcome, Reply, ServerFrame}
+use Rattle.zk_jute.specs.{declared.fault.Reason.Reason, Item.bytes_of, Item.HaveBytes, Layout.End}
+use Rattle.zk_jute.proofs.{Layouts.have_parts, Sequels.Same}
+use Rattle.zk_records.specs.{declared.header.ReplyHeader.ReplyHeader, declared.op.Op.Op, declared.op.PartOp.PartOp, Records.reply_header}
+use Rattle.zk_answers.specs.{Held.Outcome, Held.Reply, Held.ServerFrame, Rows.body_items}
 use Rattle.zk_answers.specs.declared.frame.OutcomeOf.TheVariants as outcome
 use Rattle.zk_answers.specs.declared.frame.ServerFrameOf.TheVariants as frame
 use Rattle.zk_answers.specs.Frames.{err_of, header_of, rest_items, IsOutcome, IsSent, IsReplyTo, OutcomeFits, payload}
-use Rattle.zk_answers.specs.Rows.{body_items}
 use Rattle.zk_answers.specs.Faults.{Shape, Fields, IsOfShape, IsHead, IsRestFault, rest_shape, IsReplyFault, in_head, in_rest, body_shape}
-use Rattle.zk_answers.proofs.Heads.{Headed, headed_unique, headed_excludes, head_unique, stands_head}
-use Rattle.zk_answers.proofs.Rests.{rest_unique, rest_excludes}
-use Rattle.zk_answers.proofs.Bodies.{body_is, body_same}
+use Rattle.zk_answers.proofs.{Heads.Headed, Heads.headed_unique, Heads.headed_excludes, Heads.head_unique, Heads.stands_head, Rests.rest_unique, Rests.rest_excludes, Bodies.body_is, Bodies.body_same}
 
 abbrev pub Judged : Op → List PartOp → ReplyHeader → List ℕ → ℕ → Reason → Type 0
 Judged op parts header rest p r = (behind : ℕ) × (p ≡ 16 + behind) × IsRestFault (rest_shape op parts header.err) rest behind r

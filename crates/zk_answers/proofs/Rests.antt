@@ -1,13 +1,9 @@
 -- What follows a header: its fault is unique and excludes each form, and no form begins another.
 use Rattle.std.proofs.Common.{◌≡◌, ℕ, List, [], ◌++◌, length, sym, ap, refl, ◌∙◌}
 use Rattle.std.proofs.lemmas.List.{append-nil}
-use Rattle.zk_jute.specs.declared.fault.Reason.{Reason}
-use Rattle.zk_jute.specs.Item.{Item, bytes_of}
-use Rattle.zk_jute.proofs.Layouts.{bytes_only}
-use Rattle.zk_jute.proofs.Decided.{one_fault}
-use Rattle.zk_jute.proofs.Sequels.{Same, excluded}
-use Rattle.zk_answers.specs.Held.{PartDone}
-use Rattle.zk_answers.specs.Results.{multi_items}
+use Rattle.zk_jute.specs.{declared.fault.Reason.Reason, Item.Item, Item.bytes_of}
+use Rattle.zk_jute.proofs.{Layouts.bytes_only, Decided.one_fault, Sequels.Same, Sequels.excluded}
+use Rattle.zk_answers.specs.{Held.PartDone, Results.multi_items}
 use Rattle.zk_answers.specs.Faults.{Shape, Fields, Results, IsOfShape, IsShapeFault, IsRestFault, in_shape, past_shape}
 use Rattle.zk_answers.proofs.Results.{done_unique, done_excludes, multi_only}
 

@@ -2,24 +2,15 @@
 use Rattle.std.proofs.Common.{◌≡◌, ℕ, ◌+◌, ◌⊎◌, inl, inr, List, [], ◌∷◌, ◌++◌, length, refl, sym, ap, subst, ◌∙◌, arith}
 use Rattle.std.specs.Prelude.{◌≢◌, ℤ}
 use Rattle.std.proofs.lemmas.List.{length-append}
-use Rattle.zk_jute.specs.declared.fault.Reason.{Reason}
-use Rattle.zk_jute.specs.declared.fault.Reason.TheVariants.{BadPart}
-use Rattle.zk_jute.specs.Item.{Int, Item, AnInt, bytes_of, HaveBytes}
-use Rattle.zk_jute.specs.Layout.{Layout, End, One, IsValueOf}
-use Rattle.zk_jute.specs.Faults.{IsFault}
+use Rattle.zk_jute.specs.{declared.fault.Reason.Reason, declared.fault.Reason.TheVariants.BadPart, Item.Int, Item.Item, Item.AnInt, Item.bytes_of, Item.HaveBytes, Layout.Layout, Layout.End, Layout.One, Layout.IsValueOf, Faults.IsFault}
 use Rattle.zk_jute.specs.Wired.{int}
-use Rattle.zk_jute.proofs.Layouts.{bytes_only, bytes_both, have_parts}
-use Rattle.zk_jute.proofs.Sequels.{Same, Sequel, sequel_same, sequel_not}
-use Rattle.zk_records.specs.declared.header.MultiHeader.{MultiHeader}
-use Rattle.zk_records.specs.declared.op.PartOp.{PartOp}
-use Rattle.zk_records.specs.Records.{multi_header}
+use Rattle.zk_jute.proofs.{Layouts.bytes_only, Layouts.bytes_both, Layouts.have_parts, Sequels.Same, Sequels.Sequel, Sequels.sequel_same, Sequels.sequel_not}
+use Rattle.zk_records.specs.{declared.header.MultiHeader.MultiHeader, declared.op.PartOp.PartOp, Records.multi_header}
 use Rattle.zk_answers.specs.Held.{PartDone}
 use Rattle.zk_answers.specs.declared.frame.PartDoneOf.TheVariants as done
 use Rattle.zk_asks.specs.Parts.{end_header, marked}
 use Rattle.zk_answers.specs.Results.{result_header, error_header, done_items, multi_items, result_layout, Answers, AnswerAll, MayAnswer, IsDoneFault, in_mark, bad_mark, in_result, in_error, other_error, behind_result, behind_error}
-use Rattle.zk_asks.proofs.Placed.{Placed, layout_exact, placed_same, placed_not}
-use Rattle.zk_asks.proofs.Parts.{mark_is}
-use Rattle.zk_asks.proofs.Parted.{mark_same, end_mark}
+use Rattle.zk_asks.proofs.{Placed.Placed, Placed.layout_exact, Placed.placed_same, Placed.placed_not, Parts.mark_is, Parted.mark_same, Parted.end_mark}
 use Rattle.zk_answers.proofs.Dones.{result_mark, not_error, error_same, done_of, result_items, result_is, result_apart, items_of, done_is, multi_more, split_items, an_int}
 
 -- ---- a fault by its header

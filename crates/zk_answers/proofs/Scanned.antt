@@ -1,12 +1,8 @@
 -- What has the form is read: so it follows where what is read has it, and where a fault excludes it.
 use Rattle.std.proofs.Common.{◌≡◌, ℕ, inl, inr, List, Ok, Err, Result, sym, ap, subst, ◌∙◌}
 use Rattle.std.specs.Prelude.{◌≢◌, IfOk, IfErr}
-use Rattle.zk_jute.specs.declared.fault.Reason.{Reason}
-use Rattle.zk_jute.specs.declared.fault.Reason.TheVariants.{NoMemory}
-use Rattle.zk_jute.specs.declared.fault.ItemFault.{ItemFault}
-use Rattle.zk_jute.specs.Told.{IsTold, IsSurelyTold}
-use Rattle.zk_answers.specs.Held.{ServerFrame}
-use Rattle.zk_answers.specs.Frames.{IsSent, payload}
+use Rattle.zk_jute.specs.{declared.fault.Reason.Reason, declared.fault.Reason.TheVariants.NoMemory, declared.fault.ItemFault.ItemFault, Told.IsTold, Told.IsSurelyTold}
+use Rattle.zk_answers.specs.{Held.ServerFrame, Frames.IsSent, Frames.payload}
 
 scan_only : (Form : ServerFrame → Type 0) (F : ℕ → Reason → Type 0) (answer : Result ServerFrame ItemFault) → IfOk answer Form → IfErr answer (λ e. IsTold F e × (e.reason ≢ NoMemory))
     → (s : ServerFrame) → ((t : ServerFrame) → Form t → t ≡ s) → ((p : ℕ) (r : Reason) → F p r → ⊥) → answer ≡ Ok s

@@ -1,15 +1,11 @@
 -- The header alone: its three numbers, read one after another.
 use Rattle.std.proofs.Common.{◌≡◌, ℕ, ◌+◌, List, [], ◌∷◌, drop, Ok, Err, ap, ◌∙◌, arith}
 use Rattle.std.specs.Prelude.{ℤ}
-use Rattle.zk_jute.specs.declared.fault.ItemFault.{ItemFault}
-use Rattle.zk_jute.specs.Item.{Int, Long, AnInt, ALong}
+use Rattle.zk_jute.specs.{declared.fault.ItemFault.ItemFault, Item.Int, Item.Long, Item.AnInt, Item.ALong}
 use Rattle.zk_jute.specs.Layout.{Layout, End, One, ◌then◌}
 use Rattle.zk_jute.specs.Reading.{Fails, Tells, end_of, items_at, told_place}
 use Rattle.zk_jute.specs.Reading as reading
-use Rattle.zk_jute.proofs.Steps.{IsBytes}
-use Rattle.zk_jute.proofs.Fields.{int_gives, long_gives, int_plain, long_plain}
-use Rattle.zk_jute.proofs.Chains.{then_read_one, then_fails, then_fails_later}
-use Rattle.zk_jute.proofs.Theorems.{found, plain_fault}
+use Rattle.zk_jute.proofs.{Steps.IsBytes, Fields.int_gives, Fields.long_gives, Fields.int_plain, Fields.long_plain, Chains.then_read_one, Chains.then_fails, Chains.then_fails_later, Theorems.found, Theorems.plain_fault}
 use Rattle.zk_records.specs.Records.{reply_header}
 use Rattle.zk_answers.specs.Faults.{IsHead, IsHeadFault}
 

@@ -1,18 +1,9 @@
 -- Where and why a payload has no server form: the first case, from left to right.
 use Rattle.std.specs.Prelude.{◌≡◌, ◌≢◌, ℕ, zero, suc, ◌+◌, ℤ, pos, negsuc, List, [], length}
-use Rattle.zk_jute.specs.declared.fault.Reason.{Reason}
+use Rattle.zk_jute.specs.{declared.fault.Reason.Reason, Item.Item, Item.bytes_of, Item.HaveBytes, Layout.Layout, Layout.End, Layout.IsValueOf, Faults.IsFault, Faults.Opens, Flagged.IsFlaggedFault}
 use Rattle.zk_jute.specs.declared.fault.Reason.TheVariants.{Trailing, EventErr}
-use Rattle.zk_jute.specs.Item.{Item, bytes_of, HaveBytes}
-use Rattle.zk_jute.specs.Layout.{Layout, End, IsValueOf}
-use Rattle.zk_jute.specs.Faults.{IsFault, Opens}
-use Rattle.zk_jute.specs.Flagged.{IsFlaggedFault}
-use Rattle.zk_records.specs.declared.header.ReplyHeader.{ReplyHeader}
-use Rattle.zk_records.specs.declared.op.Op.{Op}
-use Rattle.zk_records.specs.declared.op.PartOp.{PartOp}
-use Rattle.zk_records.specs.Records.{connect_response, reply_header, watcher_event}
-use Rattle.zk_answers.specs.Held.{PartDone}
-use Rattle.zk_answers.specs.Results.{multi_items, AnswerAll, IsDoneFault}
-use Rattle.zk_answers.specs.Rows.{Row, holds, bare, multi, row_of}
+use Rattle.zk_records.specs.{declared.header.ReplyHeader.ReplyHeader, declared.op.Op.Op, declared.op.PartOp.PartOp, Records.connect_response, Records.reply_header, Records.watcher_event}
+use Rattle.zk_answers.specs.{Held.PartDone, Results.multi_items, Results.AnswerAll, Results.IsDoneFault, Rows.Row, Rows.holds, Rows.bare, Rows.multi, Rows.row_of}
 
 abbrev pub IsConnectedFault : List ℕ → ℕ → Reason → Type 0
 IsConnectedFault bytes place reason = IsFlaggedFault connect_response.layout bytes place reason

@@ -1,13 +1,8 @@
 -- The forms of server payloads, as lists of items.
 use Rattle.std.specs.Prelude.{◌≡◌, ℤ, List, ◌++◌}
-use Rattle.zk_jute.specs.Item.{Item, HaveBytes}
-use Rattle.zk_jute.specs.Flagged.{IsFlagged}
-use Rattle.zk_records.specs.declared.header.ReplyHeader.{ReplyHeader}
-use Rattle.zk_records.specs.declared.op.Op.{Op}
-use Rattle.zk_records.specs.declared.op.PartOp.{PartOp}
-use Rattle.zk_records.specs.Records.{connect_response, reply_header, watcher_event}
-use Rattle.zk_answers.specs.Faults.{Shape, Fields, IsOfShape, rest_shape}
-use Rattle.zk_answers.specs.Frames.{event_header}
+use Rattle.zk_jute.specs.{Item.Item, Item.HaveBytes, Flagged.IsFlagged}
+use Rattle.zk_records.specs.{declared.header.ReplyHeader.ReplyHeader, declared.op.Op.Op, declared.op.PartOp.PartOp, Records.connect_response, Records.reply_header, Records.watcher_event}
+use Rattle.zk_answers.specs.{Faults.Shape, Faults.Fields, Faults.IsOfShape, Faults.rest_shape, Frames.event_header}
 
 -- a connect response, and one boolean that may follow it
 abbrev pub IsConnectedForm : List Item → Type 0

@@ -1,20 +1,11 @@
 -- The items of server frames, which frames have a payload, and which replies fit a request.
 use Rattle.std.specs.Prelude.{◌≡◌, ◌≢◌, ℕ, ℤ, pos, negsuc, List, [], ◌++◌}
-use Rattle.zk_jute.specs.Item.{Item, bytes_of, HaveBytes}
-use Rattle.zk_jute.specs.Flagged.{flag_items}
-use Rattle.zk_records.specs.declared.header.ReplyHeader.{ReplyHeader}
-use Rattle.zk_records.specs.declared.op.Op.{Op}
-use Rattle.zk_records.specs.declared.op.PartOp.{PartOp}
-use Rattle.zk_records.specs.Records.{connect_response, reply_header, watcher_event}
-use Rattle.zk_answers.specs.declared.frame.BodyOf.{BodyOf}
-use Rattle.zk_answers.specs.declared.frame.OutcomeOf.{OutcomeOf}
-use Rattle.zk_answers.specs.declared.frame.ReplyOf.{ReplyOf}
-use Rattle.zk_answers.specs.Held.{Body, Outcome, Reply, ServerFrame}
+use Rattle.zk_jute.specs.{Item.Item, Item.bytes_of, Item.HaveBytes, Flagged.flag_items}
+use Rattle.zk_records.specs.{declared.header.ReplyHeader.ReplyHeader, declared.op.Op.Op, declared.op.PartOp.PartOp, Records.connect_response, Records.reply_header, Records.watcher_event}
+use Rattle.zk_answers.specs.{declared.frame.BodyOf.BodyOf, declared.frame.OutcomeOf.OutcomeOf, declared.frame.ReplyOf.ReplyOf, Held.Body, Held.Outcome, Held.Reply, Held.ServerFrame, Results.AnswerAll, Rows.op_of_body, Rows.body_items}
 use Rattle.zk_answers.specs.declared.frame.BodyOf.TheVariants as body
 use Rattle.zk_answers.specs.declared.frame.OutcomeOf.TheVariants as outcome
 use Rattle.zk_answers.specs.declared.frame.ServerFrameOf.TheVariants as frame
-use Rattle.zk_answers.specs.Results.{AnswerAll}
-use Rattle.zk_answers.specs.Rows.{op_of_body, body_items}
 
 -- ---- a reply
 

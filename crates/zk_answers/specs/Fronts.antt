@@ -1,16 +1,10 @@
 -- Replies and results, by where they begin and end.
 use Rattle.std.specs.Prelude.{◌≡◌, ◌≢◌, ◌∷◌, ℕ, ℤ, List}
-use Rattle.zk_jute.specs.Item.{HaveBytes}
-use Rattle.zk_jute.specs.Layout.{IsValueOf}
-use Rattle.zk_jute.specs.declared.fault.ItemFault.{ItemFault}
-use Rattle.zk_jute.specs.declared.fault.Reason.TheVariants.{NoMemory}
-use Rattle.zk_jute.specs.Told.{StandsAt, IsToldAt}
-use Rattle.zk_records.specs.declared.op.Op.{Op}
-use Rattle.zk_records.specs.declared.op.PartOp.{PartOp}
-use Rattle.zk_answers.specs.Held.{Reply, PartDone}
+use Rattle.zk_jute.specs.{Item.HaveBytes, Layout.IsValueOf, declared.fault.ItemFault.ItemFault, declared.fault.Reason.TheVariants.NoMemory, Told.StandsAt, Told.IsToldAt}
+use Rattle.zk_records.specs.{declared.op.Op.Op, declared.op.PartOp.PartOp}
+use Rattle.zk_answers.specs.{Held.Reply, Held.PartDone, Frames.Fits, Frames.IsSent, Frames.payload}
 use Rattle.zk_answers.specs.declared.frame.ServerFrameOf.TheVariants as frame
 use Rattle.zk_answers.specs.Results.{Own, Answers, AnswerAll, IsDoneFault, result_of, result_layout, done_items, multi_items}
-use Rattle.zk_answers.specs.Frames.{Fits, IsSent, payload}
 
 -- a part's own result is at the place, and ends there
 abbrev pub IsResultAt : PartOp → List ℕ → ℕ → ℕ → Type 0

@@ -2,11 +2,7 @@
 use Rattle.std.specs.Prelude.{List}
 use Rattle.zk_jute.specs.Held.{Text, Blob, Vector}
 use Rattle.zk_records.specs.Held.{Acl}
-use Rattle.zk_answers.specs.declared.frame.PartDoneOf.{PartDoneOf}
-use Rattle.zk_answers.specs.declared.frame.BodyOf.{BodyOf}
-use Rattle.zk_answers.specs.declared.frame.OutcomeOf.{OutcomeOf}
-use Rattle.zk_answers.specs.declared.frame.ReplyOf.{ReplyOf}
-use Rattle.zk_answers.specs.declared.frame.ServerFrameOf.{ServerFrameOf}
+use Rattle.zk_answers.specs.{declared.frame.PartDoneOf.PartDoneOf, declared.frame.BodyOf.BodyOf, declared.frame.OutcomeOf.OutcomeOf, declared.frame.ReplyOf.ReplyOf, declared.frame.ServerFrameOf.ServerFrameOf}
 
 abbrev pub PartDone : Type 0
 PartDone = PartDoneOf Text

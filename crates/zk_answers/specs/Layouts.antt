@@ -2,11 +2,9 @@
 use Rattle.std.specs.Prelude.{List, []}
 use Rattle.zk_jute.specs.Item.{Boolean, Item}
 use Rattle.zk_jute.specs.Layout.{End, One, ◌then◌, IsValueOf}
-use Rattle.zk_records.specs.Records.{connect_request, connect_response, watcher_event}
-use Rattle.zk_records.specs.declared.op.Op.{Op}
+use Rattle.zk_records.specs.{Records.connect_request, Records.connect_response, Records.watcher_event, declared.op.Op.Op}
 use Rattle.zk_asks.specs.Forms.{IsBody}
-use Rattle.zk_answers.specs.Faults.{IsOfShape, body_shape}
-use Rattle.zk_answers.specs.declared.layout.Layout.{Layout}
+use Rattle.zk_answers.specs.{Faults.IsOfShape, Faults.body_shape, declared.layout.Layout.Layout}
 use Rattle.zk_answers.specs.declared.layout.Layout.TheVariants as layouts
 
 -- the body of a reply to a request without parts

@@ -1,15 +1,8 @@
 -- The fault of a reply or an event over its openings: what a person reads, beside the cases of Faults, which go as the readers go.
 use Rattle.std.specs.Prelude.{◌≡◌, ◌≢◌, ℕ, ◌+◌, ℤ, pos, List, [], ◌∷◌, ◌++◌, length}
-use Rattle.zk_jute.specs.declared.fault.Reason.{Reason}
+use Rattle.zk_jute.specs.{declared.fault.Reason.Reason, Item.Item, Item.AnInt, Item.bytes_of, Item.HaveBytes, Layout.IsValueOf, Faults.IsFault, Faults.IsTrailing, Faults.Opens}
 use Rattle.zk_jute.specs.declared.fault.Reason.TheVariants.{Trailing, BadPart, EventErr}
-use Rattle.zk_jute.specs.Item.{Item, AnInt, bytes_of, HaveBytes}
-use Rattle.zk_jute.specs.Layout.{IsValueOf}
-use Rattle.zk_jute.specs.Faults.{IsFault, IsTrailing, Opens}
-use Rattle.zk_records.specs.declared.header.MultiHeader.{MultiHeader}
-use Rattle.zk_records.specs.declared.header.ReplyHeader.{ReplyHeader}
-use Rattle.zk_records.specs.declared.op.Op.{Op}
-use Rattle.zk_records.specs.declared.op.PartOp.{PartOp}
-use Rattle.zk_records.specs.Records.{reply_header, watcher_event}
+use Rattle.zk_records.specs.{declared.header.MultiHeader.MultiHeader, declared.header.ReplyHeader.ReplyHeader, declared.op.Op.Op, declared.op.PartOp.PartOp, Records.reply_header, Records.watcher_event}
 use Rattle.zk_asks.specs.Parts.{marked}
 use Rattle.zk_answers.specs.Results.{result_header, error_header, error_items, result_layout, MayAnswer}
 use Rattle.zk_answers.specs.Faults.{Shape, Fields, Results, IsOfShape, rest_shape, IsHead, IsHeadFault}

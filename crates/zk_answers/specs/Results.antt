@@ -1,20 +1,12 @@
 -- The results of a multi (ZooKeeper 3.4, MultiResponse): what each one spells, and for which parts they are.
 use Rattle.std.specs.Prelude.{◌≡◌, ◌≢◌, ℕ, ◌+◌, ℤ, pos, negsuc, false, List, [], ◌∷◌, ◌++◌, length, ◌⊎◌}
-use Rattle.zk_jute.specs.declared.fault.Reason.{Reason}
-use Rattle.zk_jute.specs.declared.fault.Reason.TheVariants.{BadPart}
-use Rattle.zk_jute.specs.Item.{Int, Ustring, Item, AnInt, bytes_of, HaveBytes}
-use Rattle.zk_jute.specs.Layout.{Layout, End, One, IsValueOf}
-use Rattle.zk_jute.specs.Faults.{IsFault, Opens}
-use Rattle.zk_jute.specs.Values.{text_items}
-use Rattle.zk_records.specs.declared.header.MultiHeader.{MultiHeader}
-use Rattle.zk_records.specs.declared.op.PartOp.{PartOp}
+use Rattle.zk_jute.specs.{declared.fault.Reason.Reason, declared.fault.Reason.TheVariants.BadPart, Item.Int, Item.Ustring, Item.Item, Item.AnInt, Item.bytes_of, Item.HaveBytes, Layout.Layout, Layout.End, Layout.One, Layout.IsValueOf}
+use Rattle.zk_jute.specs.{Faults.IsFault, Faults.Opens, Values.text_items}
+use Rattle.zk_records.specs.{declared.header.MultiHeader.MultiHeader, declared.op.PartOp.PartOp, Codes.part_number, Records.multi_header, Records.stat}
 use Rattle.zk_records.specs.declared.op.PartOp.TheVariants as parts
-use Rattle.zk_records.specs.Codes.{part_number}
-use Rattle.zk_records.specs.Records.{multi_header, stat}
 use Rattle.zk_asks.specs.Parts.{end_header, marked, ended}
-use Rattle.zk_answers.specs.Held.{PartDone}
+use Rattle.zk_answers.specs.{Held.PartDone, declared.multi.ResultMark.ResultMark}
 use Rattle.zk_answers.specs.declared.frame.PartDoneOf.TheVariants as done
-use Rattle.zk_answers.specs.declared.multi.ResultMark.{ResultMark}
 use Rattle.zk_answers.specs.declared.multi.ResultMark.TheVariants as mark
 
 -- the header before a part's result, and the one before an error

@@ -1,14 +1,11 @@
 -- What each operation's reply is made of: the one table.
 use Rattle.std.specs.Prelude.{List, []}
-use Rattle.zk_jute.specs.Item.{Item}
-use Rattle.zk_jute.specs.Wired.{Wired, ustring, vector}
+use Rattle.zk_jute.specs.{Item.Item, Wired.Wired, Wired.ustring, Wired.vector}
 use Rattle.zk_records.specs.declared.op.Op.{Op}
 use Rattle.zk_records.specs.declared.op.Op.TheVariants as ops
 use Rattle.zk_records.specs.Records.{stat, data_body, acl_body, children_body, create_body}
-use Rattle.zk_answers.specs.declared.frame.BodyOf.{BodyOf}
-use Rattle.zk_answers.specs.Held.{Body, PartDone}
+use Rattle.zk_answers.specs.{declared.frame.BodyOf.BodyOf, Held.Body, Held.PartDone, Results.multi_items}
 use Rattle.zk_answers.specs.declared.frame.BodyOf.TheVariants as body
-use Rattle.zk_answers.specs.Results.{multi_items}
 
 -- a record of its own, nothing, or the results of a multi's parts; each with the body that it makes
 pub data Row : Type 1 where

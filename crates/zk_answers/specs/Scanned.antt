@@ -1,12 +1,8 @@
 -- What a reply has after its header.
 use Rattle.std.specs.Prelude.{◌≡◌, ℕ, ℤ, List}
-use Rattle.zk_records.specs.declared.op.Op.{Op}
-use Rattle.zk_records.specs.declared.op.PartOp.{PartOp}
-use Rattle.zk_jute.specs.Item.{HaveBytes}
-use Rattle.zk_jute.specs.Told.{StandsAt}
-use Rattle.zk_answers.specs.Held.{Body, Outcome}
-use Rattle.zk_answers.specs.Rows.{op_of_body, body_items}
-use Rattle.zk_answers.specs.Frames.{BodyFits, OutcomeFits, IsOutcome, err_of, rest_items}
+use Rattle.zk_records.specs.{declared.op.Op.Op, declared.op.PartOp.PartOp}
+use Rattle.zk_jute.specs.{Item.HaveBytes, Told.StandsAt}
+use Rattle.zk_answers.specs.{Held.Body, Held.Outcome, Rows.op_of_body, Rows.body_items, Frames.BodyFits, Frames.OutcomeFits, Frames.IsOutcome, Frames.err_of, Frames.rest_items}
 
 -- the body of a reply to this operation and these parts is at the place, and ends there
 abbrev pub IsBodyAt : Op → List PartOp → Body → List ℕ → ℕ → ℕ → Type 0

@@ -3,8 +3,7 @@ use Rattle.std.specs.Prelude.{ℕ, ◌+◌, ℤ, List, Option, Some, None, Ok}
 use Rattle.zk_jute.specs.Reading.{Read, ◌>>=◌, read_map, int_at, long_at}
 use Rattle.zk_jute.specs.Shown.{text_value, both_at}
 use Rattle.zk_records.specs.Made as made
-use Rattle.zk_records.specs.declared.stat.Stat.{Stat}
-use Rattle.zk_records.specs.declared.op.PartOp.{PartOp}
+use Rattle.zk_records.specs.{declared.stat.Stat.Stat, declared.op.PartOp.PartOp}
 use Rattle.zk_records.specs.declared.op.PartOp.TheVariants as parts
 use Rattle.zk_asks.specs.Shown.{part_numbered}
 use Rattle.zk_answers.specs.Held.{PartDone}

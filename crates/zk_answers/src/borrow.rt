@@ -1,7 +1,6 @@
 //! `borrow_connected`, `borrow_reply`, `borrow_event`: a server's payload judged and returned borrowed.
 ghost use Rattle.std.specs.Prelude.{◌≡◌, ◌≢◌, ℕ, List, Ok, negsuc, IfOk, IfErr};
-ghost use Rattle.zk_jute.specs.declared.fault.Reason.TheVariants.{NoMemory};
-ghost use Rattle.zk_jute.specs.Told.{IsSurelyTold};
+ghost use Rattle.zk_jute.specs.{declared.fault.Reason.TheVariants.NoMemory, Told.IsSurelyTold};
 ghost use Rattle.zk_records.specs.declared.header.ReplyHeader as records;
 ghost use Rattle.zk_answers.specs.Held as held;
 ghost use Rattle.zk_answers.specs.Frames.{IsConnected, IsEvent, IsReplyTo, IsSent};

@@ -1,14 +1,8 @@
 //! `DoneList`: the results of a multi, borrowed from its payload.
 ghost use Rattle.std.specs.Prelude.{◌≡◌, ◌≤◌, ℕ, length, Ok, IfOk, IfErr};
-ghost use Rattle.zk_jute.specs.Item.{HaveBytes};
-ghost use Rattle.zk_jute.specs.Layout.{IsValueOf};
-ghost use Rattle.zk_jute.specs.Standing.{OneStands};
-ghost use Rattle.zk_jute.specs.Told.{StandsAt, HasSureFault, IsSurelyToldAt};
-ghost use Rattle.zk_jute.specs.Verdict.{Says};
-ghost use Rattle.zk_answers.specs.Held.{PartDone};
+ghost use Rattle.zk_jute.specs.{Item.HaveBytes, Layout.IsValueOf, Standing.OneStands, Told.StandsAt, Told.HasSureFault, Told.IsSurelyToldAt, Verdict.Says};
+ghost use Rattle.zk_answers.specs.{Held.PartDone, Fronts.AreDonesAt, Fronts.IsResultAt, Fronts.IsDoneAt, Fronts.IsDoneFaultAt, Shown.done_value};
 ghost use Rattle.zk_answers.specs.Results.{done_items, result_layout, result_of, IsDoneFault, Own};
-ghost use Rattle.zk_answers.specs.Fronts.{AreDonesAt, IsResultAt, IsDoneAt, IsDoneFaultAt};
-ghost use Rattle.zk_answers.specs.Shown.{done_value};
 
 use crate::frame::{PartDoneOf, PartDoneRef};
 use crate::multi::{ResultMark, result_mark_of};

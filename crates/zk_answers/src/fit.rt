@@ -1,7 +1,6 @@
 //! `fits`: whether a reply fits a request.
 ghost use Rattle.std.specs.Prelude.{◌↔◌, IsTrue};
-ghost use Rattle.zk_answers.specs.Results.{Answers, AnswerAll};
-ghost use Rattle.zk_answers.specs.Frames.{Fits};
+ghost use Rattle.zk_answers.specs.{Results.Answers, Results.AnswerAll, Frames.Fits};
 
 use crate::frame::{Body, Outcome, PartDone, Reply};
 use zk_asks::Asked;

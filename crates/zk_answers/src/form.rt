@@ -2,8 +2,7 @@
 ghost use Rattle.std.specs.Prelude.{◌≡◌, ◌≢◌, ◌<◌, ◌^◌, [], length, IfOk, map, refl};
 ghost use Rattle.std.specs.List.{slice_get};
 ghost use Rattle.zk_records.specs.declared.op.Op.TheVariants as ops;
-ghost use Rattle.zk_asks.specs.Frames.{ops_of_ask};
-ghost use Rattle.zk_asks.specs.Rows.{op_of_ask};
+ghost use Rattle.zk_asks.specs.{Frames.ops_of_ask, Rows.op_of_ask};
 
 use std::alloc::{AllocError, Global};
 use zk_asks::{Ask, Asked};

@@ -1,7 +1,6 @@
 //! `ServerFrame`, `Reply`, `Body` and `PartDone`: what a server sends.
 ghost use Rattle.std.specs.Prelude.{◌≡◌, ◌≢◌, ℤ, pos, MatchOption, IfSome, IfNone};
-ghost use Rattle.zk_answers.specs.Frames.{op_of_reply};
-ghost use Rattle.zk_answers.specs.Rows.{op_of_body};
+ghost use Rattle.zk_answers.specs.{Frames.op_of_reply, Rows.op_of_body};
 
 use crate::done_list::DoneList;
 use std::marker::Model;

@@ -1,13 +1,10 @@
 //! `judge_reply`, `judge_event`: replies and events, judged by where their bodies end; no frame is made.
 ghost use Rattle.std.specs.Prelude.{◌≡◌, ◌≢◌, ◌≤◌, ℕ, List, length, negsuc, IsOk, IfOk, IfErr};
-ghost use Rattle.zk_jute.specs.Told.{IsSurelyTold, IsSurelyToldAt};
-ghost use Rattle.zk_jute.specs.Verdict.{Says};
+ghost use Rattle.zk_jute.specs.{Told.IsSurelyTold, Told.IsSurelyToldAt, Verdict.Says};
 ghost use Rattle.zk_answers.specs.Faults.{IsHead, Fields, IsShapeFault, body_shape, rest_shape, IsReplyFault, IsEventFault};
-ghost use Rattle.zk_answers.specs.Held.{Body, Outcome, ServerFrame};
-ghost use Rattle.zk_answers.specs.Frames.{IsEvent, IsSent};
+ghost use Rattle.zk_answers.specs.{Held.Body, Held.Outcome, Held.ServerFrame, Frames.IsEvent, Frames.IsSent};
 ghost use Rattle.zk_answers.specs.Frames as sent;
-ghost use Rattle.zk_answers.specs.Scanned.{IsBodyAt, IsOutcomeAt};
-ghost use Rattle.zk_answers.specs.Fronts.{IsReplyUnder};
+ghost use Rattle.zk_answers.specs.{Scanned.IsBodyAt, Scanned.IsOutcomeAt, Fronts.IsReplyUnder};
 
 use crate::body_rows;
 use crate::done_list::results_end;

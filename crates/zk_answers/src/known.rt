@@ -1,11 +1,8 @@
 //! `connected_ref`, `event_ref`, `reply_ref`: payloads known to be a server's frames, borrowed without a judgement.
 ghost use Rattle.std.specs.Prelude.{◌≡◌, ◌≤◌, ℕ, List, length};
-ghost use Rattle.zk_jute.specs.Item.{HaveBytes};
-ghost use Rattle.zk_jute.specs.Told.{StandsAt};
+ghost use Rattle.zk_jute.specs.{Item.HaveBytes, Told.StandsAt};
 ghost use Rattle.zk_records.specs.declared.op.PartOp as codes;
-ghost use Rattle.zk_answers.specs.Held.{Body, ServerFrame};
-ghost use Rattle.zk_answers.specs.Rows.{body_items, op_of_body};
-ghost use Rattle.zk_answers.specs.Frames.{IsConnected, IsEvent, IsReplyTo, IsSent};
+ghost use Rattle.zk_answers.specs.{Held.Body, Held.ServerFrame, Rows.body_items, Rows.op_of_body, Frames.IsConnected, Frames.IsEvent, Frames.IsReplyTo, Frames.IsSent};
 ghost use Rattle.zk_answers.specs.Frames as sent;
 ghost use Rattle.zk_answers.specs.Known.{ABodyStands};
 

@@ -1,19 +1,11 @@
 //! The laws of server payloads, as contracts of functions that do nothing: a payload has one frame or one fault.
 ghost use Rattle.std.specs.Prelude.{◌≡◌, ℕ, ℤ, List};
-ghost use Rattle.zk_jute.specs.Flagged.{IsFlaggedOpeningFault};
-ghost use Rattle.zk_records.specs.Records.{connect_response};
+ghost use Rattle.zk_jute.specs.{Flagged.IsFlaggedOpeningFault, Item.Item, Item.bytes_of, Once.HaveOneFault, Once.HasNoFault, Once.AreSameFaults};
+ghost use Rattle.zk_records.specs.{Records.connect_response, declared.header.ReplyHeader.ReplyHeader, declared.op.Op.Op, declared.op.PartOp.PartOp, Held.WatcherEvent};
 ghost use Rattle.zk_answers.specs.Openings.{IsReplyOpening, IsEventOpening};
-ghost use Rattle.zk_jute.specs.Item.{Item, bytes_of};
-ghost use Rattle.zk_jute.specs.Once.{HaveOneFault, HasNoFault, AreSameFaults};
-ghost use Rattle.zk_records.specs.declared.header.ReplyHeader.{ReplyHeader};
-ghost use Rattle.zk_records.specs.declared.op.Op.{Op};
-ghost use Rattle.zk_records.specs.declared.op.PartOp.{PartOp};
-ghost use Rattle.zk_records.specs.Held.{WatcherEvent};
 ghost use Rattle.zk_answers.specs.declared.frame.ServerFrameOf.TheVariants as frame;
-ghost use Rattle.zk_answers.specs.Held.{Reply, ServerFrame};
+ghost use Rattle.zk_answers.specs.{Held.Reply, Held.ServerFrame, Forms.IsConnectedForm, Forms.IsReplyForm, Forms.IsEventForm, Faults.IsConnectedFault, Faults.IsHead, Faults.IsHeadFault, Faults.IsReplyFault, Faults.IsEventFault};
 ghost use Rattle.zk_answers.specs.Frames.{frame_items, event_header, header_of, IsConnected, IsEvent, IsReplyTo, IsSent, HaveApartPayloads, payload};
-ghost use Rattle.zk_answers.specs.Forms.{IsConnectedForm, IsReplyForm, IsEventForm};
-ghost use Rattle.zk_answers.specs.Faults.{IsConnectedFault, IsHead, IsHeadFault, IsReplyFault, IsEventFault};
 
 /// A payload is read exactly if it has a form: each frame's items are of a form, and bytes of a form have no fault.
 #[tactic(auto, using(crate::proofs::Formed::connected_form, crate::proofs::Formed::reply_form, crate::proofs::Formed::event_form, crate::proofs::Formed::connected_not, crate::proofs::Formed::reply_not, crate::proofs::Formed::event_not))]

@@ -1,8 +1,6 @@
 //! `reply_head`, `read_connected`, `read_reply`, `read_event`: a server's payload judged, and then copied.
 ghost use Rattle.std.specs.Prelude.{◌≡◌, ◌≢◌, List, ℕ, negsuc, IfOk, IfErr};
-ghost use Rattle.zk_jute.specs.Reading.{told_place};
-ghost use Rattle.zk_jute.specs.Told.{IsTold};
-ghost use Rattle.zk_jute.specs.Flagged.{IsReadAs};
+ghost use Rattle.zk_jute.specs.{Reading.told_place, Told.IsTold, Flagged.IsReadAs};
 ghost use Rattle.zk_records.specs.declared.header.ReplyHeader as records;
 ghost use Rattle.zk_answers.specs.Held as held;
 ghost use Rattle.zk_answers.specs.Frames.{IsConnected, IsEvent, IsReplyTo, IsSent};

@@ -2,8 +2,7 @@
 ghost use Rattle.std.specs.Prelude.{◌≡◌, ◌≢◌, ℕ, List, negsuc, IsOk, IfOk, IfErr};
 ghost use Rattle.zk_jute.specs.Told.{IsSurelyTold};
 ghost use Rattle.zk_records.specs.declared.header.ReplyHeader as records;
-ghost use Rattle.zk_answers.specs.Held.{ServerFrame};
-ghost use Rattle.zk_answers.specs.Frames.{IsConnected, IsEvent, IsReplyTo, IsSent};
+ghost use Rattle.zk_answers.specs.{Held.ServerFrame, Frames.IsConnected, Frames.IsEvent, Frames.IsReplyTo, Frames.IsSent};
 ghost use Rattle.zk_answers.specs.Frames as sent;
 ghost use Rattle.zk_answers.specs.Faults.{IsConnectedFault, IsHead, IsReplyFault, IsEventFault};
 

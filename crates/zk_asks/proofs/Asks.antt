@@ -1,25 +1,14 @@
 -- Requests: what is read, what is refused, and that the two exclude each other.
 use Rattle.std.proofs.Common.{◌≡◌, ℕ, ◌+◌, ◌<◌, inl, inr, List, ◌++◌, length, drop, refl, sym, ap, subst, ◌∙◌, arith}
 use Rattle.std.specs.Prelude.{ℤ}
-use Rattle.zk_jute.specs.declared.fault.ItemFault.{ItemFault}
+use Rattle.zk_jute.specs.{declared.fault.ItemFault.ItemFault, Item.Item, Item.bytes_of, Item.HaveBytes, Layout.IsValueOf, Reading.told_place, Told.StandsAt, Told.IsToldFault, Told.IsTold, Told.IsToldAt}
 use Rattle.zk_jute.specs.declared.fault.Reason.TheVariants.{Trailing, UnknownOp, XidOp}
-use Rattle.zk_jute.specs.Item.{Item, bytes_of, HaveBytes}
-use Rattle.zk_jute.specs.Layout.{IsValueOf}
-use Rattle.zk_jute.specs.Reading.{told_place}
-use Rattle.zk_jute.specs.Told.{StandsAt, IsToldFault}
-use Rattle.zk_records.specs.Records.{request_header}
-use Rattle.zk_records.specs.declared.op.Op.{Op}
-use Rattle.zk_asks.specs.Held.{Ask}
-use Rattle.zk_records.specs.declared.profile.Profile.{Profile}
-use Rattle.zk_records.specs.Codes.{op_number, HasOp, IsNoOp}
-use Rattle.zk_asks.specs.Codes.{IsAllowed}
-use Rattle.zk_asks.specs.Forms.{header_items, IsOf, IsBody, asks}
+use Rattle.zk_records.specs.{Records.request_header, declared.op.Op.Op, declared.profile.Profile.Profile, Codes.op_number, Codes.HasOp, Codes.IsNoOp}
+use Rattle.zk_asks.specs.{Held.Ask, Codes.IsAllowed, Forms.header_items, Forms.IsOf, Forms.IsBody, Forms.asks}
 use Rattle.zk_asks.specs.Faults.{IsBodyFault, IsAskFault, in_header, unknown_op, bad_xid, in_body, behind_body}
 use Rattle.zk_asks.specs.Rows.{Row, holds, bare, multi, row_of, Content, items_in, body_in, op_of_ask, body_items}
-use Rattle.zk_asks.proofs.Made.{IsMade, is_made}
-use Rattle.zk_jute.specs.Told.{IsTold, IsToldAt}
+use Rattle.zk_asks.proofs.{Made.IsMade, Made.is_made, Parts.multi_is}
 use Rattle.zk_jute.proofs.Sequels.{stands_then, is_left}
-use Rattle.zk_asks.proofs.Parts.{multi_is}
 
 row_is : (r : Row) (x : Content r) → HaveBytes (items_in r x) → IsOf (body_in r) (items_in r x)
 row_is (holds make w) x have = (w.unfolds x, have)

@@ -2,17 +2,13 @@
 use Rattle.std.proofs.Common.{◌≡◌, ◌⊎◌, inl, inr, List, [], ◌∷◌, Bool, true, false, refl, ap}
 use Rattle.std.specs.Prelude.{ℤ}
 use Rattle.std.specs.List.{All}
-use Rattle.std.proofs.lemmas.List.Elements.{All-nil, All-cons}
-use Rattle.std.proofs.Math.IntN.{ℤ_discrete}
-use Rattle.zk_records.specs.declared.op.Op.{Op}
+use Rattle.std.proofs.{lemmas.List.Elements.All-nil, lemmas.List.Elements.All-cons, Math.IntN.ℤ_discrete}
+use Rattle.zk_records.specs.{declared.op.Op.Op, declared.header.MultiHeader.MultiHeader, declared.profile.Profile.Profile}
 use Rattle.zk_records.specs.declared.op.Op.TheVariants as ops
-use Rattle.zk_records.specs.declared.header.MultiHeader.{MultiHeader}
-use Rattle.zk_records.specs.declared.profile.Profile.{Profile}
 use Rattle.zk_records.specs.declared.profile.Profile.TheVariants as profiles
 use Rattle.zk_records.specs.Codes.{op_row, op_number, all_ops, IsSince, HasOp, IsNoOp, all_parts}
 use Rattle.zk_records.proofs.Numbers.{each_op, each_part, op_number_apart}
-use Rattle.zk_asks.specs.Codes.{event_xid, ping_xid, auth_xid, watches_xid, IsAllowed}
-use Rattle.zk_asks.specs.Parts.{part_header, end_header, MayStand}
+use Rattle.zk_asks.specs.{Codes.event_xid, Codes.ping_xid, Codes.auth_xid, Codes.watches_xid, Codes.IsAllowed, Parts.part_header, Parts.end_header, Parts.MayStand}
 
 abbrev pub Decided : Type 0 → Type 0
 Decided A = A ⊎ (A → ⊥)

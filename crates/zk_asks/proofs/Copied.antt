@@ -1,8 +1,7 @@
 -- Operations that are put one after another.
 use Rattle.std.proofs.Common.{◌≡◌, ℕ, ◌+◌, List, [], ◌∷◌, ◌++◌, take, Some, sym, ap, ◌∙◌}
 use Rattle.std.specs.List.{slice_get}
-use Rattle.std.proofs.lemmas.List.{take_more}
-use Rattle.std.proofs.lemmas.Option.{slice_get_within, get_or_from_slice_get}
+use Rattle.std.proofs.{lemmas.List.take_more, lemmas.Option.slice_get_within, lemmas.Option.get_or_from_slice_get}
 use Rattle.zk_records.specs.declared.op.PartOp.{PartOp}
 
 -- the parts that were put so far, and the next one

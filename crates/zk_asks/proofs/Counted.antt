@@ -4,15 +4,11 @@ use Rattle.std.specs.List.{flat_map}
 use Rattle.std.proofs.lemmas.List.{length-map}
 use Rattle.zk_jute.specs.Item.{Item, AnInt, ABoolean, item_bytes, bytes_of}
 use Rattle.zk_jute.proofs.Layouts.{bytes_both}
-use Rattle.zk_records.specs.declared.header.MultiHeader.{MultiHeader}
-use Rattle.zk_records.specs.Codes.{op_number}
-use Rattle.zk_asks.specs.Held.{Part, Ask}
+use Rattle.zk_records.specs.{declared.header.MultiHeader.MultiHeader, Codes.op_number}
+use Rattle.zk_asks.specs.{Held.Part, Held.Ask, Forms.header_items, Rows.body_items, Rows.op_of_ask, Frames.parts_of_ask, Frames.ops_of_ask, Frames.payload}
 use Rattle.zk_asks.specs.declared.frame.AskOf.TheVariants as ask
 use Rattle.zk_asks.specs.declared.frame.ClientFrameOf.TheVariants as frame
 use Rattle.zk_asks.specs.Parts.{marked, part_header, end_header, op_of_part, record_of, part_items}
-use Rattle.zk_asks.specs.Forms.{header_items}
-use Rattle.zk_asks.specs.Rows.{body_items, op_of_ask}
-use Rattle.zk_asks.specs.Frames.{parts_of_ask, ops_of_ask, payload}
 
 -- each part has a byte
 pub parts_long : (ps : List Part) (more : List Item) → length ps ≤ length (bytes_of (flat_map part_items ps ++ more))

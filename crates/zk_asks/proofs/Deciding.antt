@@ -4,36 +4,21 @@ use Rattle.std.specs.Prelude.{ℤ}
 use Rattle.std.specs.List.{flat_map}
 use Rattle.std.proofs.lemmas.List.{length-append}
 use Rattle.zk_jute.specs.declared.fault.Reason.TheVariants.{Trailing, UnknownOp, XidOp, BadPart}
-use Rattle.zk_jute.specs.Item.{Item, bytes_of, HaveBytes}
-use Rattle.zk_jute.specs.Layout.{IsValueOf}
-use Rattle.zk_jute.specs.Wired.{Wired}
-use Rattle.zk_jute.specs.Flagged.{flag_items}
-use Rattle.zk_jute.proofs.Steps.{IsBytes}
-use Rattle.zk_jute.proofs.Layouts.{have_both, bytes_both, has_byte}
-use Rattle.zk_jute.proofs.Covers.{Covers}
+use Rattle.zk_jute.specs.{Item.Item, Item.bytes_of, Item.HaveBytes, Layout.IsValueOf, Wired.Wired, Flagged.flag_items}
+use Rattle.zk_jute.proofs.{Steps.IsBytes, Layouts.have_both, Layouts.bytes_both, Layouts.has_byte, Covers.Covers}
 use Rattle.zk_jute.proofs.Deciding.{Starts, HasFault, layout_decided, left, whole_of, IsFlaggedWhole, flagged_decided}
-use Rattle.zk_records.specs.Records.{connect_request, request_header, multi_header}
-use Rattle.zk_records.specs.declared.header.RequestHeader.{RequestHeader}
-use Rattle.zk_records.specs.declared.header.MultiHeader.{MultiHeader}
-use Rattle.zk_records.specs.declared.op.Op.{Op}
+use Rattle.zk_records.specs.{Records.connect_request, Records.request_header, Records.multi_header, declared.header.RequestHeader.RequestHeader, declared.header.MultiHeader.MultiHeader, declared.op.Op.Op, declared.op.PartOp.PartOp}
 use Rattle.zk_records.specs.declared.op.Op.TheVariants as ops
-use Rattle.zk_records.specs.declared.op.PartOp.{PartOp}
 use Rattle.zk_records.specs.declared.op.PartOp.TheVariants as parts
-use Rattle.zk_records.specs.declared.profile.Profile.{Profile}
-use Rattle.zk_records.specs.Codes.{op_number, HasOp}
+use Rattle.zk_records.specs.{declared.profile.Profile.Profile, Codes.op_number, Codes.HasOp}
 use Rattle.zk_records.proofs.Covered.{connect_request_covered, request_header_covered, multi_header_covered, create_ask_covered, delete_ask_covered, watch_ask_covered, set_data_ask_covered, path_ask_covered, set_acl_ask_covered, auth_ask_covered, set_watches_ask_covered, check_ask_covered}
-use Rattle.zk_asks.specs.Held.{Ask, Part, ClientFrame}
+use Rattle.zk_asks.specs.{Held.Ask, Held.Part, Held.ClientFrame, Codes.IsAllowed, Forms.header_items, Forms.HasHeader}
 use Rattle.zk_asks.specs.declared.frame.ClientFrameOf.TheVariants as frame
-use Rattle.zk_asks.specs.Codes.{IsAllowed}
 use Rattle.zk_asks.specs.Parts.{part_row, part_layout, part_header, end_header, marked, op_of_part, record_of, part_items, multi_items}
 use Rattle.zk_asks.specs.Rows.{Row, holds, bare, multi, row_of, Content, remake, items_in, body_in, op_of_ask, body_items}
-use Rattle.zk_asks.specs.Forms.{header_items, HasHeader}
 use Rattle.zk_asks.specs.Faults.{IsFirstFault, IsMultiFault, in_mark, bad_mark, in_part, behind_part, IsFaultOf, IsBodyFault, IsAskFault, in_header, unknown_op, bad_xid, in_body, behind_body}
 use Rattle.zk_asks.specs.Frames.{frame_items, IsFirst, IsLater, IsOfProfile, IsSent, payload}
-use Rattle.zk_asks.proofs.Choices.{number_decided, allowed_decided, header_may}
-use Rattle.zk_asks.proofs.Made.{made_is}
-use Rattle.zk_asks.proofs.Parts.{made_part}
-use Rattle.zk_asks.proofs.Later.{is_ask}
+use Rattle.zk_asks.proofs.{Choices.number_decided, Choices.allowed_decided, Choices.header_may, Made.made_is, Parts.made_part, Later.is_ask}
 
 flag_has : (flag : Option _) → HaveBytes (flag_items flag)
 flag_has None = tt

@@ -2,20 +2,11 @@
 use Rattle.std.proofs.Common.{◌≡◌, ℕ, ◌+◌, ◌≤◌, List, [], ◌∷◌, length, drop, Ok, Err, refl, sym, ap, ap₂, subst, ◌∙◌, append_assoc, arith}
 use Rattle.std.specs.List.{flat_map}
 use Rattle.std.proofs.lemmas.List.{length-append}
-use Rattle.zk_jute.specs.Item.{Item, bytes_of, HaveBytes}
-use Rattle.zk_jute.specs.Reading.{Read}
-use Rattle.zk_jute.specs.Told.{StandsAt}
-use Rattle.zk_jute.specs.Standing.{OneStands}
-use Rattle.zk_jute.specs.Shown.{AreTold, AreThere, Stretch, values_at}
-use Rattle.zk_jute.proofs.Layouts.{bytes_only, bytes_both, have_both, have_parts}
-use Rattle.zk_jute.proofs.Sequels.{stands_then}
-use Rattle.zk_jute.proofs.Stretches.{stands_split, values_told, values_counted}
-use Rattle.zk_records.specs.Records.{multi_header}
-use Rattle.zk_records.specs.declared.header.MultiHeader.{MultiHeader}
-use Rattle.zk_asks.specs.Multi.{AreHeaded}
-use Rattle.zk_asks.specs.Parts.{end_header, marked, ended}
-use Rattle.zk_asks.proofs.Knowing.{IsThe}
-use Rattle.zk_asks.proofs.Parted.{end_bytes, end_mark, mark_same, nine}
+use Rattle.zk_jute.specs.{Item.Item, Item.bytes_of, Item.HaveBytes, Reading.Read, Told.StandsAt, Standing.OneStands, Shown.AreTold, Shown.AreThere, Shown.Stretch, Shown.values_at}
+use Rattle.zk_jute.proofs.{Layouts.bytes_only, Layouts.bytes_both, Layouts.have_both, Layouts.have_parts, Sequels.stands_then, Stretches.stands_split, Stretches.values_told, Stretches.values_counted}
+use Rattle.zk_records.specs.{Records.multi_header, declared.header.MultiHeader.MultiHeader}
+use Rattle.zk_asks.specs.{Multi.AreHeaded, Parts.end_header, Parts.marked, Parts.ended}
+use Rattle.zk_asks.proofs.{Knowing.IsThe, Parted.end_bytes, Parted.end_mark, Parted.mark_same, Parted.nine}
 
 module _ {X : Type 0} (items : X → List Item) (src : List ℕ) where
   module _ (place : ℕ) (le : place ≤ length src) where

@@ -2,36 +2,16 @@
 use Rattle.std.proofs.Common.{◌≡◌, ℕ, ◌≤◌, ◌<◌, inl, inr, List, [], length, drop, refl, sym, ap, subst, ◌∙◌, arith}
 use Rattle.std.specs.Prelude.{ℤ, Option, Result, Ok, Err, IfOk, IfErr}
 use Rattle.std.proofs.lemmas.List.{length-map}
-use Rattle.zk_jute.specs.declared.fault.ItemFault.{ItemFault}
-use Rattle.zk_jute.specs.declared.fault.Reason.TheVariants.{Trailing}
-use Rattle.zk_jute.specs.Item.{Item, HaveBytes}
-use Rattle.zk_jute.specs.Layout.{Layout, End, IsValueOf}
-use Rattle.zk_jute.specs.Reading.{told_place}
-use Rattle.zk_jute.specs.Told.{StandsAt, HasSureFault, IsToldAt, IsSurelyTold, IsSurelyToldAt}
-use Rattle.zk_jute.specs.Verdict.{Says, IsValueAt}
-use Rattle.zk_jute.proofs.Steps.{IsBytes, IsBytes-drop}
-use Rattle.zk_jute.proofs.Layouts.{bytes_only}
-use Rattle.zk_jute.proofs.Sequels.{excluded}
-use Rattle.zk_jute.proofs.Judged.{says_more}
-use Rattle.zk_records.specs.Records.{request_header}
-use Rattle.zk_records.specs.declared.op.Op.{Op}
+use Rattle.zk_jute.specs.{declared.fault.ItemFault.ItemFault, declared.fault.Reason.TheVariants.Trailing, Item.Item, Item.HaveBytes, Layout.Layout, Layout.End, Layout.IsValueOf, Reading.told_place}
+use Rattle.zk_jute.specs.{Told.StandsAt, Told.HasSureFault, Told.IsToldAt, Told.IsSurelyTold, Told.IsSurelyToldAt, Verdict.Says, Verdict.IsValueAt}
+use Rattle.zk_jute.proofs.{Steps.IsBytes, Steps.IsBytes-drop, Layouts.bytes_only, Sequels.excluded, Judged.says_more}
+use Rattle.zk_records.specs.{Records.request_header, declared.op.Op.Op, declared.op.PartOp.PartOp, declared.profile.Profile.Profile, Codes.op_number, Codes.HasOp}
 use Rattle.zk_records.specs.declared.op.Op.TheVariants as ops
-use Rattle.zk_records.specs.declared.op.PartOp.{PartOp}
-use Rattle.zk_records.specs.declared.profile.Profile.{Profile}
-use Rattle.zk_records.specs.Codes.{op_number, HasOp}
-use Rattle.zk_asks.specs.Forms.{header_items, IsOf, IsBody}
-use Rattle.zk_asks.specs.Faults.{IsFaultOf, IsMultiFault, IsBodyFault, IsAskFault}
-use Rattle.zk_asks.specs.Rows.{Body, Fields, Parts, body_of, op_of_ask, body_items}
-use Rattle.zk_asks.specs.Frames.{ops_of_ask, others_have_none}
-use Rattle.zk_asks.specs.Parts.{op_of_part, part_layout, multi_items}
-use Rattle.zk_asks.specs.Codes.{IsAllowed}
-use Rattle.zk_asks.specs.declared.judge.Outline.{Outline}
-use Rattle.zk_asks.specs.Held.{Part}
+use Rattle.zk_asks.specs.{Forms.header_items, Forms.IsOf, Forms.IsBody, Faults.IsFaultOf, Faults.IsMultiFault, Faults.IsBodyFault, Faults.IsAskFault, Rows.Body, Rows.Fields, Rows.Parts, Rows.body_of, Rows.op_of_ask, Rows.body_items}
+use Rattle.zk_asks.specs.{Frames.ops_of_ask, Frames.others_have_none, Parts.op_of_part, Parts.part_layout, Parts.multi_items, Codes.IsAllowed, declared.judge.Outline.Outline, Held.Part}
 use Rattle.zk_asks.specs.declared.frame.AskOf.TheVariants as ask
 use Rattle.zk_asks.specs.Fronts.{IsRecordAt, IsHeadAt, IsBodyWith, IsOutlined, outline_of}
-use Rattle.zk_asks.proofs.Asks.{body_is, refused_body, refused_rest}
-use Rattle.zk_asks.proofs.Deciding.{body_decided, part_covered}
-use Rattle.zk_asks.proofs.Lying.{ask_sent}
+use Rattle.zk_asks.proofs.{Asks.body_is, Asks.refused_body, Asks.refused_rest, Deciding.body_decided, Deciding.part_covered, Lying.ask_sent}
 
 -- a body that is a record, or nothing, is no multi
 no_multi : (op : Op) (l : Layout) → body_of op ≡ Fields l → op ≡ ops.Multi → ⊥

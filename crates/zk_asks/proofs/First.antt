@@ -1,21 +1,11 @@
 -- The first payload: its fault is unique and excludes each frame, and frames tell their payloads apart.
 use Rattle.std.proofs.Common.{◌≡◌, ℕ, List, Option, Bool, inl, inr, refl, sym, ap, subst, ◌∙◌}
 use Rattle.std.specs.Prelude.{Result, Ok, Err, IfOk, IfErr}
-use Rattle.zk_jute.specs.declared.fault.ItemFault.{ItemFault}
-use Rattle.zk_jute.specs.declared.fault.Reason.{Reason}
-use Rattle.zk_jute.specs.Flagged.{flag_items}
-use Rattle.zk_jute.specs.Told.{IsTold, IsReadAs}
-use Rattle.zk_jute.proofs.Layouts.{have_parts}
-use Rattle.zk_jute.proofs.Flagged.{flagged_unique, flagged_excludes, flagged_injective}
-use Rattle.zk_jute.proofs.Sequels.{Same}
-use Rattle.zk_records.specs.Records.{connect_request}
-use Rattle.zk_records.specs.Held.{ConnectRequest}
-use Rattle.zk_asks.specs.Held.{ClientFrame}
+use Rattle.zk_jute.specs.{declared.fault.ItemFault.ItemFault, declared.fault.Reason.Reason, Flagged.flag_items, Told.IsTold, Told.IsReadAs, Item.Item, Item.bytes_of}
+use Rattle.zk_jute.proofs.{Layouts.have_parts, Flagged.flagged_unique, Flagged.flagged_excludes, Flagged.flagged_injective, Sequels.Same}
+use Rattle.zk_records.specs.{Records.connect_request, Held.ConnectRequest}
+use Rattle.zk_asks.specs.{Held.ClientFrame, Faults.IsFirstFault, Forms.IsHello, Frames.frame_items, Frames.IsSent, Frames.IsFirst, Frames.payload}
 use Rattle.zk_asks.specs.declared.frame.ClientFrameOf.TheVariants as frame
-use Rattle.zk_asks.specs.Faults.{IsFirstFault}
-use Rattle.zk_asks.specs.Forms.{IsHello}
-use Rattle.zk_asks.specs.Frames.{frame_items, IsSent, IsFirst, payload}
-use Rattle.zk_jute.specs.Item.{Item, bytes_of}
 
 pub first_unique : (bytes : List ℕ) (p q : ℕ) (r s : Reason) → IsFirstFault bytes p r → IsFirstFault bytes q s → Same p r q s
 first_unique bytes p q r s f g = flagged_unique connect_request.layout bytes p q r s f g

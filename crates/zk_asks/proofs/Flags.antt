@@ -2,15 +2,9 @@
 use Rattle.std.proofs.Common.{◌≡◌, ℕ, ◌+◌, inl, inr, false, List, [], ◌∷◌, ◌++◌, length, refl, sym, ap, subst, ◌∙◌, append_assoc, arith}
 use Rattle.std.specs.Prelude.{◌≢◌}
 use Rattle.std.proofs.lemmas.List.{append-nil, length-append}
-use Rattle.zk_jute.specs.declared.fault.Reason.{Reason}
-use Rattle.zk_jute.specs.declared.fault.Reason.TheVariants.{Trailing}
-use Rattle.zk_jute.specs.Item.{Item, ABoolean, bytes_of}
-use Rattle.zk_jute.specs.Layout.{Layout, IsValueOf}
-use Rattle.zk_jute.specs.Apart.{unfolds_only}
-use Rattle.zk_jute.specs.Faults.{IsFault}
+use Rattle.zk_jute.specs.{declared.fault.Reason.Reason, declared.fault.Reason.TheVariants.Trailing, Item.Item, Item.ABoolean, Item.bytes_of, Layout.Layout, Layout.IsValueOf, Apart.unfolds_only, Faults.IsFault}
 use Rattle.zk_jute.specs.Flagged.{flag_layout, IsFlaggedFault, in_value, in_flag, behind_flag, IsWithFlag, IsFlaggedOpeningFault, of_either, of_left}
-use Rattle.zk_jute.proofs.Layouts.{bytes_only, bytes_both}
-use Rattle.zk_jute.proofs.Sequels.{excluded}
+use Rattle.zk_jute.proofs.{Layouts.bytes_only, Layouts.bytes_both, Sequels.excluded}
 use Rattle.zk_asks.proofs.Openings.{cut, next_follows, goes_on, behind_front}
 
 a_flag : List Item

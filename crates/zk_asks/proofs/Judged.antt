@@ -3,31 +3,16 @@ use Rattle.std.proofs.Common.{w32, FitsSigned, ◌≡◌, ℕ, ◌+◌, ◌≤�
 use Rattle.std.specs.Prelude.{ℤ}
 use Rattle.std.specs.List.{flat_map}
 use Rattle.std.proofs.lemmas.List.{length-map}
-use Rattle.zk_jute.specs.Item.{Item, bytes_of, HaveBytes}
-use Rattle.zk_jute.specs.Told.{StandsAt}
-use Rattle.zk_jute.specs.Standing.{OneStands}
-use Rattle.zk_jute.specs.Shown.{Stretch, Begins, values_at}
-use Rattle.zk_jute.proofs.Layouts.{have_parts}
-use Rattle.zk_jute.proofs.Known.{stands_last}
-use Rattle.zk_jute.proofs.Stretches.{stands_split, values_told}
-use Rattle.zk_records.specs.declared.op.Op.{Op}
+use Rattle.zk_jute.specs.{Item.Item, Item.bytes_of, Item.HaveBytes, Told.StandsAt, Standing.OneStands, Shown.Stretch, Shown.Begins, Shown.values_at}
+use Rattle.zk_jute.proofs.{Layouts.have_parts, Known.stands_last, Stretches.stands_split, Stretches.values_told}
+use Rattle.zk_records.specs.{declared.op.Op.Op, Codes.op_number}
 use Rattle.zk_records.specs.declared.op.Op.TheVariants as ops
-use Rattle.zk_records.specs.Codes.{op_number}
-use Rattle.zk_asks.specs.Held.{Ask, Part, ClientFrame}
+use Rattle.zk_asks.specs.{Held.Ask, Held.Part, Held.ClientFrame, declared.judge.Outline.Outline, Forms.header_items, Forms.IsBody, Fronts.outline_of, Fronts.asking_of, Fronts.IsMultiOf}
 use Rattle.zk_asks.specs.declared.frame.AskOf.TheVariants as ask
 use Rattle.zk_asks.specs.declared.frame.ClientFrameOf.TheVariants as frame
-use Rattle.zk_asks.specs.declared.judge.Outline.{Outline}
-use Rattle.zk_asks.specs.Forms.{header_items, IsBody}
-use Rattle.zk_asks.specs.Fronts.{outline_of, asking_of, IsMultiOf}
-use Rattle.zk_asks.specs.Parts.{op_of_part, part_items, end_header, marked}
-use Rattle.zk_asks.specs.Rows.{row_of, Content, remake, items_in, op_of_ask, body_items}
-use Rattle.zk_asks.specs.Shown.{part_value}
+use Rattle.zk_asks.specs.{Parts.op_of_part, Parts.part_items, Parts.end_header, Parts.marked, Rows.row_of, Rows.Content, Rows.remake, Rows.items_in, Rows.op_of_ask, Rows.body_items, Shown.part_value}
 use Rattle.zk_asks.specs.Frames.{IsSent, ops_of_ask, payload}
-use Rattle.zk_asks.proofs.Made.{IsMade, is_made}
-use Rattle.zk_asks.proofs.Asks.{body_is}
-use Rattle.zk_asks.proofs.Later.{body_only, body_apart, ask_injective}
-use Rattle.zk_asks.proofs.Lying.{part_read}
-use Rattle.zk_asks.proofs.Knowing.{IsThe, made_stands}
+use Rattle.zk_asks.proofs.{Made.IsMade, Made.is_made, Asks.body_is, Later.body_only, Later.body_apart, Later.ask_injective, Lying.part_read, Knowing.IsThe, Knowing.made_stands}
 
 -- ---- a body at a place
 

@@ -2,25 +2,13 @@
 use Rattle.std.proofs.Common.{◌≡◌, ℕ, ◌+◌, ◌≤◌, List, ◌++◌, length, drop, Option, Some, Result, Ok, sym, ap, subst, ◌∙◌, arith}
 use Rattle.std.proofs.lemmas.List.{length-append, length-drop}
 use Rattle.std.specs.Prelude.{ℤ, IfOk, MatchOption}
-use Rattle.zk_jute.specs.Item.{bytes_of, Item, HaveBytes}
-use Rattle.zk_jute.specs.Layout.{IsValueOf}
-use Rattle.zk_jute.specs.Told.{StandsAt}
-use Rattle.zk_jute.specs.Wired.{Wired}
-use Rattle.zk_jute.specs.Standing.{OneStands}
-use Rattle.zk_jute.proofs.Layouts.{bytes_only, bytes_both, have_parts}
-use Rattle.zk_jute.proofs.Known.{stands_first, stands_last}
-use Rattle.zk_records.specs.Records.{request_header}
-use Rattle.zk_records.specs.declared.op.Op.{Op}
-use Rattle.zk_records.specs.declared.header.RequestHeader.{RequestHeader}
-use Rattle.zk_records.specs.Codes.{op_number}
+use Rattle.zk_jute.specs.{Item.bytes_of, Item.Item, Item.HaveBytes, Layout.IsValueOf, Told.StandsAt, Wired.Wired, Standing.OneStands}
+use Rattle.zk_jute.proofs.{Layouts.bytes_only, Layouts.bytes_both, Layouts.have_parts, Known.stands_first, Known.stands_last}
+use Rattle.zk_records.specs.{Records.request_header, declared.op.Op.Op, declared.header.RequestHeader.RequestHeader, Codes.op_number}
 use Rattle.zk_records.proofs.Numbers.{op_number_apart}
-use Rattle.zk_asks.specs.Held.{Ask, ClientFrame}
+use Rattle.zk_asks.specs.{Held.Ask, Held.ClientFrame, Forms.header_items, Rows.row_of, Rows.items_in, Rows.op_of_ask, Rows.body_items, Frames.IsSent, Frames.IsLater, Frames.payload}
 use Rattle.zk_asks.specs.declared.frame.ClientFrameOf.TheVariants as frame
-use Rattle.zk_asks.specs.Forms.{header_items}
-use Rattle.zk_asks.specs.Rows.{row_of, items_in, op_of_ask, body_items}
-use Rattle.zk_asks.specs.Frames.{IsSent, IsLater, payload}
-use Rattle.zk_asks.proofs.Made.{IsMade, is_made}
-use Rattle.zk_asks.proofs.Later.{header_is, header_same}
+use Rattle.zk_asks.proofs.{Made.IsMade, Made.is_made, Later.header_is, Later.header_same}
 
 -- the value at the place, whichever it is, and the place after it
 abbrev pub IsThe : {X : Type 0} → (X → List Item) → List ℕ → ℕ → X × ℕ → Type 0

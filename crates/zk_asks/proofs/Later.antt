@@ -2,31 +2,17 @@
 use Rattle.std.proofs.Common.{◌≡◌, ℕ, suc, ◌+◌, ◌⊎◌, inl, inr, List, [], ◌++◌, length, refl, sym, ap, subst, ◌∙◌, append_assoc, arith}
 use Rattle.std.specs.Prelude.{Result, Ok, Err, IfOk, IfErr, ℤ, ◌≢◌}
 use Rattle.std.proofs.lemmas.List.{append-nil, length-append}
-use Rattle.zk_jute.specs.declared.fault.Reason.{Reason}
-use Rattle.zk_jute.specs.declared.fault.ItemFault.{ItemFault}
+use Rattle.zk_jute.specs.{declared.fault.Reason.Reason, declared.fault.ItemFault.ItemFault, Item.Item, Item.bytes_of, Item.HaveBytes, Layout.IsValueOf, Told.IsTold}
 use Rattle.zk_jute.specs.declared.fault.Reason.TheVariants.{NoMemory, Trailing, UnknownOp, XidOp}
-use Rattle.zk_jute.specs.Item.{Item, bytes_of, HaveBytes}
-use Rattle.zk_jute.specs.Layout.{IsValueOf}
-use Rattle.zk_jute.proofs.Layouts.{bytes_only, bytes_both, have_parts}
-use Rattle.zk_records.specs.Records.{request_header}
-use Rattle.zk_records.specs.declared.header.RequestHeader.{RequestHeader}
-use Rattle.zk_records.specs.declared.op.Op.{Op}
-use Rattle.zk_asks.specs.Held.{Ask}
-use Rattle.zk_asks.specs.Held.{ClientFrame}
+use Rattle.zk_jute.proofs.{Layouts.bytes_only, Layouts.bytes_both, Layouts.have_parts, Sequels.Same, Sequels.Sequel, Sequels.sequel_same, Sequels.sequel_not}
+use Rattle.zk_records.specs.{Records.request_header, declared.header.RequestHeader.RequestHeader, declared.op.Op.Op, declared.profile.Profile.Profile, Codes.op_number, Codes.HasOp, Codes.IsNoOp}
+use Rattle.zk_asks.specs.{Held.Ask, Held.ClientFrame, Codes.IsAllowed, Frames.frame_items, Frames.IsSent, Frames.IsLater, Frames.IsOfProfile, Frames.payload}
 use Rattle.zk_asks.specs.declared.frame.ClientFrameOf.TheVariants as frame
-use Rattle.zk_records.specs.declared.profile.Profile.{Profile}
-use Rattle.zk_records.specs.Codes.{op_number, HasOp, IsNoOp}
-use Rattle.zk_asks.specs.Codes.{IsAllowed}
 use Rattle.zk_asks.specs.Forms.{header_items, op_header, IsOf, IsBody, IsAsk, asks}
 use Rattle.zk_asks.specs.Rows.{Row, holds, bare, multi, row_of, Content, remake, items_in, Body, Fields, Parts, body_of, op_of_ask, body_items}
 use Rattle.zk_asks.specs.Faults.{IsFaultOf, IsBodyFault, IsAskFault, in_header, unknown_op, bad_xid, in_body, behind_body}
-use Rattle.zk_asks.specs.Frames.{frame_items, IsSent, IsLater, IsOfProfile, payload}
-use Rattle.zk_jute.specs.Told.{IsTold}
 use Rattle.zk_records.proofs.Numbers.{op_number_apart}
-use Rattle.zk_jute.proofs.Sequels.{Same, Sequel, sequel_same, sequel_not}
-use Rattle.zk_asks.proofs.Parted.{multi_unique, multi_excludes, multi_only, multi_apart}
-use Rattle.zk_asks.proofs.Placed.{IsExact, layout_exact, Placed, placed_same, placed_not}
-use Rattle.zk_asks.proofs.Made.{IsMade, is_made}
+use Rattle.zk_asks.proofs.{Parted.multi_unique, Parted.multi_excludes, Parted.multi_only, Parted.multi_apart, Placed.IsExact, Placed.layout_exact, Placed.Placed, Placed.placed_same, Placed.placed_not, Made.IsMade, Made.is_made}
 use Rattle.zk_asks.proofs.Asks.{body_is}
 
 -- ---- bodies

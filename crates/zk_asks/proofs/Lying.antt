@@ -1,45 +1,27 @@
 -- Parts that lie in a payload: what stands there is their value, and where they are passed.
-use Rattle.std.proofs.Common.{◌≡◌, ℕ, ◌+◌, ◌≤◌, ◌<◌, List, [], ◌∷◌, ◌++◌, length, drop, Some, Ok, refl, sym, ap, subst, ◌∙◌, arith}
+use Rattle.std.proofs.Common.{◌≡◌, ℕ, ◌+◌, ◌≤◌, ◌<◌, List, [], ◌∷◌, ◌++◌, length, drop, Some, Ok, refl, sym, ap, subst, ◌∙◌, arith, to_z, of_z}
 use Rattle.std.specs.Prelude.{ℤ, negsuc, false, Option, None, MatchOption, map, slice_get, get_or, ◌≢◌}
-use Rattle.std.specs.Int.{w32}
-use Rattle.std.proofs.Common.{to_z, of_z}
+use Rattle.std.specs.{Int.w32, List.flat_map, Option.option_map}
 use Rattle.std.proofs.lemmas.Int.{to_z-of_z}
-use Rattle.std.specs.List.{flat_map}
 use Rattle.std.proofs.lemmas.List.{append-nil, length-drop, length-map, drop-drop, get_or-drop}
 use Rattle.std.proofs.lemmas.Option.{slice_get_past, slice_get-map, slice_get-get_or}
-use Rattle.std.specs.Option.{option_map}
-use Rattle.zk_jute.specs.Item.{Item, AnInt, ABoolean, bytes_of, HaveBytes}
-use Rattle.zk_jute.specs.Layout.{IsValueOf}
+use Rattle.zk_jute.specs.{Item.Item, Item.AnInt, Item.ABoolean, Item.bytes_of, Item.HaveBytes, Layout.IsValueOf, Told.StandsAt, Standing.OneStands}
 use Rattle.zk_jute.specs.Reading.{Read, ◌>>=◌, read_map, int_at, items_at}
-use Rattle.zk_jute.specs.Told.{StandsAt}
 use Rattle.zk_jute.specs.Wired.{int, ustring, buffer, vector, ◌and◌}
-use Rattle.zk_jute.specs.Standing.{OneStands}
 use Rattle.zk_jute.specs.Shown.{text_value, blob_value, list_value, both_at, text_is_value, Stretch, Begins, AreThere, values_at}
-use Rattle.zk_jute.proofs.Layouts.{items_again, have_both, have_parts}
-use Rattle.zk_jute.proofs.Sequels.{stands_then, none_left}
-use Rattle.zk_jute.proofs.Stretches.{stands_split, values_counted, one_passed}
+use Rattle.zk_jute.proofs.{Layouts.items_again, Layouts.have_both, Layouts.have_parts, Sequels.stands_then, Sequels.none_left, Stretches.stands_split, Stretches.values_counted, Stretches.one_passed}
 use Rattle.zk_jute.proofs.Valued.{IsValued, int_valued, blob_valued, both_valued, list_valued, value_read, recast}
 use Rattle.zk_records.specs.Records.{multi_header, acl, create_ask, delete_ask, set_data_ask, check_ask}
-use Rattle.zk_records.specs.Shown.{acl_value, acl_is_value}
-use Rattle.zk_records.specs.Codes.{op_number, part_number}
+use Rattle.zk_records.specs.{Shown.acl_value, Shown.acl_is_value, Codes.op_number, Codes.part_number, declared.header.MultiHeader.MultiHeader, declared.op.PartOp.PartOp}
 use Rattle.zk_records.proofs.Numbers.{part_number_apart}
-use Rattle.zk_records.specs.declared.header.MultiHeader.{MultiHeader}
-use Rattle.zk_records.specs.declared.op.PartOp.{PartOp}
 use Rattle.zk_records.specs.declared.op.PartOp.TheVariants as parts
-use Rattle.zk_asks.specs.Held.{Part, Ask}
+use Rattle.zk_asks.specs.{Held.Part, Held.Ask, Codes.IsAllowed, Forms.header_items, Rows.op_of_ask, Rows.body_items, Frames.IsSent, Frames.payload, Multi.AreHeaded}
 use Rattle.zk_asks.specs.declared.frame.ClientFrameOf.TheVariants as frame
-use Rattle.zk_asks.specs.Codes.{IsAllowed}
-use Rattle.zk_asks.specs.Forms.{header_items}
-use Rattle.zk_asks.specs.Rows.{op_of_ask, body_items}
-use Rattle.zk_asks.specs.Frames.{IsSent, payload}
 use Rattle.zk_asks.specs.declared.frame.PartOf.TheVariants as part
 use Rattle.zk_asks.specs.Parts.{part_row, part_layout, part_header, end_header, marked, op_of_part, record_of, part_items, multi_items}
 use Rattle.zk_records.specs.Made as made
 use Rattle.zk_asks.specs.Shown.{create_value, delete_value, set_data_value, check_value, part_numbered, record_value, part_value}
-use Rattle.zk_asks.proofs.Knowing.{IsThe}
-use Rattle.zk_asks.specs.Multi.{AreHeaded}
-use Rattle.zk_asks.proofs.Parts.{IsMade, part_made, record_is}
-use Rattle.zk_asks.proofs.Parted.{not_end, nine}
+use Rattle.zk_asks.proofs.{Knowing.IsThe, Parts.IsMade, Parts.part_made, Parts.record_is, Parted.not_end, Parted.nine}
 
 -- ---- the records
 

@@ -2,9 +2,8 @@
 use Rattle.std.proofs.Common.{◌≡◌, refl}
 use Rattle.zk_records.specs.declared.op.Op.{Op}
 use Rattle.zk_records.specs.declared.op.Op.TheVariants as ops
-use Rattle.zk_asks.specs.Held.{Ask}
+use Rattle.zk_asks.specs.{Held.Ask, Rows.row_of, Rows.Content, Rows.remake, Rows.items_in, Rows.op_of_ask, Rows.body_items}
 use Rattle.zk_asks.specs.declared.frame.AskOf.TheVariants as ask
-use Rattle.zk_asks.specs.Rows.{row_of, Content, remake, items_in, op_of_ask, body_items}
 
 -- an ask is its operation and its content
 unfoldable pub IsMade : Op → Ask → Type 0

@@ -3,28 +3,17 @@ use Rattle.std.proofs.Common.{◌≡◌, ℕ, ◌+◌, ◌⊎◌, inl, inr, Bool
 use Rattle.std.specs.Prelude.{ℤ, pos, negsuc}
 use Rattle.std.proofs.lemmas.Int.{ints}
 use Rattle.std.proofs.lemmas.List.{append-nil, length-append, append_cancel_left, map-append}
-use Rattle.zk_jute.specs.declared.fault.Reason.{Reason}
-use Rattle.zk_jute.specs.declared.fault.Reason.TheVariants.{BadPart}
+use Rattle.zk_jute.specs.{declared.fault.Reason.Reason, declared.fault.Reason.TheVariants.BadPart, Apart.cons_is, Apart.unfolds_only, Faults.IsNext, Faults.IsBad, Faults.IsFault, Faults.Opens}
 use Rattle.zk_jute.specs.Item.{Kind, Int, Boolean, Item, AnInt, ABoolean, kind_of, bytes_of, HaveBytes}
 use Rattle.zk_jute.specs.Layout.{Layout, IsValueOf, ◌then◌}
-use Rattle.zk_jute.specs.Apart.{cons_is, unfolds_only}
-use Rattle.zk_jute.specs.Faults.{IsNext, IsBad, IsFault, Opens}
 use Rattle.zk_jute.proofs.Layouts.{bytes_both}
-use Rattle.zk_records.specs.Records.{multi_header}
-use Rattle.zk_records.specs.declared.header.MultiHeader.{MultiHeader}
-use Rattle.zk_records.specs.declared.op.Op.{Op}
+use Rattle.zk_records.specs.{Records.multi_header, declared.header.MultiHeader.MultiHeader, declared.op.Op.Op, declared.op.PartOp.PartOp, declared.profile.Profile.Profile, Codes.op_number}
 use Rattle.zk_records.specs.declared.op.Op.TheVariants as ops
-use Rattle.zk_records.specs.declared.op.PartOp.{PartOp}
-use Rattle.zk_records.specs.declared.profile.Profile.{Profile}
-use Rattle.zk_records.specs.Codes.{op_number}
-use Rattle.zk_asks.specs.Parts.{part_layout, part_header, end_header, MayStand, marked}
-use Rattle.zk_asks.specs.Rows.{Body, Fields, Parts, body_of}
-use Rattle.zk_asks.specs.Forms.{header_items, IsRequested}
+use Rattle.zk_asks.specs.{Parts.part_layout, Parts.part_header, Parts.end_header, Parts.MayStand, Parts.marked, Rows.Body, Rows.Fields, Rows.Parts, Rows.body_of, Forms.header_items, Forms.IsRequested}
 use Rattle.zk_asks.specs.Faults.{IsMultiFault, in_mark, bad_mark, in_part, behind_part, IsFaultOf, IsAskFault, in_header, unknown_op, bad_xid, in_body, behind_body}
 use Rattle.zk_asks.specs.Openings.{AreParts, no_part, one_more, AreHeaded, last, a_part_before, IsHeaded, IsRequest, IsOpeningFault, of_header, of_type, of_xid, of_item, of_part, of_rest}
 use Rattle.zk_asks.proofs.Openings.{cut, NextIs, next_follows, goes_on, behind_front, drop_front}
-use Rattle.zk_asks.proofs.Parts.{mark_is}
-use Rattle.zk_asks.proofs.Parted.{op_same, not_end, end_bytes, mark_bytes, part_mark}
+use Rattle.zk_asks.proofs.{Parts.mark_is, Parted.op_same, Parted.not_end, Parted.end_bytes, Parted.mark_bytes, Parted.part_mark}
 
 -- ---- a multi's header
 

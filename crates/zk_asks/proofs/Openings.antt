@@ -1,15 +1,9 @@
 -- Openings of values that stand one behind the other.
 use Rattle.std.proofs.Common.{◌≡◌, ℕ, ◌+◌, ◌⊎◌, inl, inr, List, [], ◌∷◌, ◌++◌, length, Ok, refl, sym, ap, subst, ◌∙◌, append_assoc, arith}
 use Rattle.std.proofs.lemmas.List.{append-nil, length-append, append_cancel_left}
-use Rattle.zk_jute.specs.declared.fault.Reason.{Reason}
+use Rattle.zk_jute.specs.{declared.fault.Reason.Reason, Layout.Layout, Layout.IsValueOf, Apart.cons_is, Apart.unfolds_only, Faults.Begins, Faults.IsNext, Faults.IsBad, Faults.IsFault, Reading.Read}
 use Rattle.zk_jute.specs.Item.{Kind, Item, kind_of, item_bytes, bytes_of, HasBytes, HaveBytes}
-use Rattle.zk_jute.specs.Layout.{Layout, IsValueOf}
-use Rattle.zk_jute.specs.Apart.{cons_is, unfolds_only}
-use Rattle.zk_jute.specs.Faults.{Begins, IsNext, IsBad, IsFault}
-use Rattle.zk_jute.specs.Reading.{Read}
-use Rattle.zk_jute.proofs.Primitives.{item_again}
-use Rattle.zk_jute.proofs.Unique.{err, bad_again}
-use Rattle.zk_jute.proofs.Layouts.{bytes_both, have_parts}
+use Rattle.zk_jute.proofs.{Primitives.item_again, Unique.err, Unique.bad_again, Layouts.bytes_both, Layouts.have_parts}
 
 -- an opening ends within the front, or goes past it
 pub cut : {A : Type 0} (o more front body : List A) → o ++ more ≡ front ++ body

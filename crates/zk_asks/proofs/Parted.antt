@@ -2,24 +2,14 @@
 use Rattle.std.proofs.Common.{◌≡◌, ℕ, zero, suc, ◌+◌, ◌<◌, ◌⊎◌, inl, inr, true, false, Bool, List, [], ◌∷◌, ◌++◌, length, refl, sym, ap, subst, ◌∙◌, append_assoc, arith}
 use Rattle.std.specs.Prelude.{ℤ}
 use Rattle.std.specs.List.{flat_map}
-use Rattle.std.proofs.lemmas.Int.{ints}
-use Rattle.std.proofs.lemmas.List.{append-nil, length-append}
-use Rattle.zk_jute.specs.declared.fault.Reason.{Reason}
-use Rattle.zk_jute.specs.declared.fault.Reason.TheVariants.{BadPart}
-use Rattle.zk_jute.specs.Item.{Item, bytes_of, HaveBytes}
-use Rattle.zk_jute.specs.Layout.{IsValueOf, Unfolds}
-use Rattle.zk_jute.specs.Apart.{unfolds_only}
-use Rattle.zk_jute.proofs.Layouts.{bytes_only, bytes_both, has_byte}
-use Rattle.zk_records.specs.Records.{multi_header}
-use Rattle.zk_records.specs.declared.header.MultiHeader.{MultiHeader}
-use Rattle.zk_records.specs.declared.op.PartOp.{PartOp}
+use Rattle.std.proofs.{lemmas.Int.ints, lemmas.List.append-nil, lemmas.List.length-append}
+use Rattle.zk_jute.specs.{declared.fault.Reason.Reason, declared.fault.Reason.TheVariants.BadPart, Item.Item, Item.bytes_of, Item.HaveBytes, Layout.IsValueOf, Layout.Unfolds, Apart.unfolds_only}
+use Rattle.zk_jute.proofs.{Layouts.bytes_only, Layouts.bytes_both, Layouts.has_byte, Sequels.Same, Sequels.Sequel, Sequels.sequel_same, Sequels.sequel_not}
+use Rattle.zk_records.specs.{Records.multi_header, declared.header.MultiHeader.MultiHeader, declared.op.PartOp.PartOp}
 use Rattle.zk_records.specs.declared.op.PartOp.TheVariants as parts
-use Rattle.zk_asks.specs.Held.{Part}
+use Rattle.zk_asks.specs.{Held.Part, Faults.IsMultiFault, Faults.in_mark, Faults.bad_mark, Faults.in_part, Faults.behind_part}
 use Rattle.zk_records.proofs.Numbers.{part_number_apart}
-use Rattle.zk_asks.specs.Parts.{part_row, part_layout, part_header, end_header, marked, MayStand, IsMulti, no_more, a_part}
-use Rattle.zk_asks.specs.Faults.{IsMultiFault, in_mark, bad_mark, in_part, behind_part}
-use Rattle.zk_asks.specs.Parts.{record_of, op_of_part, part_items, multi_items}
-use Rattle.zk_jute.proofs.Sequels.{Same, Sequel, sequel_same, sequel_not}
+use Rattle.zk_asks.specs.Parts.{part_row, part_layout, part_header, end_header, marked, MayStand, IsMulti, no_more, a_part, record_of, op_of_part, part_items, multi_items}
 use Rattle.zk_asks.proofs.Parts.{IsMade, part_made, record_is, mark_is}
 
 -- ---- headers

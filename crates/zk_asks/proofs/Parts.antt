@@ -2,25 +2,14 @@
 use Rattle.std.proofs.Common.{◌≡◌, ℕ, ◌+◌, inl, inr, List, [], ◌∷◌, ◌++◌, length, drop, refl, sym, ap, subst, ◌∙◌, append_assoc, arith}
 use Rattle.std.specs.List.{flat_map}
 use Rattle.std.proofs.lemmas.List.{length-append}
-use Rattle.zk_jute.specs.declared.fault.ItemFault.{ItemFault}
-use Rattle.zk_jute.specs.declared.fault.Reason.{Reason}
-use Rattle.zk_jute.specs.declared.fault.Reason.TheVariants.{BadPart}
-use Rattle.zk_jute.specs.Item.{Item, bytes_of, HaveBytes}
-use Rattle.zk_jute.specs.Faults.{IsFault}
-use Rattle.zk_jute.specs.Layout.{IsValueOf, Unfolds}
-use Rattle.zk_jute.specs.Reading.{told_place}
-use Rattle.zk_jute.specs.Told.{StandsAt, IsToldFault}
+use Rattle.zk_jute.specs.{declared.fault.ItemFault.ItemFault, declared.fault.Reason.Reason, declared.fault.Reason.TheVariants.BadPart, Item.Item, Item.bytes_of, Item.HaveBytes, Faults.IsFault, Layout.IsValueOf, Layout.Unfolds}
+use Rattle.zk_jute.specs.{Reading.told_place, Told.StandsAt, Told.IsToldFault, Told.IsToldAt}
 use Rattle.zk_jute.proofs.Layouts.{bytes_both, have_parts}
-use Rattle.zk_records.specs.Records.{multi_header}
-use Rattle.zk_records.specs.declared.header.MultiHeader.{MultiHeader}
-use Rattle.zk_records.specs.declared.op.PartOp.{PartOp}
+use Rattle.zk_records.specs.{Records.multi_header, declared.header.MultiHeader.MultiHeader, declared.op.PartOp.PartOp}
 use Rattle.zk_records.specs.declared.op.PartOp.TheVariants as parts
-use Rattle.zk_asks.specs.Held.{Part}
+use Rattle.zk_asks.specs.{Held.Part, Faults.IsMultiFault, Faults.in_mark, Faults.bad_mark, Faults.in_part, Faults.behind_part}
 use Rattle.zk_asks.specs.declared.frame.PartOf.TheVariants as part
-use Rattle.zk_asks.specs.Parts.{part_row, part_layout, part_header, end_header, marked, MayStand, IsMulti, no_more, a_part}
-use Rattle.zk_asks.specs.Faults.{IsMultiFault, in_mark, bad_mark, in_part, behind_part}
-use Rattle.zk_asks.specs.Parts.{record_of, op_of_part, part_items, multi_items}
-use Rattle.zk_jute.specs.Told.{IsToldAt}
+use Rattle.zk_asks.specs.Parts.{part_row, part_layout, part_header, end_header, marked, MayStand, IsMulti, no_more, a_part, record_of, op_of_part, part_items, multi_items}
 
 -- ---- a part
 

@@ -1,12 +1,7 @@
 -- A form behind so many bytes, and what comes behind it, with places counted from the beginning.
 use Rattle.std.proofs.Common.{◌≡◌, ℕ, ◌+◌, ◌⊎◌, inl, inr, List, ◌++◌, sym, subst, ◌∙◌, arith}
-use Rattle.zk_jute.specs.declared.fault.Reason.{Reason}
-use Rattle.zk_jute.specs.Item.{Item, bytes_of}
-use Rattle.zk_jute.specs.Layout.{Layout, IsValueOf}
-use Rattle.zk_jute.specs.Faults.{IsFault}
-use Rattle.zk_jute.proofs.Layouts.{bytes_only}
-use Rattle.zk_jute.proofs.Decided.{one_fault}
-use Rattle.zk_jute.proofs.Sequels.{Same, excluded}
+use Rattle.zk_jute.specs.{declared.fault.Reason.Reason, Item.Item, Item.bytes_of, Layout.Layout, Layout.IsValueOf, Faults.IsFault}
+use Rattle.zk_jute.proofs.{Layouts.bytes_only, Decided.one_fault, Sequels.Same, Sequels.excluded}
 
 -- a form has one fault, and none where its items are, and is read in one way
 pub record IsExact (IsForm : List Item → Type 0) (IsFormFault : List ℕ → ℕ → Reason → Type 0) : Type 0 where

@@ -1,20 +1,10 @@
 -- Requests and parts, by where they begin and end.
 use Rattle.std.specs.Prelude.{◌≡◌, ℕ, ℤ, List, length, Option, Some, None}
-use Rattle.zk_jute.specs.Item.{HaveBytes}
-use Rattle.zk_jute.specs.Layout.{IsValueOf}
-use Rattle.zk_jute.specs.Told.{StandsAt}
-use Rattle.zk_records.specs.declared.op.Op.{Op}
-use Rattle.zk_records.specs.declared.op.PartOp.{PartOp}
-use Rattle.zk_records.specs.declared.profile.Profile.{Profile}
-use Rattle.zk_records.specs.Codes.{HasOp}
-use Rattle.zk_asks.specs.Codes.{IsAllowed}
-use Rattle.zk_asks.specs.Forms.{op_header}
-use Rattle.zk_asks.specs.Held.{Ask, Part, ClientFrame}
+use Rattle.zk_jute.specs.{Item.HaveBytes, Layout.IsValueOf, Told.StandsAt}
+use Rattle.zk_records.specs.{declared.op.Op.Op, declared.op.PartOp.PartOp, declared.profile.Profile.Profile, Codes.HasOp}
+use Rattle.zk_asks.specs.{Codes.IsAllowed, Forms.op_header, Held.Ask, Held.Part, Held.ClientFrame, declared.judge.Outline.Outline, Parts.part_layout, Parts.op_of_part, Parts.record_of, Rows.op_of_ask, Rows.body_items}
 use Rattle.zk_asks.specs.declared.frame.AskOf.TheVariants as ask
 use Rattle.zk_asks.specs.declared.frame.ClientFrameOf.TheVariants as frame
-use Rattle.zk_asks.specs.declared.judge.Outline.{Outline}
-use Rattle.zk_asks.specs.Parts.{part_layout, op_of_part, record_of}
-use Rattle.zk_asks.specs.Rows.{op_of_ask, body_items}
 use Rattle.zk_asks.specs.Frames.{ops_of_ask, IsSent, payload}
 
 -- the record of a part of this operation is at the place, and ends there

@@ -2,9 +2,7 @@
 use Rattle.std.specs.Prelude.{List}
 use Rattle.zk_jute.specs.Held.{Text, Blob, Vector}
 use Rattle.zk_records.specs.Held.{Acl}
-use Rattle.zk_asks.specs.declared.frame.PartOf.{PartOf}
-use Rattle.zk_asks.specs.declared.frame.AskOf.{AskOf}
-use Rattle.zk_asks.specs.declared.frame.ClientFrameOf.{ClientFrameOf}
+use Rattle.zk_asks.specs.{declared.frame.PartOf.PartOf, declared.frame.AskOf.AskOf, declared.frame.ClientFrameOf.ClientFrameOf}
 
 abbrev pub Part : Type 0
 Part = PartOf Text Blob (Vector Acl)

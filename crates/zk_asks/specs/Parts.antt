@@ -1,16 +1,11 @@
 -- The parts of a multi (MultiTransactionRecord).
 use Rattle.std.specs.Prelude.{◌≡◌, negsuc, true, false, List, ◌++◌, ◌⊎◌}
 use Rattle.std.specs.List.{flat_map}
-use Rattle.zk_jute.specs.Item.{Item}
-use Rattle.zk_jute.specs.Layout.{Layout, IsValueOf}
-use Rattle.zk_jute.specs.Wired.{Wired}
+use Rattle.zk_jute.specs.{Item.Item, Layout.Layout, Layout.IsValueOf, Wired.Wired}
 use Rattle.zk_records.specs.Records.{multi_header, create_ask, delete_ask, set_data_ask, check_ask}
-use Rattle.zk_records.specs.declared.header.MultiHeader.{MultiHeader}
-use Rattle.zk_records.specs.declared.op.PartOp.{PartOp}
+use Rattle.zk_records.specs.{declared.header.MultiHeader.MultiHeader, declared.op.PartOp.PartOp, Codes.part_number}
 use Rattle.zk_records.specs.declared.op.PartOp.TheVariants as parts
-use Rattle.zk_records.specs.Codes.{part_number}
-use Rattle.zk_asks.specs.declared.frame.PartOf.{PartOf}
-use Rattle.zk_asks.specs.Held.{Part}
+use Rattle.zk_asks.specs.{declared.frame.PartOf.PartOf, Held.Part}
 use Rattle.zk_asks.specs.declared.frame.PartOf.TheVariants as part
 
 -- what a part's record is, and the part that it makes

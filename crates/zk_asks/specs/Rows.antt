@@ -1,15 +1,11 @@
 -- What each operation's request is made of: the one table.
 use Rattle.std.specs.Prelude.{List, []}
-use Rattle.zk_jute.specs.Item.{Item}
-use Rattle.zk_jute.specs.Layout.{Layout, End}
-use Rattle.zk_jute.specs.Wired.{Wired}
+use Rattle.zk_jute.specs.{Item.Item, Layout.Layout, Layout.End, Wired.Wired}
 use Rattle.zk_records.specs.Records.{create_ask, delete_ask, watch_ask, set_data_ask, path_ask, set_acl_ask, auth_ask, set_watches_ask}
 use Rattle.zk_records.specs.declared.op.Op.{Op}
 use Rattle.zk_records.specs.declared.op.Op.TheVariants as ops
-use Rattle.zk_asks.specs.declared.frame.AskOf.{AskOf}
-use Rattle.zk_asks.specs.Held.{Part, Ask}
+use Rattle.zk_asks.specs.{declared.frame.AskOf.AskOf, Held.Part, Held.Ask, Parts.multi_items}
 use Rattle.zk_asks.specs.declared.frame.AskOf.TheVariants as ask
-use Rattle.zk_asks.specs.Parts.{multi_items}
 
 -- a record of its own, nothing, or a multi's parts; each with the ask that it makes
 pub data Row : Type 1 where

@@ -1,15 +1,10 @@
 -- Borrowed parts, as values of their payload's bytes.
 use Rattle.std.specs.Prelude.{ℕ, ◌+◌, ℤ, List, [], ◌∷◌, Option, Some, None}
-use Rattle.std.specs.Map.{lookup}
-use Rattle.std.specs.Ordering.{int_eq}
-use Rattle.zk_jute.specs.declared.fault.Reason.TheVariants.{BadPart}
+use Rattle.std.specs.{Map.lookup, Ordering.int_eq}
+use Rattle.zk_jute.specs.{declared.fault.Reason.TheVariants.BadPart, Shown.text_value, Shown.blob_value, Shown.list_value, Shown.both_at}
 use Rattle.zk_jute.specs.Reading.{Read, fault, ◌>>=◌, read_map, int_at}
-use Rattle.zk_jute.specs.Shown.{text_value, blob_value, list_value, both_at}
-use Rattle.zk_records.specs.Held.{CreateAsk, DeleteAsk, SetDataAsk, CheckAsk}
+use Rattle.zk_records.specs.{Held.CreateAsk, Held.DeleteAsk, Held.SetDataAsk, Held.CheckAsk, Shown.acl_value, Codes.part_number, declared.op.PartOp.PartOp}
 use Rattle.zk_records.specs.Made as made
-use Rattle.zk_records.specs.Shown.{acl_value}
-use Rattle.zk_records.specs.Codes.{part_number}
-use Rattle.zk_records.specs.declared.op.PartOp.{PartOp}
 use Rattle.zk_records.specs.declared.op.PartOp.TheVariants as parts
 use Rattle.zk_asks.specs.Held.{Part}
 use Rattle.zk_asks.specs.declared.frame.PartOf.TheVariants as part

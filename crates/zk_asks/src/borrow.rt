@@ -1,9 +1,7 @@
 //! `borrow_first`, `borrow_ask`: a client's payload judged and returned borrowed, without memory.
 ghost use Rattle.std.specs.Prelude.{◌≡◌, Ok, IfOk, IfErr};
-ghost use Rattle.zk_jute.specs.declared.fault.Reason.TheVariants.{NoMemory};
-ghost use Rattle.zk_jute.specs.Told.{IsSurelyTold};
-ghost use Rattle.zk_asks.specs.Held.{ClientFrame};
-ghost use Rattle.zk_asks.specs.Frames.{IsSent, IsFirst, IsLater, IsOfProfile};
+ghost use Rattle.zk_jute.specs.{declared.fault.Reason.TheVariants.NoMemory, Told.IsSurelyTold};
+ghost use Rattle.zk_asks.specs.{Held.ClientFrame, Frames.IsSent, Frames.IsFirst, Frames.IsLater, Frames.IsOfProfile};
 ghost use Rattle.zk_asks.specs.Frames as frames;
 ghost use Rattle.zk_asks.specs.Faults.{IsAskFault, IsFirstFault};
 

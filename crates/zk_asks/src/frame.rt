@@ -1,8 +1,6 @@
 //! `ClientFrame`, `Ask` and `Part`: what a client sends, a connect request and then requests.
 ghost use Rattle.std.specs.Prelude.{◌≡◌};
-ghost use Rattle.zk_asks.specs.Parts.{op_of_part};
-ghost use Rattle.zk_asks.specs.Rows.{op_of_ask};
-ghost use Rattle.zk_asks.specs.Frames.{parts_of_ask};
+ghost use Rattle.zk_asks.specs.{Parts.op_of_part, Rows.op_of_ask, Frames.parts_of_ask};
 
 use crate::part_list::PartList;
 use zk_jute::{Blob, BlobRef, Items, List, Text, TextList, TextRef};

@@ -1,11 +1,7 @@
 //! `judge_ask`: a client's later payload, judged by where its record ends; no frame is made.
 ghost use Rattle.std.specs.Prelude.{◌≡◌, ◌≤◌, ◌<◌, ◌^◌, ℤ, List, length, IfOk, IfErr};
-ghost use Rattle.zk_asks.specs.Held.{Part};
-ghost use Rattle.zk_jute.specs.Told.{IsSurelyTold, IsSurelyToldAt};
-ghost use Rattle.zk_jute.specs.Verdict.{Says};
-ghost use Rattle.zk_asks.specs.Faults.{IsAskFault, IsBodyFault};
-ghost use Rattle.zk_asks.specs.Rows.{Fields, body_of};
-ghost use Rattle.zk_asks.specs.Fronts.{IsHeadAt, IsOutlined, IsBodyWith, IsMultiOf};
+ghost use Rattle.zk_asks.specs.{Held.Part, Faults.IsAskFault, Faults.IsBodyFault, Rows.Fields, Rows.body_of, Fronts.IsHeadAt, Fronts.IsOutlined, Fronts.IsBodyWith, Fronts.IsMultiOf};
+ghost use Rattle.zk_jute.specs.{Told.IsSurelyTold, Told.IsSurelyToldAt, Verdict.Says};
 
 use crate::ask_rows;
 use crate::codes::allowed;

@@ -1,11 +1,7 @@
 //! `client_ref`, `judged_ref`: payloads known to be a client's frames, borrowed without a judgement.
 ghost use Rattle.std.specs.Prelude.{◌≡◌, ◌≤◌, ℕ, length, Some};
-ghost use Rattle.zk_jute.specs.Item.{HaveBytes};
-ghost use Rattle.zk_jute.specs.Told.{StandsAt};
-ghost use Rattle.zk_jute.specs.Standing.{OneStands};
-ghost use Rattle.zk_asks.specs.Held.{Ask, ClientFrame};
-ghost use Rattle.zk_asks.specs.Rows.{row_of, items_in, op_of_ask, body_items};
-ghost use Rattle.zk_asks.specs.Frames.{IsLater, IsSent, IsTurn};
+ghost use Rattle.zk_jute.specs.{Item.HaveBytes, Told.StandsAt, Standing.OneStands};
+ghost use Rattle.zk_asks.specs.{Held.Ask, Held.ClientFrame, Rows.row_of, Rows.items_in, Rows.op_of_ask, Rows.body_items, Frames.IsLater, Frames.IsSent, Frames.IsTurn};
 ghost use Rattle.zk_asks.specs.Frames as frames;
 ghost use Rattle.zk_asks.specs.Fronts.{asking_of};
 

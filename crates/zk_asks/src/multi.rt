@@ -1,11 +1,7 @@
 //! What comes after a header within a multi (`MultiTransactionRecord.deserialize`), and the walk to the end marker.
 ghost use Rattle.std.specs.Prelude.{◌≡◌, ◌≤◌, ◌↔◌, ℕ, List, length, IsTrue};
-ghost use Rattle.zk_jute.specs.Item.{HaveBytes};
-ghost use Rattle.zk_jute.specs.Shown.{AreTold};
-ghost use Rattle.zk_jute.specs.Standing.{OneStands};
-ghost use Rattle.zk_jute.specs.Told.{StandsAt};
-ghost use Rattle.zk_asks.specs.Multi.{AreHeaded, Marks};
-ghost use Rattle.zk_asks.specs.Parts.{end_header, ended};
+ghost use Rattle.zk_jute.specs.{Item.HaveBytes, Shown.AreTold, Standing.OneStands, Told.StandsAt};
+ghost use Rattle.zk_asks.specs.{Multi.AreHeaded, Multi.Marks, Parts.end_header, Parts.ended};
 
 use zk_jute::{Member, Sequence, known_at};
 use zk_records::{MultiHeader, PartOp, part_of};

@@ -1,15 +1,8 @@
 //! `PartList`: the parts of a multi, borrowed from its payload.
 ghost use Rattle.std.specs.Prelude.{List, ◌≡◌, ◌≤◌, ℕ, length, Ok, IfOk, IfErr};
-ghost use Rattle.zk_jute.specs.Item.{HaveBytes};
-ghost use Rattle.zk_jute.specs.Layout.{IsValueOf};
-ghost use Rattle.zk_jute.specs.Told.{StandsAt, HasSureFault, IsSurelyToldAt};
-ghost use Rattle.zk_jute.specs.Verdict.{Says};
-ghost use Rattle.zk_asks.specs.Held.{Part};
-ghost use Rattle.zk_jute.specs.Standing.{OneStands};
+ghost use Rattle.zk_jute.specs.{Item.HaveBytes, Layout.IsValueOf, Told.StandsAt, Told.HasSureFault, Told.IsSurelyToldAt, Verdict.Says, Standing.OneStands};
+ghost use Rattle.zk_asks.specs.{Held.Part, Faults.IsMultiFault, Fronts.IsRecordAt, Fronts.IsOwnRecord, Shown.part_value};
 ghost use Rattle.zk_asks.specs.Parts.{part_row, part_layout, op_of_part, record_of, part_items, multi_items};
-ghost use Rattle.zk_asks.specs.Faults.{IsMultiFault};
-ghost use Rattle.zk_asks.specs.Fronts.{IsRecordAt, IsOwnRecord};
-ghost use Rattle.zk_asks.specs.Shown.{part_value};
 
 use crate::frame::{PartOf, PartRef};
 use crate::multi::{PartMark, part_mark_of};

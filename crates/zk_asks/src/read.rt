@@ -3,8 +3,7 @@ ghost use Rattle.std.specs.Prelude.{◌≡◌, IfOk, IfErr};
 ghost use Rattle.zk_jute.specs.Told.{IsReadAs, IsTold};
 ghost use Rattle.zk_asks.specs.Frames.{IsSent, IsFirst, IsLater, IsOfProfile};
 ghost use Rattle.zk_asks.specs.Frames as frames;
-ghost use Rattle.zk_asks.specs.Held.{ClientFrame};
-ghost use Rattle.zk_asks.specs.Faults.{IsFirstFault, IsAskFault};
+ghost use Rattle.zk_asks.specs.{Held.ClientFrame, Faults.IsFirstFault, Faults.IsAskFault};
 
 use crate::borrow::{borrow_ask, borrow_first};
 use crate::frame::ClientFrame;

@@ -2,9 +2,7 @@
 ghost use Rattle.std.specs.Prelude.{◌≡◌, ◌<◌, ◌≤◌, ◌+◌, ◌^◌, ◌++◌, length, map, refl};
 ghost use Rattle.std.specs.List.{slice_get};
 ghost use Rattle.zk_records.specs.declared.op.Op.TheVariants as ops;
-ghost use Rattle.zk_asks.specs.Parts.{op_of_part};
-ghost use Rattle.zk_asks.specs.Frames.{ops_of_ask, others_have_none};
-ghost use Rattle.zk_asks.specs.Rows.{op_of_ask};
+ghost use Rattle.zk_asks.specs.{Parts.op_of_part, Frames.ops_of_ask, Frames.others_have_none, Rows.op_of_ask};
 
 use crate::asked::{Asked, Room};
 use crate::frame::{AskOf, AskRef, PartRef};

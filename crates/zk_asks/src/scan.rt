@@ -4,8 +4,7 @@ ghost use Rattle.zk_asks.specs.declared.frame.ClientFrameOf.TheVariants as frame
 ghost use Rattle.zk_asks.specs.Held.{ClientFrame};
 ghost use Rattle.zk_asks.specs.Frames.{IsSent, IsFirst, IsLater, IsOfProfile, ops_of_ask, others_have_none};
 ghost use Rattle.zk_asks.specs.Frames as frames;
-ghost use Rattle.zk_asks.specs.Faults.{IsAskFault, IsFirstFault};
-ghost use Rattle.zk_asks.specs.Rows.{op_of_ask};
+ghost use Rattle.zk_asks.specs.{Faults.IsAskFault, Faults.IsFirstFault, Rows.op_of_ask};
 ghost use Rattle.zk_jute.specs.Told.{IsSurelyTold};
 
 use crate::asked::{Asked, Room};

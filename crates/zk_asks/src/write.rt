@@ -3,9 +3,7 @@ ghost use Rattle.std.specs.Prelude.{◌≡◌, ◌++◌, OnOk, OnErr};
 ghost use Rattle.zk_jute.specs.Item.{Fit, IsSizeWithin};
 ghost use Rattle.zk_records.specs.Codes as codes;
 ghost use Rattle.zk_asks.specs.Parts as parted;
-ghost use Rattle.zk_asks.specs.Parts.{part_items};
-ghost use Rattle.zk_asks.specs.Rows.{body_items};
-ghost use Rattle.zk_asks.specs.Frames.{frame_items, MaySend, payload};
+ghost use Rattle.zk_asks.specs.{Parts.part_items, Rows.body_items, Frames.frame_items, Frames.MaySend, Frames.payload};
 
 use crate::frame::{Ask, ClientFrame, Part};
 use crate::{ask_rows, part_rows};

@@ -34,10 +34,8 @@ use denote.Triple.Walked.{Stays, stay_dropped, walk_of, Goes-dropped}
 use Rattle.core.proofs.alloc.Calls.{Goes-blank, handle_tells}
 use Rattle.std.specs.Box.Ownership.{box_owns}
 use Rattle.std.proofs.raw_atomic.Walks.{proved_at, leaves}
-use Rattle.std_heap.specs.contracts.Global.{the_row as Z}
+use Rattle.std_heap.specs.{contracts.Global.the_row as Z, declared.Global.Global, contracts.GlobalAllocator.TheImpl.ghosts}
 use Rattle.std_heap.proofs.Global.TheLaws.{the_row_laws as LZ}
-use Rattle.std_heap.specs.declared.Global.{Global}
-use Rattle.std_heap.specs.contracts.GlobalAllocator.TheImpl.{ghosts}
 use Rattle.zk_c.specs.Owned.{owned}
 use Rattle.zk_c.proofs.Values.{both, loose_good, loose_in, loose_out, Loose, al}
 

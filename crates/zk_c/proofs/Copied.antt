@@ -2,12 +2,10 @@
 use Rattle.std.proofs.Common.{◌≡◌, ℕ, ◌+◌, List, ◌++◌, length, take, drop, sym, ap, ◌∙◌, subst, refl}
 use Rattle.std.proofs.lemmas.List.{drop_at}
 use Rattle.zk_frames.specs.Framing.{frame}
-use Rattle.zk_talk.specs.declared.message.Kind.{Kind}
-use Rattle.zk_talk.specs.Written.{IsWritten, SaysWritten}
+use Rattle.zk_talk.specs.{declared.message.Kind.Kind, Written.IsWritten, Written.SaysWritten}
 use Rattle.zk_lines.specs.Copied.{IsCopied}
-use Rattle.zk_c.specs.declared.said.SayAnswer.{SayAnswer}
+use Rattle.zk_c.specs.{declared.said.SayAnswer.SayAnswer, Voice.VoiceState}
 use Rattle.zk_c.specs.Saying.{TellsSay, said, refused, no_line, say_answer, silent}
-use Rattle.zk_c.specs.Voice.{VoiceState}
 
 -- a speaker with the frame that it said last
 abbrev pub voiced : VoiceState → List ℕ → VoiceState

@@ -1,15 +1,9 @@
 -- Pieces, one after another.
 use Rattle.std.proofs.Common.{◌≡◌, ℕ, ◌+◌, ◌<◌, ◌≤◌, ◌↔◌, List, [], ◌∷◌, ◌++◌, length, get_or, take, drop, Some, None, refl, sym, ap, ◌∙◌, subst, arith, append_assoc}
 use Rattle.std.specs.Borrow.{Bor}
-use Rattle.std.proofs.lemmas.List.{append-nil, drop_more}
-use Rattle.std.proofs.Math.ListN.{drop_of_length-le}
-use Rattle.std.proofs.lemmas.Grind.{flat_map-append}
-use Rattle.zk_talk.specs.declared.message.Side.{Side}
-use Rattle.zk_talk.specs.Answer.{history_of}
-use Rattle.zk_talk.specs.History.{History, on}
-use Rattle.zk_c.specs.declared.cut.Piece.{Piece}
-use Rattle.zk_c.specs.Numbers.{side_of}
-use Rattle.zk_c.specs.Cut.{AreCut}
+use Rattle.std.proofs.{lemmas.List.append-nil, lemmas.List.drop_more, Math.ListN.drop_of_length-le, lemmas.Grind.flat_map-append}
+use Rattle.zk_talk.specs.{declared.message.Side.Side, Answer.history_of, History.History, History.on}
+use Rattle.zk_c.specs.{declared.cut.Piece.Piece, Numbers.side_of, Cut.AreCut}
 
 -- all of the pieces are cut as the rest of them is, behind what is done
 abbrev pub IsSoFar : List Piece → List ℕ → History → List Piece → List ℕ → Type 0

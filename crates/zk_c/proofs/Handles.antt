@@ -1,17 +1,8 @@
 -- What a handle held is what the call was of, and what the call left is behind it.
 use Rattle.std.proofs.Common.{◌≡◌, ℕ, Bool, List, Option, Some, Result, IsSomeAnd, refl, sym, ap, subst, ◌∙◌}
 use Rattle.std.specs.Prelude.{unwrap_or}
-use Rattle.zk_talk.specs.declared.message.Side.{Side}
-use Rattle.zk_talk.specs.declared.message.Fault.{Fault}
-use Rattle.zk_talk.specs.declared.talk.Stepped.{Stepped}
-use Rattle.zk_talk.specs.Stands.{TalkState}
-use Rattle.zk_c.specs.Numbers.{side_of}
-use Rattle.zk_c.specs.Handle.{Call, IsAnswerOf}
-use Rattle.zk_c.specs.Calls.{OnHeld, OnSide}
-use Rattle.zk_c.specs.declared.said.SayAnswer.{SayAnswer}
-use Rattle.zk_c.specs.Voice.{VoiceState}
-use Rattle.zk_c.specs.Saying.{TellsSay, TellsPayload}
-use Rattle.zk_c.specs.declared.payload.PayloadAnswer.{PayloadAnswer}
+use Rattle.zk_talk.specs.{declared.message.Side.Side, declared.message.Fault.Fault, declared.talk.Stepped.Stepped, Stands.TalkState}
+use Rattle.zk_c.specs.{Numbers.side_of, Handle.Call, Handle.IsAnswerOf, Calls.OnHeld, Calls.OnSide, declared.said.SayAnswer.SayAnswer, Voice.VoiceState, Saying.TellsSay, Saying.TellsPayload, declared.payload.PayloadAnswer.PayloadAnswer}
 use Rattle.zk_talk.specs.declared.message.Side.TheVariants.{Client, Server}
 use Rattle.zk_through.specs.Runs.{ThroughState}
 use Rattle.zk_c.specs.Passage.{newest_on}

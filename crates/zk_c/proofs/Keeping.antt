@@ -4,19 +4,11 @@ use Rattle.std.specs.Prelude.{MatchOption}
 use Rattle.std.specs.Borrow.{Bor}
 use Rattle.zk_frames.specs.Framing.{frame}
 use Rattle.zk_frames.proofs.Cuts.{length-frame}
-use Rattle.zk_talk.specs.declared.message.Side.{Side}
+use Rattle.zk_talk.specs.{declared.message.Side.Side, Held.Message, Payloads.client_payload, Payloads.server_payload, Said.payload_of, Stands.TalkState, Stands.kept_on, Viewed.Shows}
 use Rattle.zk_talk.specs.declared.message.Side.TheVariants.{Client, Server}
 use Rattle.zk_talk.specs.declared.message.MessageOf.TheVariants.{Client as FromClient, Server as FromServer}
-use Rattle.zk_talk.specs.Held.{Message}
-use Rattle.zk_talk.specs.Payloads.{client_payload, server_payload}
-use Rattle.zk_talk.specs.Said.{payload_of}
-use Rattle.zk_talk.specs.Stands.{TalkState, kept_on}
-use Rattle.zk_talk.specs.Viewed.{Shows}
 use Rattle.zk_talk.proofs.Bodies.{frame_once}
-use Rattle.zk_c.specs.declared.answer.LineAnswer.{LineAnswer}
-use Rattle.zk_c.specs.Read.{HasFields}
-use Rattle.zk_c.specs.Answer.{no_line}
-use Rattle.zk_c.specs.Handle.{TellsText, IsPayload}
+use Rattle.zk_c.specs.{declared.answer.LineAnswer.LineAnswer, Read.HasFields, Answer.no_line, Handle.TellsText, Handle.IsPayload}
 
 -- the fields of what is shown are there
 pub has_fields : (t : TalkState) (side : Side) (m : Message) → Shows t side m → length (kept_on side t) < 2 ^ 32 → HasFields m

@@ -1,10 +1,8 @@
 -- The numbers of parts.
 use Rattle.std.proofs.Common.{◌≡◌, ℕ, ◌+◌, ◌<◌, ℤ, List, [], ◌∷◌, ◌++◌, length, take, map, get_or, refl, sym, ap, ◌∙◌, arith, subst, Some}
 use Rattle.std.proofs.lemmas.List.{map-append, get_or-map, length-map, take_more}
-use Rattle.zk_records.specs.Codes.{part_number, IsNoOp}
-use Rattle.zk_records.specs.declared.op.PartOp.{PartOp}
+use Rattle.zk_records.specs.{Codes.part_number, Codes.IsNoOp, declared.op.PartOp.PartOp, declared.op.Op.Op}
 use Rattle.zk_records.specs.declared.op.PartOp.TheVariants.{Create, Delete, SetData, Check}
-use Rattle.zk_records.specs.declared.op.Op.{Op}
 use Rattle.zk_records.specs.declared.profile.Profile.TheVariants as profiles
 use Rattle.zk_records.proofs.Numbers.{newer_has, op_number_apart}
 use Rattle.zk_c.specs.Asked.{part_of, parts_of, AreParts, AreAsked, WhereAsked}

@@ -2,20 +2,12 @@
 use Rattle.std.proofs.Common.{◌≡◌, ℕ, ℤ, ◌-◌, ◌<◌, List, length, refl, sym, ap, subst, ◌∙◌, arith, inl, inr}
 use Rattle.std.proofs.lemmas.Bool.Decides.{nat_tests}
 use Rattle.zk_talk.specs.Held.{Message}
-use Rattle.zk_records.specs.declared.profile.Profile.{Profile}
+use Rattle.zk_records.specs.{declared.profile.Profile.Profile, Codes.profile_number}
 use Rattle.zk_records.specs.declared.profile.Profile.TheVariants.{V34, V35}
-use Rattle.zk_records.specs.Codes.{profile_number}
-use Rattle.zk_fields.specs.declared.field.Field.{Field}
-use Rattle.zk_fields.specs.Frames.{AreWritten}
-use Rattle.zk_c.specs.declared.read_answer.ReadAnswer.{ReadAnswer}
+use Rattle.zk_fields.specs.{declared.field.Field.Field, Frames.AreWritten, declared.opened.Opened.Opened}
+use Rattle.zk_c.specs.{declared.read_answer.ReadAnswer.ReadAnswer, Answer.message_head, Judged.IsOfForm}
 use Rattle.std.specs.Prelude.{pos, true, nat_lt, Option, Result, Ok, Err}
-use Rattle.zk_jute.specs.Reading.{Read, told}
-use Rattle.zk_jute.specs.Told.{IsSurelyTold}
-use Rattle.zk_jute.specs.declared.fault.Reason.{Reason}
-use Rattle.zk_c.specs.Answer.{message_head}
-use Rattle.zk_jute.specs.declared.fault.ItemFault.{ItemFault}
-use Rattle.zk_fields.specs.declared.opened.Opened.{Opened}
-use Rattle.zk_c.specs.Judged.{IsOfForm}
+use Rattle.zk_jute.specs.{Reading.Read, Reading.told, Told.IsSurelyTold, declared.fault.Reason.Reason, declared.fault.ItemFault.ItemFault}
 use Rattle.zk_c.specs.Read.{HasPlaces, head_read, refused_read, fields_before, head_of, number_of, int_there, long_there, message_fields, TellsMessage, TellsRefused, IsReadFault, Reads}
 
 -- an answer that counts the fields that are written

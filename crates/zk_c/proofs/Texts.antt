@@ -1,11 +1,9 @@
 -- Lines, one behind the other.
 use Rattle.std.proofs.Common.{◌≡◌, ℕ, ◌+◌, ◌<◌, ◌≤◌, List, [], ◌∷◌, ◌++◌, length, take, get_or, sym, ap, ◌∙◌, subst, append_assoc, Option, Some, None}
 use Rattle.std.specs.Prelude.{MatchOption}
-use Rattle.std.proofs.lemmas.List.{append-nil, take_more, take_all}
-use Rattle.std.proofs.lemmas.Grind.{flat_map-append}
+use Rattle.std.proofs.{lemmas.List.append-nil, lemmas.List.take_more, lemmas.List.take_all, lemmas.Grind.flat_map-append}
 use Rattle.std.specs.List.{flat_map}
-use Rattle.zk_talk.specs.Held.{Message}
-use Rattle.zk_talk.specs.declared.message.Ending.{Ending}
+use Rattle.zk_talk.specs.{Held.Message, declared.message.Ending.Ending}
 use Rattle.zk_lines.specs.Endings.{ending_text}
 use Rattle.zk_c.specs.Listing.{message_line, listing}
 use Rattle.zk_c.proofs.Handles.{same_value}

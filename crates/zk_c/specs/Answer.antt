@@ -1,27 +1,15 @@
 -- What calls return, in numbers.
 use Rattle.std.specs.Prelude.{ℕ, ◌-◌, pos, negsuc, false, Option, unwrap_or, Result, Ok, Err}
 use Rattle.zk_records.specs.Codes.{op_number}
-use Rattle.zk_asks.specs.Rows.{op_of_ask}
-use Rattle.zk_asks.specs.Held.{ClientFrame}
+use Rattle.zk_asks.specs.{Rows.op_of_ask, Held.ClientFrame}
 use Rattle.zk_asks.specs.declared.frame.ClientFrameOf.TheVariants.{Connect, Ask}
-use Rattle.zk_answers.specs.Frames.{op_of_reply, err_of}
-use Rattle.zk_answers.specs.Held.{ServerFrame}
+use Rattle.zk_answers.specs.{Frames.op_of_reply, Frames.err_of, Held.ServerFrame}
 use Rattle.zk_answers.specs.declared.frame.ServerFrameOf.TheVariants.{Connected, Answered, Event}
-use Rattle.zk_talk.specs.Held.{Message}
+use Rattle.zk_talk.specs.{Held.Message, declared.message.Fault.Fault, declared.message.Ending.Ending, declared.talk.Stepped.Stepped}
 use Rattle.zk_talk.specs.declared.message.MessageOf.TheVariants.{Client as FromClient, Server as FromServer}
-use Rattle.zk_talk.specs.declared.message.Fault.{Fault}
-use Rattle.zk_talk.specs.declared.message.Ending.{Ending}
 use Rattle.zk_talk.specs.declared.message.Ending.TheVariants.{Whole, Cut, Refused}
-use Rattle.zk_talk.specs.declared.talk.Stepped.{Stepped}
-use Rattle.zk_c.specs.declared.answer.FaultNumbers.{FaultNumbers}
-use Rattle.zk_c.specs.declared.answer.StepAnswer.{StepAnswer}
-use Rattle.zk_c.specs.declared.answer.EndingAnswer.{EndingAnswer}
-use Rattle.zk_c.specs.declared.answer.MessageAnswer.{MessageAnswer}
-use Rattle.zk_c.specs.declared.head.Head.{Head}
-use Rattle.zk_c.specs.declared.answer.LineAnswer.{LineAnswer}
-use Rattle.zk_c.specs.declared.answer.WaitingAnswer.{WaitingAnswer}
-use Rattle.zk_c.specs.declared.answer.HeldAnswer.{HeldAnswer}
-use Rattle.zk_c.specs.Numbers.{side_number, reason_number, expected_of, got_of}
+use Rattle.zk_c.specs.{declared.answer.FaultNumbers.FaultNumbers, declared.answer.StepAnswer.StepAnswer, declared.answer.EndingAnswer.EndingAnswer, declared.answer.MessageAnswer.MessageAnswer, declared.head.Head.Head}
+use Rattle.zk_c.specs.{declared.answer.LineAnswer.LineAnswer, declared.answer.WaitingAnswer.WaitingAnswer, declared.answer.HeldAnswer.HeldAnswer, Numbers.side_number, Numbers.reason_number, Numbers.expected_of, Numbers.got_of}
 
 abbrev pub no_fault : FaultNumbers
 no_fault = record { frame = 0; offset = 0; side = 0; place = 0; reason = 0; expected = pos 0; got = pos 0 }

@@ -1,11 +1,8 @@
 -- What a reply is judged by, in numbers.
 use Rattle.std.specs.Prelude.{◌≡◌, ◌≢◌, ℕ, ℤ, pos, negsuc, ◌<◌, ◌^◌, ◌==◌, if◌then◌else◌, List, [], length, map, Option, Some, None}
 use Rattle.std.specs.List.{filter_map}
-use Rattle.zk_records.specs.declared.op.Op.{Op}
-use Rattle.zk_records.specs.declared.op.Op.TheVariants.{Multi}
-use Rattle.zk_records.specs.declared.op.PartOp.{PartOp}
+use Rattle.zk_records.specs.{declared.op.Op.Op, declared.op.Op.TheVariants.Multi, declared.op.PartOp.PartOp, Codes.op_number, Codes.part_number}
 use Rattle.zk_records.specs.declared.op.PartOp.TheVariants.{Create, Delete, SetData, Check}
-use Rattle.zk_records.specs.Codes.{op_number, part_number}
 
 -- the part that has the number, if one has
 abbrev pub part_with : ℕ → Option PartOp

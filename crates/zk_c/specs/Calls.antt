@@ -1,8 +1,7 @@
 -- How a call of a handle ends, whatever it holds.
 use Rattle.std.specs.Prelude.{◌≡◌, ℕ, ◌⊎◌, List, Option, Some, None, IsSome, IsSomeAnd}
 use Rattle.zk_talk.specs.declared.message.Side.{Side}
-use Rattle.zk_c.specs.Numbers.{side_of}
-use Rattle.zk_c.specs.Handle.{AreNoLimits}
+use Rattle.zk_c.specs.{Numbers.side_of, Handle.AreNoLimits}
 
 -- it ends with a status if the handle holds nothing, and else does this
 pub record OnHeld {A : Type 0} (held : Option A) (Ends : ℕ → Type 0) (Does : A → Type 0) : Type 0 where

@@ -1,37 +1,16 @@
 -- What the talk behind a handle does.
 use Rattle.std.specs.Prelude.{◌≡◌, ◌≢◌, ℕ, ◌<◌, ◌+◌, Bool, false, List, [], ◌++◌, length, drop, Option, Some, None, Result, Err, IfOk, IfErr, OnErr, IsSomeAnd}
 use Rattle.zk_jute.specs.declared.fault.Reason.TheVariants.{NoMemory}
-use Rattle.zk_talk.specs.declared.message.Side.{Side}
+use Rattle.zk_talk.specs.{declared.message.Side.Side, declared.message.Fault.Fault, declared.talk.Stepped.Stepped, declared.message.Ending.Ending, declared.message.Ending.TheVariants.Refused, declared.limits.Limits.Limits, Held.Message}
 use Rattle.zk_talk.specs.declared.message.Side.TheVariants.{Client, Server}
-use Rattle.zk_talk.specs.declared.message.Fault.{Fault}
-use Rattle.zk_talk.specs.declared.talk.Stepped.{Stepped}
-use Rattle.zk_talk.specs.declared.message.Ending.{Ending}
-use Rattle.zk_talk.specs.declared.message.Ending.TheVariants.{Refused}
-use Rattle.zk_talk.specs.declared.limits.Limits.{Limits}
-use Rattle.zk_talk.specs.Held.{Message}
-use Rattle.zk_talk.specs.History.{History}
-use Rattle.zk_talk.specs.Conversation.{Conversation, number_waiting, load}
-use Rattle.zk_talk.specs.Fault.{rest_on}
-use Rattle.zk_talk.specs.Ending.{IsEnding}
-use Rattle.zk_talk.specs.Numbers.{NewestAnswers}
-use Rattle.zk_talk.specs.Said.{payload_of}
+use Rattle.zk_talk.specs.{History.History, Conversation.Conversation, Conversation.number_waiting, Conversation.load, Fault.rest_on, Ending.IsEnding, Numbers.NewestAnswers, Said.payload_of}
 use Rattle.zk_talk.specs.Stands.{TalkState, Stands, Refuses, WhereItStands, WhereItRefuses, held_on, kept_on, frames_on}
-use Rattle.zk_talk.specs.Taking.{StepsOn, PassesOn, IsRefused, given_up}
-use Rattle.zk_talk.specs.Viewed.{Shows, Leaves, other_side}
-use Rattle.zk_c.specs.declared.answer.StepAnswer.{StepAnswer}
-use Rattle.zk_records.specs.declared.profile.Profile.{Profile}
-use Rattle.zk_records.specs.Codes.{profile_number}
-use Rattle.zk_talk.specs.Ranges.{AreLimits}
-use Rattle.zk_c.specs.Answer.{step_answer, no_message, message_answer, no_line}
-use Rattle.zk_c.specs.declared.answer.MessageAnswer.{MessageAnswer}
-use Rattle.zk_c.specs.declared.answer.LineAnswer.{LineAnswer}
-use Rattle.zk_c.specs.declared.answer.WaitingAnswer.{WaitingAnswer}
-use Rattle.zk_c.specs.declared.answer.HeldAnswer.{HeldAnswer}
+use Rattle.zk_talk.specs.{Taking.StepsOn, Taking.PassesOn, Taking.IsRefused, Taking.given_up, Viewed.Shows, Viewed.Leaves, Viewed.other_side, Ranges.AreLimits}
+use Rattle.zk_c.specs.{declared.answer.StepAnswer.StepAnswer, Answer.step_answer, Answer.no_message, Answer.message_answer, Answer.no_line, declared.answer.MessageAnswer.MessageAnswer, declared.answer.LineAnswer.LineAnswer}
+use Rattle.zk_records.specs.{declared.profile.Profile.Profile, Codes.profile_number}
+use Rattle.zk_c.specs.{declared.answer.WaitingAnswer.WaitingAnswer, declared.answer.HeldAnswer.HeldAnswer, declared.read_answer.ReadAnswer.ReadAnswer, Read.no_read, Read.TellsMessage}
 use Rattle.zk_fields.specs.declared.field.Field.{Field}
-use Rattle.zk_c.specs.declared.read_answer.ReadAnswer.{ReadAnswer}
-use Rattle.zk_c.specs.Read.{no_read, TellsMessage}
-use Rattle.zk_lines.specs.Lines.{line}
-use Rattle.zk_lines.specs.Endings.{ending_text}
+use Rattle.zk_lines.specs.{Lines.line, Endings.ending_text}
 
 -- what both `Talk::step` and `Talk::pass` promise; the bytes that were used did what `Goes` says
 pub record IsAdvanced (Goes : ℕ → Bool → Type 0) (old : TalkState) (side : Side) (piece : List ℕ)

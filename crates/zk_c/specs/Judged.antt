@@ -1,20 +1,11 @@
 -- What is returned of a payload, in numbers.
 use Rattle.std.specs.Prelude.{◌≡◌, ◌≢◌, ℕ, ℤ, negsuc, List}
-use Rattle.zk_records.specs.declared.profile.Profile.{Profile}
-use Rattle.zk_records.specs.declared.header.ReplyHeader.{ReplyHeader}
-use Rattle.zk_records.specs.declared.op.Op.{Op}
-use Rattle.zk_records.specs.declared.op.PartOp.{PartOp}
-use Rattle.zk_jute.specs.declared.fault.Reason.TheVariants.{NoMemory}
-use Rattle.zk_asks.specs.Held.{ClientFrame}
-use Rattle.zk_asks.specs.Frames.{IsFirst, IsLater, IsSent, IsOfProfile, payload}
-use Rattle.zk_answers.specs.Held.{ServerFrame}
+use Rattle.zk_records.specs.{declared.profile.Profile.Profile, declared.header.ReplyHeader.ReplyHeader, declared.op.Op.Op, declared.op.PartOp.PartOp}
+use Rattle.zk_jute.specs.{declared.fault.Reason.TheVariants.NoMemory, declared.fault.Reason.Reason, declared.fault.ItemFault.ItemFault, Told.IsTold}
+use Rattle.zk_asks.specs.{Held.ClientFrame, Frames.IsFirst, Frames.IsLater, Frames.IsSent, Frames.IsOfProfile, Frames.payload}
+use Rattle.zk_answers.specs.{Held.ServerFrame, Faults.IsHead}
 use Rattle.zk_answers.specs.Frames as answers
-use Rattle.zk_answers.specs.Faults.{IsHead}
-use Rattle.zk_jute.specs.declared.fault.Reason.{Reason}
-use Rattle.zk_jute.specs.declared.fault.ItemFault.{ItemFault}
-use Rattle.zk_jute.specs.Told.{IsTold}
-use Rattle.zk_c.specs.declared.payload.PayloadAnswer.{PayloadAnswer}
-use Rattle.zk_c.specs.Numbers.{reason_number}
+use Rattle.zk_c.specs.{declared.payload.PayloadAnswer.PayloadAnswer, Numbers.reason_number}
 
 abbrev pub payload_answer : ℕ → ℕ → PayloadAnswer
 payload_answer status place = record { status = status; place = place }

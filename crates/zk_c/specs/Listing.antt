@@ -1,22 +1,10 @@
 -- The listing of a conversation that is there whole.
 use Rattle.std.specs.Prelude.{◌≡◌, ℕ, ◌⊎◌, List, [], ◌∷◌, ◌++◌}
 use Rattle.std.specs.List.{flat_map}
-use Rattle.zk_talk.specs.Held.{Message}
-use Rattle.zk_talk.specs.History.{History}
-use Rattle.zk_talk.specs.Answer.{AreMessages}
-use Rattle.zk_talk.specs.Ending.{IsEnding}
-use Rattle.zk_talk.specs.declared.message.Ending.{Ending}
-use Rattle.zk_talk.specs.declared.limits.Limits.{Limits}
-use Rattle.zk_records.specs.declared.profile.Profile.{Profile}
-use Rattle.zk_records.specs.Codes.{profile_number}
-use Rattle.zk_talk.specs.Ranges.{AreLimits}
-use Rattle.zk_lines.specs.Lines.{line}
-use Rattle.zk_lines.specs.Endings.{ending_text}
-use Rattle.zk_c.specs.declared.answer.LineAnswer.{LineAnswer}
-use Rattle.zk_c.specs.declared.cut.Piece.{Piece}
-use Rattle.zk_c.specs.Answer.{no_line}
-use Rattle.zk_c.specs.Cut.{AreCut}
-use Rattle.zk_c.specs.Handle.{AreNumbers, TellsText}
+use Rattle.zk_talk.specs.{Held.Message, History.History, Answer.AreMessages, Ending.IsEnding, declared.message.Ending.Ending, declared.limits.Limits.Limits, Ranges.AreLimits}
+use Rattle.zk_records.specs.{declared.profile.Profile.Profile, Codes.profile_number}
+use Rattle.zk_lines.specs.{Lines.line, Endings.ending_text}
+use Rattle.zk_c.specs.{declared.answer.LineAnswer.LineAnswer, declared.cut.Piece.Piece, Answer.no_line, Cut.AreCut, Handle.AreNumbers, Handle.TellsText}
 
 -- a message's line with its line feed
 abbrev pub message_line : Message → List ℕ

@@ -3,8 +3,7 @@ use Rattle.std.specs.Prelude.{Option, Some, None}
 use base.Fml.{Fml, ftrue, fex}
 use denote.RattleType.{RattleType}
 use denote.RawPtr.{Ptr}
-use Rattle.std_heap.specs.declared.Global.{Global}
-use Rattle.std_heap.specs.contracts.GlobalAllocator.TheImpl.{ghosts}
+use Rattle.std_heap.specs.{declared.Global.Global, contracts.GlobalAllocator.TheImpl.ghosts}
 use Rattle.std.specs.Box.Ownership.{box_owns}
 
 -- what a handle owns: nothing, or the value behind the pointer with the right to free its block, of some allocator

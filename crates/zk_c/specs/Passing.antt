@@ -1,31 +1,16 @@
 -- What the passage behind a handle does.
 use Rattle.std.specs.Prelude.{◌≡◌, ℕ, pos, Bool, true, false, List, [], Option, Some, Result, Ok, Err, IfOk, IfErr, IsSomeAnd}
 use Rattle.zk_frames.specs.Framing.{frame}
-use Rattle.zk_talk.specs.declared.message.Side.{Side}
-use Rattle.zk_talk.specs.declared.message.Fault.{Fault}
-use Rattle.zk_talk.specs.declared.message.Ending.{Ending}
-use Rattle.zk_talk.specs.declared.message.Ending.TheVariants.{Refused}
-use Rattle.zk_talk.specs.History.{History}
-use Rattle.zk_talk.specs.Held.{Message}
-use Rattle.zk_talk.specs.Stands.{kept_on}
-use Rattle.zk_talk.specs.Viewed.{Shows, other_side}
-use Rattle.zk_through.specs.declared.through.Passed.{Passed}
-use Rattle.zk_through.specs.declared.through.Went.{Went}
+use Rattle.zk_talk.specs.{declared.message.Side.Side, declared.message.Fault.Fault, declared.message.Ending.Ending, declared.message.Ending.TheVariants.Refused, History.History, Held.Message, Stands.kept_on, Viewed.Shows, Viewed.other_side}
+use Rattle.zk_through.specs.{declared.through.Passed.Passed, declared.through.Went.Went, Came.Came, Came.told, Unseen.made_up}
 use Rattle.zk_through.specs.declared.through.Went.TheVariants as went
-use Rattle.zk_through.specs.Came.{Came, told}
-use Rattle.zk_through.specs.Unseen.{made_up}
 use Rattle.zk_through.specs.Runs.{Runs, WentOn, IsRefused, IsNeverFull, LeavesSide, IsEndOf, given_up, stream_on, left_on}
 use Rattle.zk_fields.specs.declared.field.Field.{Field}
-use Rattle.zk_c.specs.declared.answer.MessageAnswer.{MessageAnswer}
-use Rattle.zk_c.specs.declared.answer.LineAnswer.{LineAnswer}
-use Rattle.zk_c.specs.declared.passed.PassedAnswer.{PassedAnswer}
-use Rattle.zk_c.specs.declared.read_answer.ReadAnswer.{ReadAnswer}
-use Rattle.zk_c.specs.Numbers.{reason_number}
+use Rattle.zk_c.specs.{declared.answer.MessageAnswer.MessageAnswer, declared.answer.LineAnswer.LineAnswer, declared.passed.PassedAnswer.PassedAnswer, declared.read_answer.ReadAnswer.ReadAnswer, Numbers.reason_number}
 use Rattle.zk_c.specs.Answer.{no_fault, fault_numbers, no_message, message_answer, no_line}
-use Rattle.zk_c.specs.Read.{no_read, TellsMessage}
+use Rattle.zk_c.specs.{Read.no_read, Read.TellsMessage, Passage.PassageState, Passage.newest_on, Passage.answered_on}
 use Rattle.zk_lines.specs.Lines.{line}
 use Rattle.zk_c.specs.Handle.{TellsText, TellsShown, IsAnswerOf, IsMadeOf, BeginsAnew, size_held}
-use Rattle.zk_c.specs.Passage.{PassageState, newest_on, answered_on}
 
 -- a step that wasn't made, with this status
 abbrev pub no_passed : ℕ → PassedAnswer

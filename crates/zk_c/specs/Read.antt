@@ -1,31 +1,18 @@
 -- What is returned of a message whose fields are written.
 use Rattle.std.specs.Prelude.{◌≡◌, ◌≢◌, ◌⊎◌, ◌<◌, ◌^◌, ℕ, ℤ, pos, List, [], length, Option, Some, None, Ok, Err, nat_le, if◌then◌else◌}
-use Rattle.zk_jute.specs.declared.fault.Reason.{Reason}
+use Rattle.zk_jute.specs.{declared.fault.Reason.Reason, declared.fault.ItemFault.ItemFault, Told.IsTold}
 use Rattle.zk_jute.specs.declared.fault.Reason.TheVariants.{NoMemory, UnknownOp}
-use Rattle.zk_jute.specs.declared.fault.ItemFault.{ItemFault}
 use Rattle.zk_jute.specs.Reading.{Fault, Read, int_at, long_at, told_fault}
-use Rattle.zk_jute.specs.Told.{IsTold}
-use Rattle.zk_records.specs.declared.header.ReplyHeader.{ReplyHeader}
-use Rattle.zk_records.specs.declared.op.Op.{Op}
-use Rattle.zk_records.specs.declared.profile.Profile.{Profile}
-use Rattle.zk_records.specs.Codes.{op_number, HasOp, IsNoOp}
+use Rattle.zk_records.specs.{declared.header.ReplyHeader.ReplyHeader, declared.op.Op.Op, declared.profile.Profile.Profile, Codes.op_number, Codes.HasOp, Codes.IsNoOp, declared.op.PartOp.PartOp}
 use Rattle.zk_asks.specs.Frames as asks
 use Rattle.zk_answers.specs.Frames as answers
 use Rattle.zk_talk.specs.Held.{Message}
 use Rattle.zk_talk.specs.declared.message.MessageOf.TheVariants.{Client as FromClient, Server as FromServer}
-use Rattle.zk_fields.specs.declared.field.Field.{Field}
-use Rattle.zk_fields.specs.declared.opened.Opened.{Opened}
+use Rattle.zk_fields.specs.{declared.field.Field.Field, declared.opened.Opened.Opened, Frames.AreWritten, Frames.client_fields, Frames.server_fields, Walks.opened_fields}
 use Rattle.zk_fields.specs.declared.opened.Opened.TheVariants as opened
-use Rattle.zk_fields.specs.Frames.{AreWritten, client_fields, server_fields}
-use Rattle.zk_fields.specs.Walks.{opened_fields}
-use Rattle.zk_c.specs.declared.read_answer.ReadAnswer.{ReadAnswer}
-use Rattle.zk_c.specs.Numbers.{reason_number}
-use Rattle.zk_c.specs.Answer.{message_head}
-use Rattle.zk_c.specs.declared.head.Head.{Head}
-use Rattle.zk_records.specs.declared.op.PartOp.{PartOp}
+use Rattle.zk_c.specs.{declared.read_answer.ReadAnswer.ReadAnswer, Numbers.reason_number, Answer.message_head, declared.head.Head.Head, Asked.WhereAsked}
 use Rattle.zk_asks.specs.Faults.{IsFirstFault, IsAskFault}
 use Rattle.zk_answers.specs.Faults.{IsHead, IsHeadFault, IsConnectedFault, IsReplyFault, IsEventFault}
-use Rattle.zk_c.specs.Asked.{WhereAsked}
 use Rattle.zk_c.specs.Judged.{IsConnect, IsRequest, IsWelcome, IsReply, IsNotice, HasNoHead, IsOfEvent}
 
 abbrev pub no_read : ℕ → ReadAnswer

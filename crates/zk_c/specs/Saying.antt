@@ -1,24 +1,14 @@
 -- What the speaker behind a handle does.
 use Rattle.std.specs.Prelude.{◌≡◌, ◌≢◌, ℕ, ◌⊎◌, List, [], ◌∷◌, ◌++◌, length, Option, IsSomeAnd}
 use Rattle.zk_frames.specs.Framing.{frame}
-use Rattle.zk_items.specs.declared.fault.LineFault.{LineFault}
-use Rattle.zk_items.specs.declared.fault.LineReason.{LineReason}
+use Rattle.zk_items.specs.{declared.fault.LineFault.LineFault, declared.fault.LineReason.LineReason}
 use Rattle.zk_items.specs.declared.fault.LineReason.TheVariants as lines
-use Rattle.zk_talk.specs.Held.{Message}
-use Rattle.zk_talk.specs.declared.say.SayFault.{SayFault}
+use Rattle.zk_talk.specs.{Held.Message, declared.say.SayFault.SayFault, declared.message.Side.Side, declared.payload.PayloadFault.PayloadFault, Said.SpeakerState, Said.Says, Said.MaySay, Said.MayStand, Said.IsSayFault, Said.payload_of}
 use Rattle.zk_talk.specs.declared.say.SayFault.TheVariants.{NotFirst, Unasked, XidOrder, Misfit, TooLong, QueueFull, NoMemory}
-use Rattle.zk_talk.specs.declared.message.Side.{Side}
-use Rattle.zk_talk.specs.declared.payload.PayloadFault.{PayloadFault}
 use Rattle.zk_talk.specs.declared.payload.PayloadFault.TheVariants.{Item, Say}
-use Rattle.zk_talk.specs.Said.{SpeakerState, Says, MaySay, MayStand, IsSayFault, payload_of}
 use Rattle.zk_talk.specs.SaidPayload.{SaysPayload, RefusesPayload, StandsPayload, CannotSay}
 use Rattle.zk_lines.specs.Lines.{line, Fits}
-use Rattle.zk_c.specs.declared.said.SayAnswer.{SayAnswer}
-use Rattle.zk_c.specs.declared.payload.PayloadAnswer.{PayloadAnswer}
-use Rattle.zk_c.specs.Numbers.{reason_number}
-use Rattle.zk_c.specs.Judged.{payload_answer}
-use Rattle.zk_c.specs.Voice.{VoiceState}
-use Rattle.zk_c.specs.Handle.{IsMadeOf, BeginsAnew}
+use Rattle.zk_c.specs.{declared.said.SayAnswer.SayAnswer, declared.payload.PayloadAnswer.PayloadAnswer, Numbers.reason_number, Judged.payload_answer, Voice.VoiceState, Handle.IsMadeOf, Handle.BeginsAnew}
 
 abbrev pub say_number : SayFault → ℕ
 say_number NotFirst = 81

@@ -3,13 +3,9 @@ use Rattle.std.specs.Prelude.{ℕ, List, Result, Ok, Err}
 use Rattle.zk_jute.specs.Item.{Item}
 use Rattle.zk_asks.specs.Held.{ClientFrame}
 use Rattle.zk_answers.specs.Held.{ServerFrame}
-use Rattle.zk_fields.specs.declared.field.Field.{Field}
-use Rattle.zk_fields.specs.declared.value.Heads.{Heads}
-use Rattle.zk_fields.specs.declared.write.Unwritten.{Unwritten}
+use Rattle.zk_fields.specs.{declared.field.Field.Field, declared.value.Heads.Heads, declared.write.Unwritten.Unwritten, Written.Writes, Written.WritesAgain, Written.AnswersAgain}
 use Rattle.zk_fields.specs.declared.write.Unwritten.TheVariants as unwritten
-use Rattle.zk_fields.specs.Written.{Writes, WritesAgain, AnswersAgain}
-use Rattle.zk_c.specs.declared.write.WriteAnswer.{WriteAnswer}
-use Rattle.zk_c.specs.Handle.{IsAnswerOf}
+use Rattle.zk_c.specs.{declared.write.WriteAnswer.WriteAnswer, Handle.IsAnswerOf}
 
 abbrev pub written : Result ℕ Unwritten → WriteAnswer
 written (Ok size) = record { status = 0; length = size; index = 0 }

@@ -1,8 +1,7 @@
 //! The structs that calls return to C.
 ghost use Rattle.std.specs.Prelude.{◌≡◌, ◌≢◌, pos, Some, None, MatchOption};
 ghost use Rattle.zk_talk.specs.Held.{Message};
-ghost use Rattle.zk_c.specs.Handle.{TellsText};
-ghost use Rattle.zk_c.specs.Numbers.{expected_of, got_of};
+ghost use Rattle.zk_c.specs.{Handle.TellsText, Numbers.expected_of, Numbers.got_of};
 ghost use Rattle.zk_c.specs.Answer.{no_fault, fault_numbers, no_step, step_answer, no_ending, ending_answer, no_message, message_answer, no_line, no_waiting, no_held};
 
 use crate::head::Head;

@@ -2,12 +2,7 @@
 ghost use Rattle.std.specs.Prelude.{◌≡◌, Option, Some, None, IsSome};
 ghost use Rattle.std.specs.Coded.{coded_option};
 ghost use Rattle.zk_talk.specs.Stands.{TalkState};
-ghost use Rattle.zk_c.specs.Owned.{owned};
-ghost use Rattle.zk_c.specs.Passage.{PassageState};
-ghost use Rattle.zk_c.specs.Voice.{VoiceState};
-ghost use Rattle.zk_c.specs.contracts.conversation.Conversation.{the_row as talk_row};
-ghost use Rattle.zk_c.specs.contracts.passage.Passage.{the_row as passage_row};
-ghost use Rattle.zk_c.specs.contracts.voice.Voice.{the_row as voice_row};
+ghost use Rattle.zk_c.specs.{Owned.owned, Passage.PassageState, Voice.VoiceState, contracts.conversation.Conversation.the_row as talk_row, contracts.passage.Passage.the_row as passage_row, contracts.voice.Voice.the_row as voice_row};
 
 use crate::conversation::Conversation;
 use crate::loose::Loose;

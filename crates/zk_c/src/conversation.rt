@@ -1,7 +1,6 @@
 //! `Conversation`: a talk, and a buffer for the lines of its messages.
 ghost use Rattle.std.specs.Prelude.{◌≡◌, [], Some, None, IfOk};
-ghost use Rattle.zk_talk.specs.Held.{Message};
-ghost use Rattle.zk_talk.specs.Stands.{kept_on};
+ghost use Rattle.zk_talk.specs.{Held.Message, Stands.kept_on};
 ghost use Rattle.zk_lines.specs.Lines.{line};
 ghost use Rattle.zk_c.specs.Answer.{no_line};
 ghost use Rattle.zk_c.specs.Handle.{HasBegun, IsRenewed, IsStep, IsPass, IsFinish, AnswersOn, IsView, IsLine, IsEndingLine, IsFields, IsPayload, IsWaiting, IsHeld, TellsText};

@@ -1,9 +1,7 @@
 //! `zk_listing`: the listing of a conversation that is there whole.
 ghost use Rattle.std.specs.Prelude.{◌≡◌, ◌++◌, OnOk, IfOk, MatchOption};
 ghost use Rattle.zk_talk.specs.History.{History};
-ghost use Rattle.zk_c.specs.Answer.{no_line};
-ghost use Rattle.zk_c.specs.Handle.{AreNoLimits};
-ghost use Rattle.zk_c.specs.Cut.{AreCut, AreNotCut};
+ghost use Rattle.zk_c.specs.{Answer.no_line, Handle.AreNoLimits, Cut.AreCut, Cut.AreNotCut};
 ghost use Rattle.zk_c.specs.Listing.{message_line, listing, IsListed, ListsUnder, ListsNothing};
 
 use crate::answer::LineAnswer;

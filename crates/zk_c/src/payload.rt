@@ -1,10 +1,8 @@
 //! `zk_judge_first` and its like: single payloads, judged without a handle.
 ghost use Rattle.std.specs.Prelude.{◌≡◌, ◌≢◌, ◌↔◌, MatchResult, IsTrue};
-ghost use Rattle.zk_records.specs.declared.profile.Profile.{Profile};
+ghost use Rattle.zk_records.specs.{declared.profile.Profile.Profile, Codes.profile_number};
 ghost use Rattle.zk_asks.specs.Faults.{IsFirstFault, IsAskFault};
-ghost use Rattle.zk_answers.specs.Held.{ServerFrame};
-ghost use Rattle.zk_answers.specs.Faults.{IsConnectedFault, IsReplyFault, IsEventFault};
-ghost use Rattle.zk_records.specs.Codes.{profile_number};
+ghost use Rattle.zk_answers.specs.{Held.ServerFrame, Faults.IsConnectedFault, Faults.IsReplyFault, Faults.IsEventFault};
 ghost use Rattle.zk_c.specs.Asked.{AreNoneAsked, WhereAsked};
 ghost use Rattle.zk_c.specs.Judged.{payload_answer, TellsFault, IsToldBy, Judges, IsConnect, IsRequest, IsWelcome, IsReply, IsNotice, HasHead, HasNoHead, IsOfEvent, IsOfReply};
 

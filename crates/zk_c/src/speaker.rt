@@ -2,11 +2,7 @@
 
 ghost use Rattle.std.specs.Prelude.{◌≡◌, ◌≢◌, Some, None, MatchOption};
 ghost use Rattle.std.specs.Option.{is_some};
-ghost use Rattle.zk_c.specs.Numbers.{side_of};
-ghost use Rattle.zk_c.specs.Answer.{no_line};
-ghost use Rattle.zk_c.specs.Handle.{TellsText};
-ghost use Rattle.zk_c.specs.Calls.{Changes, IsMaking, OnHeld, Renews, TakesOn};
-ghost use Rattle.zk_c.specs.Judged.{payload_answer};
+ghost use Rattle.zk_c.specs.{Numbers.side_of, Answer.no_line, Handle.TellsText, Calls.Changes, Calls.IsMaking, Calls.OnHeld, Calls.Renews, Calls.TakesOn, Judged.payload_answer};
 ghost use Rattle.zk_c.specs.Saying.{say_answer, SaysLine, SaysBytes, IsSilent, IsRenewed};
 
 use crate::answer::LineAnswer;

@@ -3,11 +3,10 @@
 
 ghost use Rattle.std.specs.Prelude.{◌≡◌, ◌≢◌, Some, None, IfSome, MatchOption};
 ghost use Rattle.std.specs.Option.{is_some};
-ghost use Rattle.zk_c.specs.Numbers.{side_of};
+ghost use Rattle.zk_c.specs.{Numbers.side_of, Read.no_read};
 ghost use Rattle.zk_c.specs.Answer.{no_step, no_ending, ending_answer, no_message, no_line, no_waiting, no_held};
 ghost use Rattle.zk_c.specs.Handle.{AreNumbers, IsNew, IsRenewed, Tells, IsAnswerOf, IsStep, IsPass, IsFinish, IsView, IsLine, IsEndingLine, IsFields, IsPayload, IsWaiting, IsHeld, AreNoLimits};
 ghost use Rattle.zk_c.specs.Calls.{IsMaking, OnHeld, OnSide, Renews, TakesOn, WritesOn};
-ghost use Rattle.zk_c.specs.Read.{no_read};
 
 use crate::answer::{
     EndingAnswer, HeldAnswer, LineAnswer, MessageAnswer, StepAnswer, WaitingAnswer,

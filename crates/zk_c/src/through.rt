@@ -3,11 +3,8 @@
 
 ghost use Rattle.std.specs.Prelude.{◌≡◌, ◌≢◌, Some, None, MatchOption};
 ghost use Rattle.std.specs.Option.{is_some};
-ghost use Rattle.zk_c.specs.Numbers.{side_of};
-ghost use Rattle.zk_c.specs.Answer.{no_message, no_line, no_ending, ending_answer};
-ghost use Rattle.zk_c.specs.Handle.{IsAnswerOf};
+ghost use Rattle.zk_c.specs.{Numbers.side_of, Answer.no_message, Answer.no_line, Answer.no_ending, Answer.ending_answer, Handle.IsAnswerOf, Read.no_read};
 ghost use Rattle.zk_c.specs.Calls.{IsMaking, OnHeld, OnSide, Renews, TakesOn, WritesOn};
-ghost use Rattle.zk_c.specs.Read.{no_read};
 ghost use Rattle.zk_c.specs.Passing.{no_passed, IsNew, IsJoined, IsRenewed, TellsStep, IsView, IsLine, IsFields, IsLeftOut, IsFinish};
 
 use crate::answer::{EndingAnswer, LineAnswer, MessageAnswer};

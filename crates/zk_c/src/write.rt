@@ -3,12 +3,9 @@
 #![tactic(auto, using(crate::proofs::Handles::answers))]
 
 ghost use Rattle.std.specs.Prelude.{◌≡◌, pos, negsuc, Bool, Option, []};
-ghost use Rattle.zk_records.specs.Held.{ConnectRequest, ConnectResponse, WatcherEvent};
-ghost use Rattle.zk_records.specs.Codes.{op_number};
+ghost use Rattle.zk_records.specs.{Held.ConnectRequest, Held.ConnectResponse, Held.WatcherEvent, Codes.op_number};
 ghost use Rattle.zk_asks.specs.declared.frame.ClientFrameOf.TheVariants as client;
-ghost use Rattle.zk_asks.specs.Held.{Ask};
-ghost use Rattle.zk_asks.specs.Rows.{op_of_ask};
-ghost use Rattle.zk_asks.specs.Forms.{header_items};
+ghost use Rattle.zk_asks.specs.{Held.Ask, Rows.op_of_ask, Forms.header_items};
 ghost use Rattle.zk_answers.specs.Held.{Reply};
 ghost use Rattle.zk_answers.specs.declared.frame.ServerFrameOf.TheVariants as server;
 ghost use Rattle.zk_fields.specs.declared.value.Heads.TheVariants as head;

@@ -4,12 +4,10 @@ use Rattle.zk_jute.specs.Item.{Item}
 use Rattle.zk_jute.specs.Layout as jute
 use Rattle.zk_records.specs.declared.op.Op.{Op}
 use Rattle.zk_records.specs.declared.op.Op.TheVariants as ops
-use Rattle.zk_asks.specs.Parts.{IsMulti}
+use Rattle.zk_asks.specs.{Parts.IsMulti, Forms.IsOf}
 use Rattle.zk_asks.specs.Rows as asked
-use Rattle.zk_asks.specs.Forms.{IsOf}
 use Rattle.zk_answers.specs.Faults as answered
-use Rattle.zk_answers.specs.Layouts.{IsBodyOf}
-use Rattle.zk_answers.specs.declared.layout.Layout.{Layout}
+use Rattle.zk_answers.specs.{Layouts.IsBodyOf, declared.layout.Layout.Layout}
 use Rattle.zk_answers.specs.declared.layout.Layout.TheVariants as layouts
 use Rattle.zk_earliest.specs.Earliest.{Spells, IsEarliest, IsEarliestOf}
 

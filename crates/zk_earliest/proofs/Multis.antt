@@ -5,24 +5,14 @@ use Rattle.std.specs.Prelude.{pos}
 use Rattle.zk_jute.specs.Item.{Item, Int, Buffer, Ustring, bytes_of}
 use Rattle.zk_jute.specs.Layout.{End, One, Each, ◌then◌}
 use Rattle.zk_jute.proofs.Layouts.{bytes_both}
-use Rattle.zk_records.specs.Records.{acl}
-use Rattle.zk_records.specs.Codes.{part_number}
-use Rattle.zk_records.specs.declared.op.PartOp.{PartOp}
+use Rattle.zk_records.specs.{Records.acl, Codes.part_number, declared.op.PartOp.PartOp}
 use Rattle.zk_records.specs.declared.op.PartOp.TheVariants as parts
 use Rattle.zk_records.proofs.Numbers.{part_number_apart}
 use Rattle.zk_asks.specs.Parts.{part_layout, part_header, end_header, marked, IsMulti, no_more, a_part}
-use Rattle.zk_earliest.specs.Sizes.{IsAmong, AreSizes, plus, nothing}
-use Rattle.zk_earliest.specs.Earliest.{Spells}
-use Rattle.zk_earliest.specs.Marks.{part_mark, end_mark, part_sizes, multi_sizes, IsMark, MayMark}
-use Rattle.zk_earliest.specs.Runs.{run_sizes, list_sizes}
+use Rattle.zk_earliest.specs.{Sizes.IsAmong, Sizes.AreSizes, Sizes.plus, Sizes.nothing, Earliest.Spells, Marks.part_mark, Marks.end_mark, Marks.part_sizes, Marks.multi_sizes, Marks.IsMark, Marks.MayMark, Runs.run_sizes, Runs.list_sizes}
 use Rattle.zk_earliest.specs.Stops.{Passes, StopsAt, Reaches, then_among}
-use Rattle.zk_earliest.proofs.Sums.{sizes, at_least, among_plus, split_plus}
-use Rattle.zk_earliest.proofs.Compose.{Chain, IsAlone, at_first, at_second, at_both}
-use Rattle.zk_earliest.proofs.Spelled.{Spelling, spelled_alone, then_sizes}
-use Rattle.zk_earliest.proofs.Fixed.{int_sizes}
-use Rattle.zk_earliest.proofs.Words.{same_byte}
-use Rattle.zk_earliest.proofs.Running.{text_sizes, blob_sizes}
-use Rattle.zk_earliest.proofs.Counts.{list_are}
+use Rattle.zk_earliest.proofs.{Sums.sizes, Sums.at_least, Sums.among_plus, Sums.split_plus, Compose.Chain, Compose.IsAlone, Compose.at_first, Compose.at_second, Compose.at_both, Spelled.Spelling, Spelled.spelled_alone, Spelled.then_sizes}
+use Rattle.zk_earliest.proofs.{Fixed.int_sizes, Words.same_byte, Running.text_sizes, Running.blob_sizes, Counts.list_are}
 
 -- ---- the lengths of the records of parts
 

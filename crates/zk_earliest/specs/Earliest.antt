@@ -1,8 +1,7 @@
 -- The longest front of bytes that begins a spelling of just as many bytes.
 use Rattle.std.specs.Prelude.{◌≡◌, ℕ, ◌<◌, ◌≤◌, List, length, take, Option, Some, None}
 use Rattle.zk_jute.specs.Item.{Item, bytes_of}
-use Rattle.zk_answers.specs.Layouts.{IsBodyOf}
-use Rattle.zk_answers.specs.declared.layout.Layout.{Layout}
+use Rattle.zk_answers.specs.{Layouts.IsBodyOf, declared.layout.Layout.Layout}
 
 -- the bytes of a value
 abbrev pub Spells : (List Item → Type 0) → List ℕ → Type 0

@@ -2,9 +2,7 @@
 use Rattle.std.specs.Prelude.{◌≡◌, ◌≢◌, slice_index, ℕ, ◌+◌, ◌-◌, ◌<◌, ◌≤◌, ◌⊎◌, List, [], ◌∷◌, length, take, drop, Option, Some, None, Result, Ok, Err}
 use Rattle.zk_records.specs.declared.op.PartOp.{PartOp}
 use Rattle.zk_records.specs.declared.op.PartOp.TheVariants as parts
-use Rattle.zk_earliest.specs.declared.sizes.Sizes.{Sizes}
-use Rattle.zk_earliest.specs.Sizes.{IsAmong, plus}
-use Rattle.zk_earliest.specs.Stops.{StopsAt}
+use Rattle.zk_earliest.specs.{declared.sizes.Sizes.Sizes, Sizes.IsAmong, Sizes.plus, Stops.StopsAt}
 
 abbrev pub part_mark : PartOp → List ℕ
 part_mark parts.Create = 0 ∷ 0 ∷ 0 ∷ 1 ∷ 0 ∷ 255 ∷ 255 ∷ 255 ∷ 255 ∷ []

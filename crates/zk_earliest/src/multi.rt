@@ -4,9 +4,7 @@ ghost use Rattle.zk_jute.specs.Layout.{IsValueOf};
 ghost use Rattle.zk_records.specs.Codes as codes;
 ghost use Rattle.zk_records.specs.declared.op.PartOp.{PartOp};
 ghost use Rattle.zk_asks.specs.Parts.{IsMulti, part_layout};
-ghost use Rattle.zk_earliest.specs.Earliest.{Spells, IsEarliest};
-ghost use Rattle.zk_earliest.specs.Marks.{part_mark, end_mark, part_sizes, multi_sizes, IsDifference, IsMarkAt};
-ghost use Rattle.zk_earliest.specs.Sizes.{IsAmong, nothing, plus};
+ghost use Rattle.zk_earliest.specs.{Earliest.Spells, Earliest.IsEarliest, Marks.part_mark, Marks.end_mark, Marks.part_sizes, Marks.multi_sizes, Marks.IsDifference, Marks.IsMarkAt, Sizes.IsAmong, Sizes.nothing, Sizes.plus};
 ghost use Rattle.zk_earliest.specs.Stops.{Reaches, then_among};
 
 use crate::bodies::{value, values};

@@ -1,9 +1,6 @@
 //! Which lengths and counts are possible in a given number of bytes.
 ghost use Rattle.std.specs.Prelude.{◌≡◌, ℕ, ◌+◌, ◌-◌, ◌<◌, ◌≤◌, ◌^◌, ◌↔◌, length};
-ghost use Rattle.zk_earliest.specs.declared.sizes.Sizes.{Sizes};
-ghost use Rattle.zk_earliest.specs.Numbers.{IsOne, IsNumberAt};
-ghost use Rattle.zk_earliest.specs.Runs.{MayRun, MayCount, list_sizes, of_free};
-ghost use Rattle.zk_earliest.specs.Sizes.{IsAmong, plus};
+ghost use Rattle.zk_earliest.specs.{declared.sizes.Sizes.Sizes, Numbers.IsOne, Numbers.IsNumberAt, Runs.MayRun, Runs.MayCount, Runs.list_sizes, Runs.of_free, Sizes.IsAmong, Sizes.plus};
 
 use crate::front::{Numbers, front};
 use crate::sizes::Sizes;

@@ -1,7 +1,6 @@
 //! `Sizes`: the set of lengths that a value can have.
 ghost use Rattle.std.specs.Prelude.{◌≡◌, ℕ, ◌↔◌, ◌<◌, ◌≤◌, ◌+◌, ◌*◌, ◌^◌, IsTrue, Some, None, MatchOption};
-ghost use Rattle.zk_earliest.specs.Runs.{repeated};
-ghost use Rattle.zk_earliest.specs.Sizes.{IsAmong, IsPast, plus, min_gap};
+ghost use Rattle.zk_earliest.specs.{Runs.repeated, Sizes.IsAmong, Sizes.IsPast, Sizes.plus, Sizes.min_gap};
 
 /// The lengths that a value can have: `least`, and, if there is a gap, every number from `least + gap` on.
 #[derive(Clone, Copy)]

@@ -1,10 +1,7 @@
 //! `Stretch`, a value of which the first impossible byte can be found; and `longest`, which finds it.
 ghost use Rattle.std.specs.Prelude.{◌≡◌, ◌≤◌, ◌<◌, ◌-◌, ◌^◌, length};
 ghost use Rattle.zk_jute.specs.Layout.{IsValueOf};
-ghost use Rattle.zk_earliest.specs.declared.sizes.Sizes.{Sizes};
-ghost use Rattle.zk_earliest.specs.Sizes.{IsAmong, IsElastic, AreSizes, plus};
-ghost use Rattle.zk_earliest.specs.Earliest.{Spells, IsEarliest};
-ghost use Rattle.zk_earliest.specs.Stops.{Reaches, then_among};
+ghost use Rattle.zk_earliest.specs.{declared.sizes.Sizes.Sizes, Sizes.IsAmong, Sizes.IsElastic, Sizes.AreSizes, Sizes.plus, Earliest.Spells, Earliest.IsEarliest, Stops.Reaches, Stops.then_among};
 
 use crate::sizes::Sizes;
 use zk_jute::Ends;

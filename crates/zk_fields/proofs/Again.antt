@@ -1,47 +1,30 @@
 -- The fields that were read of a message say its items again.
 use Rattle.std.proofs.Common.{◌≡◌, ℕ, zero, suc, ◌+◌, ◌<◌, ◌≤◌, ◌^◌, ℤ, List, [], ◌∷◌, ◌++◌, length, take, drop, refl, sym, ap, subst, ◌∙◌, append_assoc, arith, FitsSigned, w32}
 use Rattle.std.specs.Prelude.{Option, Some, None, Bool, true, false, pos, negsuc, Result, Ok, Err, ◌==◌, nat_lt, nat_le, unwrap_or, if◌then◌else◌}
-use Rattle.std.specs.Option.{option_map, option_and_then}
-use Rattle.std.specs.List.{flat_map, slice_get}
-use Rattle.std.specs.Str.Lossy.{utf8_valid_len}
-use Rattle.std.proofs.lemmas.List.{append-nil, take-append-drop}
-use Rattle.std.proofs.lemmas.Str.{utf8_valid_len-IsUtf8}
-use Rattle.std.proofs.lemmas.Int.{ints}
-use Rattle.std.proofs.lemmas.Option.{slice_get_within, get_or_from_slice_get}
-use Rattle.std.proofs.lemmas.Bool.Decides.{nat_tests}
+use Rattle.std.specs.{Option.option_map, Option.option_and_then, List.flat_map, List.slice_get, Str.Lossy.utf8_valid_len}
+use Rattle.std.proofs.{lemmas.List.append-nil, lemmas.List.take-append-drop, lemmas.Str.utf8_valid_len-IsUtf8, lemmas.Int.ints, lemmas.Option.slice_get_within, lemmas.Option.get_or_from_slice_get, lemmas.Bool.Decides.nat_tests}
 use Rattle.zk_jute.specs.Item.{Item, AnInt, ALong, ABoolean, AUstring, ABuffer, ACount, HaveBytes, bytes_of}
 use Rattle.zk_jute.specs.Layout.{Groups}
 use Rattle.zk_jute.proofs.Layouts.{have_parts}
-use Rattle.zk_records.specs.Records.{multi_header}
-use Rattle.zk_records.specs.Codes.{op_number}
+use Rattle.zk_records.specs.{Records.multi_header, Codes.op_number}
 use Rattle.zk_asks.specs.declared.frame.ClientFrameOf.TheVariants as client
-use Rattle.zk_asks.specs.Held.{Part, Ask, ClientFrame}
-use Rattle.zk_asks.specs.Parts.{record_of}
+use Rattle.zk_asks.specs.{Held.Part, Held.Ask, Held.ClientFrame, Parts.record_of}
 use Rattle.zk_asks.specs.Frames as asks
 use Rattle.zk_answers.specs.declared.frame.PartDoneOf.TheVariants as done
 use Rattle.zk_answers.specs.declared.frame.OutcomeOf.TheVariants as outcome
 use Rattle.zk_answers.specs.declared.frame.ServerFrameOf.TheVariants as server
-use Rattle.zk_answers.specs.Held.{PartDone, Body, Outcome, ServerFrame}
-use Rattle.zk_answers.specs.Results.{result_of}
+use Rattle.zk_answers.specs.{Held.PartDone, Held.Body, Held.Outcome, Held.ServerFrame, Results.result_of, Frames.err_of, Frames.op_of_outcome, Frames.IsOutcome}
 use Rattle.zk_answers.specs.Frames as answers
-use Rattle.zk_answers.specs.Frames.{err_of, op_of_outcome, IsOutcome}
-use Rattle.zk_fields.specs.declared.field.Field.{Field}
-use Rattle.zk_fields.specs.declared.value.Heads.{Heads}
+use Rattle.zk_fields.specs.{declared.field.Field.Field, declared.value.Heads.Heads, declared.write.Unwritten.Unwritten, Contents.content_of, Contents.IsAt, Contents.AreAt}
 use Rattle.zk_fields.specs.declared.value.Heads.TheVariants as head
-use Rattle.zk_fields.specs.declared.write.Unwritten.{Unwritten}
 use Rattle.zk_fields.specs.declared.write.Unwritten.TheVariants as unwritten
 use Rattle.zk_fields.specs.Fields.{Entry, Under, Head, entry_items, items_of, size_of, size_all, field_of, fields_from}
 use Rattle.zk_fields.specs.Named.{Shape, Nothing, An, Both, Many, IsOf, Named}
-use Rattle.zk_fields.specs.Contents.{content_of, IsAt, AreAt}
-use Rattle.zk_fields.specs.Heads.{plain_head, headed_shape, record_entries, part_entries, result_entries, done_entries}
-use Rattle.zk_fields.specs.Rows.{ask_entries, body_entries}
+use Rattle.zk_fields.specs.{Heads.plain_head, Heads.headed_shape, Heads.record_entries, Heads.part_entries, Heads.result_entries, Heads.done_entries, Rows.ask_entries, Rows.body_entries}
 use Rattle.zk_fields.specs.Frames.{Framed, flag_entries, rest_entries, rest_behind, framed_items, framed_fields, client_framed, server_framed}
 use Rattle.zk_fields.specs.Records.{connect_request, connect_response, watcher_event, read_only}
 use Rattle.zk_fields.specs.Written.{int_said, count_said, utf8_said, Pair, pairs, head_said, said, said_with, all_said, done_behind, MayBe, frame, payload_items, Holds, Writes, Again, WritesAgain, AnswersAgain}
-use Rattle.zk_fields.proofs.Heads.{unequal}
-use Rattle.zk_fields.proofs.Rows.{Formed, part_formed, done_formed, of_ask, of_body}
-use Rattle.zk_fields.proofs.Same.{size_is, client_is, server_is}
-use Rattle.zk_fields.proofs.Contents.{framed_at}
+use Rattle.zk_fields.proofs.{Heads.unequal, Rows.Formed, Rows.part_formed, Rows.done_formed, Rows.of_ask, Rows.of_body, Same.size_is, Same.client_is, Same.server_is, Contents.framed_at}
 use Rattle.zk_fields.proofs.Saying.{some_is, with_some, next_split, longer, total}
 
 int_fits : (n : ℤ) → FitsSigned w32 n → int_said n ≡ Some n

@@ -5,39 +5,24 @@ use Rattle.std.specs.List.{flat_map}
 use Rattle.std.proofs.lemmas.List.{append-nil, length-append, take_all, drop_at}
 use Rattle.std.proofs.lemmas.Bool.Decides.{nat_tests}
 use Rattle.zk_jute.specs.Item.{Kind, Int, Long, Boolean, Ustring, Buffer, Count, Item, ABoolean, ACount, HaveBytes, bytes_of, item_bytes, int_bytes, kind_of}
-use Rattle.zk_jute.specs.declared.fault.Reason.TheVariants.{Short}
-use Rattle.zk_jute.specs.Layout.{One, End, Groups}
+use Rattle.zk_jute.specs.{declared.fault.Reason.TheVariants.Short, Layout.One, Layout.End, Layout.Groups}
 use Rattle.zk_jute.specs.Reading.{Fault, int_at, size_at, item_at, items_at}
-use Rattle.zk_jute.proofs.Steps.{BytesAt-from}
-use Rattle.zk_jute.proofs.Runs.{int_again, size_again}
-use Rattle.zk_jute.proofs.Primitives.{bool_again, bool_len}
-use Rattle.zk_jute.proofs.Layouts.{have_parts, bytes_both, items_again}
-use Rattle.zk_records.specs.declared.header.MultiHeader.{MultiHeader}
-use Rattle.zk_records.specs.Records.{multi_header}
+use Rattle.zk_jute.proofs.{Steps.BytesAt-from, Runs.int_again, Runs.size_again, Primitives.bool_again, Primitives.bool_len, Layouts.have_parts, Layouts.bytes_both, Layouts.items_again}
+use Rattle.zk_records.specs.{declared.header.MultiHeader.MultiHeader, Records.multi_header}
 use Rattle.zk_asks.specs.declared.frame.ClientFrameOf.TheVariants as client
-use Rattle.zk_asks.specs.Held.{Part, Ask, ClientFrame}
-use Rattle.zk_asks.specs.Parts.{op_of_part, part_header, end_header, marked}
-use Rattle.zk_asks.specs.Rows.{op_of_ask}
+use Rattle.zk_asks.specs.{Held.Part, Held.Ask, Held.ClientFrame, Parts.op_of_part, Parts.part_header, Parts.end_header, Parts.marked, Rows.op_of_ask}
 use Rattle.zk_asks.specs.Frames as asks
 use Rattle.zk_answers.specs.declared.frame.OutcomeOf.TheVariants as outcome
 use Rattle.zk_answers.specs.declared.frame.ServerFrameOf.TheVariants as server
-use Rattle.zk_answers.specs.Held.{PartDone, Body, Outcome, ServerFrame}
+use Rattle.zk_answers.specs.{Held.PartDone, Held.Body, Held.Outcome, Held.ServerFrame, Rows.op_of_body, Results.mark_before}
 use Rattle.zk_answers.specs.Frames as answers
-use Rattle.zk_answers.specs.Rows.{op_of_body}
-use Rattle.zk_answers.specs.Results.{mark_before}
-use Rattle.zk_fields.specs.declared.opened.Headed.{Headed}
-use Rattle.zk_fields.specs.declared.opened.Opened.{Opened}
-use Rattle.zk_fields.specs.declared.name.TheConstants.{READ_ONLY}
-use Rattle.zk_fields.specs.Fields.{Entry, Under, Head, items_of, fields_from}
+use Rattle.zk_fields.specs.{declared.opened.Headed.Headed, declared.opened.Opened.Opened, declared.name.TheConstants.READ_ONLY, Fields.Entry, Fields.Under, Fields.Head, Fields.items_of, Fields.fields_from}
 use Rattle.zk_fields.specs.Named.{Shape, Nothing, An, Both, Many, IsOf, Named, items_both}
-use Rattle.zk_fields.specs.Records.{connect_request, connect_response, watcher_event, read_only}
+use Rattle.zk_fields.specs.{Records.connect_request, Records.connect_response, Records.watcher_event, Records.read_only, Rows.body_entries, Rows.body_behind, Rows.Content, Rows.Fields, Rows.Heads, Rows.ask_content, Rows.body_content}
 use Rattle.zk_fields.specs.Heads.{OfHead, headed_part, headed_result, headed_shape, record_entries, part_entries, result_entries, done_entries}
-use Rattle.zk_fields.specs.Rows.{body_entries, body_behind, Content, Fields, Heads, ask_content, body_content}
 use Rattle.zk_fields.specs.Frames.{Framed, flag_entries, rest_entries, rest_behind, framed_items, framed_fields, client_framed, server_framed, client_fields, server_fields}
 use Rattle.zk_fields.specs.Walks.{Met, none_met, item_met, met_then, times_met, list_met, walk, header_at, head_met, content_met, opened_content, opened_start, whole_fields, client_opened, server_opened}
-use Rattle.zk_fields.proofs.Rows.{Formed, part_formed, done_formed, of_ask, of_body}
-use Rattle.zk_fields.proofs.Same.{client_is, server_is, entry_has}
-use Rattle.zk_fields.proofs.Saying.{some_is, longer, split}
+use Rattle.zk_fields.proofs.{Rows.Formed, Rows.part_formed, Rows.done_formed, Rows.of_ask, Rows.of_body, Same.client_is, Same.server_is, Same.entry_has, Saying.some_is, Saying.longer, Saying.split}
 use Rattle.zk_asks.proofs.Parted.{end_bytes}
 
 abbrev size : List Entry → ℕ

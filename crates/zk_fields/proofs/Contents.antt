@@ -3,11 +3,9 @@ use Rattle.std.proofs.Common.{◌≡◌, ℕ, ◌+◌, List, [], ◌∷◌, ◌+
 use Rattle.std.specs.Prelude.{Some, None, pos}
 use Rattle.std.proofs.lemmas.List.{length-append, append-nil, take_at, drop_at}
 use Rattle.zk_jute.specs.Item.{AnInt, ALong, ABoolean, AUstring, ABuffer, ACount, bytes_of, int_bytes}
-use Rattle.zk_jute.proofs.Layouts.{bytes_both}
-use Rattle.zk_jute.proofs.Numbers.{len32}
+use Rattle.zk_jute.proofs.{Layouts.bytes_both, Numbers.len32}
 use Rattle.zk_fields.specs.Fields.{Entry, Under, Head, entry_items, items_of, size_of, field_of}
-use Rattle.zk_fields.specs.Frames.{Framed, framed_items}
-use Rattle.zk_fields.specs.Contents.{content_of, IsAt, AreAt}
+use Rattle.zk_fields.specs.{Frames.Framed, Frames.framed_items, Contents.content_of, Contents.IsAt, Contents.AreAt}
 use Rattle.zk_fields.proofs.Same.{entry_has}
 
 -- these bytes stand behind those

@@ -1,13 +1,10 @@
 -- What the headers of a multi stand before.
 use Rattle.std.proofs.Common.{◌≡◌, ◌≢◌, refl, sym, ◌∙◌}
 use Rattle.std.specs.Prelude.{Bool, ℤ, pos, negsuc, true, false, Some, None}
-use Rattle.std.specs.Ordering.{int_eq}
+use Rattle.std.specs.{Ordering.int_eq, Bool.Decides}
 use Rattle.std.proofs.lemmas.Bool.Decides.{Decides-int_eq}
-use Rattle.std.specs.Bool.{Decides}
-use Rattle.zk_records.specs.declared.op.PartOp.{PartOp}
+use Rattle.zk_records.specs.{declared.op.PartOp.PartOp, Codes.part_number, declared.header.MultiHeader.MultiHeader}
 use Rattle.zk_records.specs.declared.op.PartOp.TheVariants as parts
-use Rattle.zk_records.specs.Codes.{part_number}
-use Rattle.zk_records.specs.declared.header.MultiHeader.{MultiHeader}
 use Rattle.zk_fields.specs.declared.opened.Headed.TheVariants as heads
 use Rattle.zk_fields.specs.Heads.{part_of, headed_part, headed_result}
 

@@ -2,20 +2,13 @@
 use Rattle.std.proofs.Common.{◌≡◌, ℕ, suc, ◌+◌, ◌<◌, ◌≤◌, ◌^◌, List, [], ◌∷◌, ◌++◌, length, set, refl, sym, ap, subst, ◌∙◌, arith}
 use Rattle.std.proofs.lemmas.List.{length-append}
 use Rattle.std.specs.List.{flat_map}
-use Rattle.std.specs.Prelude.{pos, ℤ}
+use Rattle.std.specs.Prelude.{pos, ℤ, Option, Some, None}
 use Rattle.zk_jute.proofs.Layouts.{have_parts}
-use Rattle.zk_jute.specs.Item.{Item, AUstring, ABuffer, ACount, HaveBytes}
-use Rattle.std.specs.Prelude.{Option, Some, None}
-use Rattle.zk_jute.specs.Held.{Text, Blob}
-use Rattle.zk_jute.specs.Values.{text_items, blob_items}
-use Rattle.zk_jute.specs.Shown.{text_of}
+use Rattle.zk_jute.specs.{Item.Item, Item.AUstring, Item.ABuffer, Item.ACount, Item.HaveBytes, Held.Text, Held.Blob, Values.text_items, Values.blob_items, Shown.text_of}
 use Rattle.zk_records.specs.declared.header.MultiHeader.{MultiHeader}
-use Rattle.zk_fields.specs.Named.{items_both}
-use Rattle.zk_fields.specs.declared.field.Field.{Field}
+use Rattle.zk_fields.specs.{Named.items_both, declared.field.Field.Field, declared.field.At.At, Room.written, Room.Fits, Room.Puts, Room.Takes}
 use Rattle.zk_fields.specs.declared.kind.TheConstants.{TEXT, BLOB, LIST}
-use Rattle.zk_fields.specs.declared.field.At.{At}
 use Rattle.zk_fields.specs.Fields.{Entry, Under, Head, items_of, item_size, size_of, size_all, fields_from, field_of, named, run_field, run_size}
-use Rattle.zk_fields.specs.Room.{written, Fits, Puts, Takes}
 
 plus_assoc : (a b c : ℕ) → a + b + c ≡ a + (b + c)
 plus_assoc a b c = omega arith

@@ -4,19 +4,15 @@ use Rattle.std.specs.Prelude.{Some}
 use Rattle.zk_jute.specs.Item.{Item}
 use Rattle.zk_records.specs.declared.op.Op.{Op}
 use Rattle.zk_records.specs.declared.op.Op.TheVariants as ops
-use Rattle.zk_asks.specs.Held.{Part, Ask}
+use Rattle.zk_asks.specs.{Held.Part, Held.Ask, Parts.op_of_part, Parts.part_header, Parts.record_of}
 use Rattle.zk_asks.specs.declared.frame.PartOf.TheVariants as part
 use Rattle.zk_asks.specs.declared.frame.AskOf.TheVariants as ask
-use Rattle.zk_asks.specs.Parts.{op_of_part, part_header, record_of}
 use Rattle.zk_asks.specs.Rows as asked
-use Rattle.zk_answers.specs.Held.{PartDone, Body}
+use Rattle.zk_answers.specs.{Held.PartDone, Held.Body, Results.mark_before, Results.result_of}
 use Rattle.zk_answers.specs.declared.frame.PartDoneOf.TheVariants as done
 use Rattle.zk_answers.specs.declared.frame.BodyOf.TheVariants as body
-use Rattle.zk_answers.specs.Results.{mark_before, result_of}
 use Rattle.zk_answers.specs.Rows as answered
-use Rattle.zk_fields.specs.declared.opened.Headed.{Headed}
-use Rattle.zk_fields.specs.Fields.{Entry, items_of}
-use Rattle.zk_fields.specs.Named.{Shape, IsOf, Named, items_both}
+use Rattle.zk_fields.specs.{declared.opened.Headed.Headed, Fields.Entry, Fields.items_of, Named.Shape, Named.IsOf, Named.Named, Named.items_both}
 use Rattle.zk_fields.specs.Heads.{headed_part, headed_result, headed_row, headed_shape, by_part, record_entries, by_done, result_entries}
 use Rattle.zk_fields.specs.Rows.{Row, fields, heads, rows, ask_entries, body_entries, ask_behind, body_behind, Content, Fields, ask_content, body_content}
 

@@ -5,26 +5,19 @@ use Rattle.std.proofs.lemmas.List.{append-nil, length-append}
 use Rattle.std.specs.List.{flat_map}
 use Rattle.zk_jute.specs.Item.{Item, AnInt, ALong, ABoolean, AUstring, ABuffer, ACount, item_bytes, bytes_of, run_bytes, int_bytes}
 use Rattle.zk_jute.specs.Flagged.{flag_items}
-use Rattle.zk_jute.proofs.Numbers.{len32, len64}
-use Rattle.zk_jute.proofs.Layouts.{bytes_both}
+use Rattle.zk_jute.proofs.{Numbers.len32, Numbers.len64, Layouts.bytes_both}
 use Rattle.zk_records.specs.Records.{multi_header}
-use Rattle.zk_asks.specs.Held.{Part, Ask, ClientFrame}
+use Rattle.zk_asks.specs.{Held.Part, Held.Ask, Held.ClientFrame, Parts.part_items, Parts.op_of_part, Parts.part_header, Parts.marked, Parts.end_header, Rows.body_items}
 use Rattle.zk_asks.specs.declared.frame.ClientFrameOf.TheVariants as client
-use Rattle.zk_asks.specs.Parts.{part_items, op_of_part, part_header, marked, end_header}
-use Rattle.zk_asks.specs.Rows.{body_items}
 use Rattle.zk_asks.specs.Frames as asks
-use Rattle.zk_answers.specs.Held.{PartDone, Body, Outcome, ServerFrame}
+use Rattle.zk_answers.specs.{Held.PartDone, Held.Body, Held.Outcome, Held.ServerFrame, Results.done_items, Results.mark_before}
 use Rattle.zk_answers.specs.declared.frame.PartDoneOf.TheVariants as done
 use Rattle.zk_answers.specs.declared.frame.OutcomeOf.TheVariants as outcome
 use Rattle.zk_answers.specs.declared.frame.ServerFrameOf.TheVariants as server
-use Rattle.zk_answers.specs.Results.{done_items, mark_before}
 use Rattle.zk_answers.specs.Rows as answered
 use Rattle.zk_answers.specs.Frames as answers
 use Rattle.zk_fields.specs.Fields.{Entry, Under, Head, entry_items, items_of, size_of, size_all, item_size, run_size}
-use Rattle.zk_fields.specs.Named.{Named}
-use Rattle.zk_fields.specs.Records.{connect_request, connect_response, watcher_event}
-use Rattle.zk_fields.specs.Heads.{part_entries, done_entries}
-use Rattle.zk_fields.specs.Rows.{ask_entries, ask_behind, body_entries, body_behind}
+use Rattle.zk_fields.specs.{Named.Named, Records.connect_request, Records.connect_response, Records.watcher_event, Heads.part_entries, Heads.done_entries, Rows.ask_entries, Rows.ask_behind, Rows.body_entries, Rows.body_behind}
 use Rattle.zk_fields.proofs.Rows.{both_is, part_formed, done_formed, of_ask, of_body}
 use Rattle.zk_fields.specs.Frames.{flag_entries, rest_entries, rest_behind, framed_items, client_framed, server_framed}
 

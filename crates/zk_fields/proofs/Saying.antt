@@ -1,25 +1,15 @@
 -- What fields say, one after the other.
 use Rattle.std.proofs.Common.{option_copied, Bor, ◌≡◌, ℕ, zero, suc, ◌+◌, ◌<◌, ◌≤◌, ◌^◌, List, [], ◌∷◌, ◌++◌, length, take, get_or, refl, sym, ap, subst, ◌∙◌, append_assoc, arith}
-use Rattle.std.specs.Prelude.{Option, Some, None, pos, Ok, Err, true, ◌==◌}
-use Rattle.std.specs.Option.{option_map, option_and_then}
-use Rattle.std.specs.List.{slice_get}
-use Rattle.std.specs.Str.Lossy.{utf8_valid_len}
+use Rattle.std.specs.Prelude.{Option, Some, None, pos, Ok, Err, true, ◌==◌, unwrap_or}
+use Rattle.std.specs.{Option.option_map, Option.option_and_then, List.slice_get, Str.Lossy.utf8_valid_len, Slice.IsGetResult}
 use Rattle.std.proofs.lemmas.List.{append-nil, length-append, take_more, take_all}
-use Rattle.std.proofs.lemmas.Bool.Decides.{nat_tests}
+use Rattle.std.proofs.{lemmas.Bool.Decides.nat_tests, lemmas.Option.slice_get-get_or, lemmas.Option.slice_get_past}
 use Rattle.zk_jute.specs.Item.{Item, AUstring, ABuffer, bytes_of, int_bytes}
-use Rattle.zk_jute.proofs.Layouts.{bytes_both}
-use Rattle.zk_fields.specs.declared.field.Field.{Field}
-use Rattle.zk_fields.specs.declared.value.Heads.{Heads}
-use Rattle.zk_fields.specs.declared.value.Value.{Value}
-use Rattle.zk_fields.specs.Values.{value_bytes, IsSaid, Fills, Measures}
+use Rattle.zk_jute.proofs.{Layouts.bytes_both, Numbers.len32}
+use Rattle.zk_fields.specs.{declared.field.Field.Field, declared.value.Heads.Heads, declared.value.Value.Value, Values.value_bytes, Values.IsSaid, Values.Fills, Values.Measures, declared.write.Unwritten.Unwritten}
 use Rattle.zk_fields.specs.Written.{stretch_said, utf8_said, Pair, pairs, said, said_with, all_said, payload_items, frame, Holds, Writes}
-use Rattle.zk_fields.specs.declared.write.Unwritten.{Unwritten}
 use Rattle.zk_fields.specs.declared.write.Unwritten.TheVariants as unwritten
-use Rattle.std.specs.Slice.{IsGetResult}
-use Rattle.std.proofs.lemmas.Option.{slice_get-get_or, slice_get_past}
-use Rattle.zk_jute.proofs.Numbers.{len32}
 use Rattle.zk_fields.proofs.Filling.{fills_both}
-use Rattle.std.specs.Prelude.{unwrap_or}
 
 pub some_is : {A : Type 0} {x y : A} → Some x ≡ Some y → x ≡ y
 some_is {x = x} e = ap (λ o. unwrap_or o x) e

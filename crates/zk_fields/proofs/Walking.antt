@@ -1,17 +1,9 @@
 -- What a walk writes, one thing after the other.
 use Rattle.std.proofs.Common.{◌≡◌, ℕ, suc, ◌+◌, ◌-◌, ◌<◌, List, [], ◌∷◌, ◌++◌, refl, sym, ◌∙◌, arith}
 use Rattle.std.specs.Prelude.{Option, Some, None, Ok, Err}
-use Rattle.zk_jute.specs.declared.fault.ItemFault.{ItemFault}
-use Rattle.zk_jute.specs.Item.{Item, ACount}
-use Rattle.zk_jute.specs.Reading.{Read, Fails, told}
+use Rattle.zk_jute.specs.{declared.fault.ItemFault.ItemFault, Item.Item, Item.ACount, Reading.Read, Reading.Fails, Reading.told}
 use Rattle.zk_records.specs.declared.header.MultiHeader.{MultiHeader}
-use Rattle.zk_fields.specs.declared.field.Field.{Field}
-use Rattle.zk_fields.specs.declared.field.At.{At}
-use Rattle.zk_fields.specs.declared.walk.Walked.{Walked}
-use Rattle.zk_fields.specs.declared.opened.Headed.{Headed}
-use Rattle.zk_fields.specs.Fields.{Entry, Under, Head, named}
-use Rattle.zk_fields.specs.Room.{Takes}
-use Rattle.zk_fields.specs.Heads.{OfHead, headed_shape}
+use Rattle.zk_fields.specs.{declared.field.Field.Field, declared.field.At.At, declared.walk.Walked.Walked, declared.opened.Headed.Headed, Fields.Entry, Fields.Under, Fields.Head, Fields.named, Room.Takes, Heads.OfHead, Heads.headed_shape}
 use Rattle.zk_fields.specs.Walks.{Met, none_met, item_met, met_then, times_met, list_met, walk, under, headed, Walks}
 use Rattle.zk_fields.proofs.Rooms.{takes_nothing, takes_both}
 

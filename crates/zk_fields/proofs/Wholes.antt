@@ -1,27 +1,17 @@
 -- The fields of a whole frame, in a room.
 use Rattle.std.proofs.Common.{◌≡◌, ℕ, ◌+◌, ◌<◌, ◌≤◌, ◌^◌, List, [], ◌∷◌, ◌++◌, length, take, drop, set, refl, sym, ap, subst, ◌∙◌, append_assoc, arith}
-use Rattle.std.proofs.lemmas.List.{length-append, length-take, set_past}
+use Rattle.std.proofs.{lemmas.List.length-append, lemmas.List.length-take, lemmas.List.set_past, lemmas.Bool.Decides.nat_tests}
 use Rattle.zk_jute.specs.Item.{Item, bytes_of, HaveBytes}
-use Rattle.zk_jute.proofs.Layouts.{have_parts, bytes_both}
-use Rattle.zk_fields.specs.declared.field.Field.{Field}
-use Rattle.zk_fields.specs.declared.field.At.{At}
-use Rattle.zk_fields.specs.declared.walk.Walked.{Walked}
-use Rattle.zk_fields.specs.Fields.{Entry, items_of, fields_from}
-use Rattle.zk_fields.specs.Room.{written, Fits, Takes}
+use Rattle.zk_jute.proofs.{Layouts.have_parts, Layouts.bytes_both, Steps.IsBytes, Steps.IsBytes-take}
+use Rattle.zk_fields.specs.{declared.field.Field.Field, declared.field.At.At, declared.walk.Walked.Walked, Fields.Entry, Fields.items_of, Fields.fields_from, Room.written, Room.Fits, Room.Takes, declared.opened.Opened.Opened, Rows.Content}
 use Rattle.zk_fields.specs.Frames.{Framed, framed_items, framed_fields, client_framed, server_framed, client_fields, server_fields, AreWritten, Shows}
 use Rattle.zk_asks.specs.Held.{ClientFrame}
 use Rattle.zk_asks.specs.Frames as asks
 use Rattle.zk_answers.specs.Held.{ServerFrame}
 use Rattle.zk_answers.specs.Frames as answers
 use Rattle.std.specs.Prelude.{nat_le, true, false}
-use Rattle.std.proofs.lemmas.Bool.Decides.{nat_tests}
-use Rattle.zk_fields.specs.declared.opened.Opened.{Opened}
-use Rattle.zk_fields.specs.Rows.{Content}
 use Rattle.zk_fields.specs.Walks.{content_met, Walks, opened_start, opened_content, opened_fields}
-use Rattle.zk_fields.proofs.Rooms.{fields_length}
-use Rattle.zk_fields.proofs.Same.{size_is, client_is, server_is}
-use Rattle.zk_fields.proofs.Stood.{content_stood}
-use Rattle.zk_jute.proofs.Steps.{IsBytes, IsBytes-take}
+use Rattle.zk_fields.proofs.{Rooms.fields_length, Same.size_is, Same.client_is, Same.server_is, Stood.content_stood}
 
 -- beyond its end nothing is written
 past_end : (count : ℕ) (fs room : List Field) → length room ≤ count → written count fs room ≡ room

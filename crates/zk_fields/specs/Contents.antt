@@ -1,8 +1,7 @@
 -- The content of a field in a payload.
 use Rattle.std.specs.Prelude.{◌≡◌, ℕ, ◌+◌, List, [], ◌∷◌, take, drop, Option, Some, IfSome}
 use Rattle.zk_jute.specs.Item.{AUstring, ABuffer, bytes_of}
-use Rattle.zk_fields.specs.declared.field.Field.{Field}
-use Rattle.zk_fields.specs.Fields.{Entry, Under, entry_items, size_of, field_of}
+use Rattle.zk_fields.specs.{declared.field.Field.Field, Fields.Entry, Fields.Under, Fields.entry_items, Fields.size_of, Fields.field_of}
 
 -- the bytes of a text or a blob that is not null; of all else, all its bytes
 abbrev pub content_of : Entry → Option (List ℕ)

@@ -2,8 +2,7 @@
 use Rattle.std.specs.Prelude.{ℕ, ◌+◌, ℤ, pos, Bool, true, false, List, [], ◌∷◌, length, map, Option, Some, None}
 use Rattle.std.specs.List.{flat_map}
 use Rattle.zk_jute.specs.Item.{Item, AnInt, ALong, ABoolean, AUstring, ABuffer, ACount}
-use Rattle.zk_records.specs.declared.header.MultiHeader.{MultiHeader}
-use Rattle.zk_records.specs.Records.{multi_header}
+use Rattle.zk_records.specs.{declared.header.MultiHeader.MultiHeader, Records.multi_header}
 use Rattle.zk_fields.specs.declared.field.Field.{Field}
 use Rattle.zk_fields.specs.declared.kind.TheConstants.{INT, LONG, BOOLEAN, TEXT, BLOB, LIST, PART}
 

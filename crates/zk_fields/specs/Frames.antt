@@ -1,20 +1,13 @@
 -- The fields of a frame.
 use Rattle.std.specs.Prelude.{◌≡◌, ℕ, Bool, List, [], ◌++◌, length, take, drop, Option, Some, None}
 use Rattle.zk_jute.specs.Item.{Item, bytes_of}
-use Rattle.zk_records.specs.Codes.{op_number}
-use Rattle.zk_records.specs.Records.{reply_header}
+use Rattle.zk_records.specs.{Codes.op_number, Records.reply_header}
 use Rattle.zk_asks.specs.declared.frame.ClientFrameOf.TheVariants as client
-use Rattle.zk_asks.specs.Held.{ClientFrame}
-use Rattle.zk_asks.specs.Forms.{header_items}
-use Rattle.zk_asks.specs.Rows.{op_of_ask}
+use Rattle.zk_asks.specs.{Held.ClientFrame, Forms.header_items, Rows.op_of_ask}
 use Rattle.zk_answers.specs.declared.frame.OutcomeOf.TheVariants as outcome
 use Rattle.zk_answers.specs.declared.frame.ServerFrameOf.TheVariants as server
-use Rattle.zk_answers.specs.Held.{Outcome, ServerFrame}
-use Rattle.zk_answers.specs.Frames.{header_of, event_header}
-use Rattle.zk_fields.specs.declared.field.Field.{Field}
-use Rattle.zk_fields.specs.Fields.{Entry, fields_from, items_of}
-use Rattle.zk_fields.specs.Room.{Fits}
-use Rattle.zk_fields.specs.Records.{connect_request, connect_response, watcher_event, read_only}
+use Rattle.zk_answers.specs.{Held.Outcome, Held.ServerFrame, Frames.header_of, Frames.event_header}
+use Rattle.zk_fields.specs.{declared.field.Field.Field, Fields.Entry, Fields.fields_from, Fields.items_of, Room.Fits, Records.connect_request, Records.connect_response, Records.watcher_event, Records.read_only}
 use Rattle.zk_fields.specs.Rows.{ask_entries, ask_behind, body_entries, body_behind}
 
 abbrev pub flag_entries : Option Bool → List Entry

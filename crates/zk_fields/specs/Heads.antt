@@ -1,22 +1,14 @@
 -- What comes after the headers of a multi.
 use Rattle.std.specs.Prelude.{ℤ, negsuc, false, if◌then◌else◌, List, ◌∷◌, Option, Some, None}
-use Rattle.std.specs.List.{find}
-use Rattle.std.specs.Ordering.{int_eq}
-use Rattle.std.specs.Option.{option_map}
-use Rattle.zk_records.specs.declared.header.MultiHeader.{MultiHeader}
-use Rattle.zk_records.specs.declared.op.PartOp.{PartOp}
+use Rattle.std.specs.{List.find, Ordering.int_eq, Option.option_map}
+use Rattle.zk_records.specs.{declared.header.MultiHeader.MultiHeader, declared.op.PartOp.PartOp, Codes.part_number, Codes.all_parts}
 use Rattle.zk_records.specs.declared.op.PartOp.TheVariants as parts
-use Rattle.zk_records.specs.Codes.{part_number, all_parts}
 use Rattle.zk_asks.specs.declared.frame.PartOf.TheVariants as part
-use Rattle.zk_asks.specs.Held.{Part}
-use Rattle.zk_asks.specs.Parts.{op_of_part, part_header}
+use Rattle.zk_asks.specs.{Held.Part, Parts.op_of_part, Parts.part_header}
 use Rattle.zk_answers.specs.declared.frame.PartDoneOf.TheVariants as done
-use Rattle.zk_answers.specs.Held.{PartDone}
-use Rattle.zk_answers.specs.Results.{mark_before}
-use Rattle.zk_fields.specs.declared.opened.Headed.{Headed}
+use Rattle.zk_answers.specs.{Held.PartDone, Results.mark_before}
+use Rattle.zk_fields.specs.{declared.opened.Headed.Headed, Fields.Entry, Fields.Head, Named.Shape, Named.Named, Named.nothing}
 use Rattle.zk_fields.specs.declared.opened.Headed.TheVariants as heads
-use Rattle.zk_fields.specs.Fields.{Entry, Head}
-use Rattle.zk_fields.specs.Named.{Shape, Named, nothing}
 use Rattle.zk_fields.specs.Records.{create_ask, delete_ask, set_data_ask, check_ask, path, stat, err}
 
 -- a header that isn't the end marker

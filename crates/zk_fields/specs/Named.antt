@@ -2,11 +2,9 @@
 use Rattle.std.specs.Prelude.{◌≡◌, ℕ, ℤ, Bool, List, [], ◌∷◌, ◌++◌, length, Option, Some, None, unwrap_or, refl}
 use Rattle.std.proofs.Common.{ap, sym, ◌∙◌, append_assoc}
 use Rattle.std.specs.List.{flat_map}
-use Rattle.zk_jute.specs.Held.{Text, Blob, Vector}
+use Rattle.zk_jute.specs.{Held.Text, Held.Blob, Held.Vector, Layout.One, Layout.End, Layout.Groups, Layout.Unfolds, Values.list_items}
 use Rattle.zk_jute.specs.declared.value.Nullable.TheVariants as nullable
 use Rattle.zk_jute.specs.Item.{Kind, Int, Long, Boolean, Ustring, Buffer, Item, ACount, kind_of}
-use Rattle.zk_jute.specs.Layout.{One, End, Groups, Unfolds}
-use Rattle.zk_jute.specs.Values.{list_items}
 use Rattle.zk_jute.specs.Wired.{Wired, int, long, boolean, ustring, buffer}
 use Rattle.zk_fields.specs.Fields.{Entry, Under, entry_items, items_of, named}
 

@@ -2,9 +2,7 @@
 use Rattle.std.specs.Prelude.{ℤ, Bool}
 use Rattle.zk_jute.specs.Held.{Text, Vector}
 use Rattle.zk_records.specs.declared.stat.Stat.{Stat}
-use Rattle.zk_records.specs.Held.{Id, Acl, ConnectRequest, ConnectResponse, WatcherEvent, CreateAsk, DeleteAsk}
-use Rattle.zk_records.specs.Held.{SetDataAsk, SetAclAsk, CheckAsk, WatchAsk, PathAsk, AuthAsk, SetWatchesAsk}
-use Rattle.zk_records.specs.Held.{DataBody, AclBody, ChildrenBody, CreateBody}
+use Rattle.zk_records.specs.Held.{Id, Acl, ConnectRequest, ConnectResponse, WatcherEvent, CreateAsk, DeleteAsk, SetDataAsk, SetAclAsk, CheckAsk, WatchAsk, PathAsk, AuthAsk, SetWatchesAsk, DataBody, AclBody, ChildrenBody, CreateBody}
 use Rattle.zk_fields.specs.declared.name.TheConstants as names
 use Rattle.zk_fields.specs.Named.{Named, an_int, a_long, a_boolean, a_text, a_blob, many, ◌of◌, ◌and◌}
 

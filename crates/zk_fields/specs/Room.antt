@@ -1,9 +1,7 @@
 -- The room in which fields are written, as many as it has places for.
 use Rattle.std.specs.Prelude.{◌≡◌, ℕ, ◌+◌, ◌<◌, ◌≤◌, ◌^◌, List, [], ◌∷◌, length, set}
-use Rattle.zk_fields.specs.declared.field.Field.{Field}
-use Rattle.zk_fields.specs.declared.field.At.{At}
+use Rattle.zk_fields.specs.{declared.field.Field.Field, declared.field.At.At, Fields.Entry, Fields.items_of, Fields.size_all, Fields.fields_from}
 use Rattle.zk_jute.specs.Item.{HaveBytes}
-use Rattle.zk_fields.specs.Fields.{Entry, items_of, size_all, fields_from}
 
 -- the fields are written from this place of the room on; those beyond its end are left out
 abbrev pub written : ℕ → List Field → List Field → List Field

@@ -1,21 +1,15 @@
 -- What fields each operation's request and reply have: the one table.
 use Rattle.std.specs.Prelude.{ℤ, if◌then◌else◌, List, []}
-use Rattle.std.specs.List.{flat_map}
-use Rattle.std.specs.Ordering.{int_eq}
+use Rattle.std.specs.{List.flat_map, Ordering.int_eq}
 use Rattle.zk_jute.specs.Item.{Item}
-use Rattle.zk_records.specs.declared.op.Op.{Op}
+use Rattle.zk_records.specs.{declared.op.Op.Op, Codes.op_number}
 use Rattle.zk_records.specs.declared.op.Op.TheVariants as ops
-use Rattle.zk_records.specs.Codes.{op_number}
-use Rattle.zk_asks.specs.Held.{Ask}
-use Rattle.zk_asks.specs.Parts.{end_header, marked}
+use Rattle.zk_asks.specs.{Held.Ask, Parts.end_header, Parts.marked}
 use Rattle.zk_asks.specs.Rows as asked
 use Rattle.zk_answers.specs.Held.{Body}
 use Rattle.zk_answers.specs.Rows as answered
-use Rattle.zk_fields.specs.Fields.{Entry}
-use Rattle.zk_fields.specs.Named.{Shape, Named, nothing}
-use Rattle.zk_fields.specs.Records.{stat, create_ask, delete_ask, set_data_ask, set_acl_ask, watch_ask, path_ask}
-use Rattle.zk_fields.specs.Records.{auth_ask, set_watches_ask, data_body, acl_body, children_body, create_body, path, children}
-use Rattle.zk_fields.specs.Heads.{OfHead, headed_part, headed_result, part_entries, done_entries}
+use Rattle.zk_fields.specs.{Fields.Entry, Named.Shape, Named.Named, Named.nothing, Heads.OfHead, Heads.headed_part, Heads.headed_result, Heads.part_entries, Heads.done_entries}
+use Rattle.zk_fields.specs.Records.{stat, create_ask, delete_ask, set_data_ask, set_acl_ask, watch_ask, path_ask, auth_ask, set_watches_ask, data_body, acl_body, children_body, create_body, path, children}
 
 -- the fields of a value, or those of each part or result of a multi
 pub data Row (X : Type 0) : Type 0 where

@@ -1,16 +1,11 @@
 -- The bytes of what a field says.
 use Rattle.std.specs.Prelude.{◌≡◌, ℕ, ◌+◌, ◌≤◌, List, ◌++◌, length, take, drop, ◌<◌, ◌^◌, Option, Some, None, Result, Ok, Err}
-use Rattle.std.specs.Option.{option_map}
+use Rattle.std.specs.{Option.option_map, List.slice_get}
 use Rattle.zk_jute.specs.Item.{Item, ABoolean, item_bytes, bytes_of, int_bytes, long_bytes}
 use Rattle.zk_records.specs.Records.{multi_header}
-use Rattle.zk_fields.specs.declared.value.Value.{Value}
+use Rattle.zk_fields.specs.{declared.value.Value.Value, declared.value.Heads.Heads, declared.write.Unwritten.Unwritten, Heads.plain_head, Written.Pair, Written.said, Written.all_said}
 use Rattle.zk_fields.specs.declared.value.Value.TheVariants as value
-use Rattle.zk_fields.specs.declared.value.Heads.{Heads}
-use Rattle.std.specs.List.{slice_get}
-use Rattle.zk_fields.specs.declared.write.Unwritten.{Unwritten}
 use Rattle.zk_fields.specs.declared.write.Unwritten.TheVariants as unwritten
-use Rattle.zk_fields.specs.Heads.{plain_head}
-use Rattle.zk_fields.specs.Written.{Pair, said, all_said}
 
 abbrev pub value_bytes : Value → List ℕ
 value_bytes (value.Int n) = int_bytes n

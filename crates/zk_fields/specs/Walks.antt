@@ -1,26 +1,16 @@
 -- What a payload has, item by item from a place on, as far as it is there.
 use Rattle.std.specs.Prelude.{◌≡◌, ℕ, zero, suc, if◌then◌else◌, List, [], ◌∷◌, ◌++◌, length, take, nat_le, Option, Some, None, Ok, Err}
-use Rattle.zk_jute.specs.Item.{Item, ACount}
-use Rattle.zk_jute.specs.Layout.{One, End}
+use Rattle.zk_jute.specs.{Item.Item, Item.ACount, Layout.One, Layout.End}
 use Rattle.zk_jute.specs.Reading.{Read, ◌>>=◌, int_at, bool_at, size_at, items_at}
 use Rattle.zk_records.specs.declared.header.MultiHeader.{MultiHeader}
 use Rattle.zk_asks.specs.declared.frame.ClientFrameOf.TheVariants as client
-use Rattle.zk_asks.specs.Held.{ClientFrame}
-use Rattle.zk_asks.specs.Rows.{op_of_ask}
+use Rattle.zk_asks.specs.{Held.ClientFrame, Rows.op_of_ask}
 use Rattle.zk_answers.specs.declared.frame.ServerFrameOf.TheVariants as server
-use Rattle.zk_answers.specs.Held.{ServerFrame}
-use Rattle.zk_answers.specs.Frames.{op_of_reply}
-use Rattle.zk_fields.specs.declared.field.Field.{Field}
-use Rattle.zk_fields.specs.declared.field.At.{At}
-use Rattle.zk_fields.specs.declared.walk.Walked.{Walked}
-use Rattle.zk_fields.specs.declared.opened.Headed.{Headed}
-use Rattle.zk_fields.specs.declared.opened.Opened.{Opened}
+use Rattle.zk_answers.specs.{Held.ServerFrame, Frames.op_of_reply}
+use Rattle.zk_fields.specs.{declared.field.Field.Field, declared.field.At.At, declared.walk.Walked.Walked, declared.opened.Headed.Headed, declared.opened.Opened.Opened}
 use Rattle.zk_fields.specs.declared.opened.Opened.TheVariants as opened
-use Rattle.zk_fields.specs.Fields.{Entry, Under, Head, named, fields_from}
-use Rattle.zk_fields.specs.Named.{Shape, Nothing, An, Both, Many}
-use Rattle.zk_fields.specs.Records.{connect_request, connect_response, watcher_event, read_only}
-use Rattle.zk_fields.specs.Heads.{OfHead, headed_shape}
-use Rattle.zk_fields.specs.Rows.{Content, Fields, Heads, ask_content, body_content}
+use Rattle.zk_fields.specs.{Fields.Entry, Fields.Under, Fields.Head, Fields.named, Fields.fields_from, Named.Shape, Named.Nothing, Named.An, Named.Both, Named.Many}
+use Rattle.zk_fields.specs.{Records.connect_request, Records.connect_response, Records.watcher_event, Records.read_only, Heads.OfHead, Heads.headed_shape, Rows.Content, Rows.Fields, Rows.Heads, Rows.ask_content, Rows.body_content}
 use Rattle.zk_fields.specs.Room.{Takes}
 
 -- the entries that are whole there, and the place after them if all are

@@ -1,27 +1,16 @@
 -- The frame that is written of fields: for each field the bytes of the items that it says.
-use Rattle.std.specs.Prelude.{◌≡◌, ℕ, zero, suc, ◌+◌, ◌<◌, ◌≤◌, ◌^◌, ℤ, pos, negsuc, ◌==◌, if◌then◌else◌, nat_lt}
-use Rattle.std.specs.Prelude.{nat_le, Bool, true, false, List, [], ◌∷◌, ◌++◌, length, take, drop, get_or, Option, Some, None}
-use Rattle.std.specs.Prelude.{Result, Ok, Err}
-use Rattle.std.specs.Option.{option_map, option_and_then}
-use Rattle.std.specs.List.{slice_get}
-use Rattle.std.specs.Ordering.{int_eq}
-use Rattle.std.specs.Str.Lossy.{utf8_valid_len}
+use Rattle.std.specs.Prelude.{◌≡◌, ℕ, zero, suc, ◌+◌, ◌<◌, ◌≤◌, ◌^◌, ℤ, pos, negsuc, ◌==◌, if◌then◌else◌, nat_lt, nat_le, Bool, true, false, List, [], ◌∷◌, ◌++◌, length, take, drop, get_or, Option, Some, None, Result, Ok, Err}
+use Rattle.std.specs.{Option.option_map, Option.option_and_then, List.slice_get, Ordering.int_eq, Str.Lossy.utf8_valid_len}
 use Rattle.zk_jute.specs.Item.{Item, AnInt, ALong, ABoolean, AUstring, ABuffer, ACount, bytes_of, run_bytes}
-use Rattle.zk_records.specs.declared.header.MultiHeader.{MultiHeader}
-use Rattle.zk_records.specs.Records.{multi_header, reply_header}
-use Rattle.zk_records.specs.Codes.{op_number}
+use Rattle.zk_records.specs.{declared.header.MultiHeader.MultiHeader, Records.multi_header, Records.reply_header, Codes.op_number}
 use Rattle.zk_asks.specs.Held.{ClientFrame}
 use Rattle.zk_asks.specs.Frames as asks
 use Rattle.zk_answers.specs.Held.{Reply, ServerFrame}
 use Rattle.zk_answers.specs.Frames as answers
 pub use Rattle.zk_fields.specs.Rows.{behind_of}
-use Rattle.zk_fields.specs.Frames.{client_fields, server_fields}
-use Rattle.zk_fields.specs.declared.field.Field.{Field}
+use Rattle.zk_fields.specs.{Frames.client_fields, Frames.server_fields, declared.field.Field.Field, Heads.plain_head, declared.value.Heads.Heads, declared.write.Unwritten.Unwritten}
 use Rattle.zk_fields.specs.declared.kind.TheConstants.{INT, LONG, BOOLEAN, TEXT, BLOB, LIST, PART}
-use Rattle.zk_fields.specs.Heads.{plain_head}
-use Rattle.zk_fields.specs.declared.value.Heads.{Heads}
 use Rattle.zk_fields.specs.declared.value.Heads.TheVariants as head
-use Rattle.zk_fields.specs.declared.write.Unwritten.{Unwritten}
 use Rattle.zk_fields.specs.declared.write.Unwritten.TheVariants as unwritten
 
 -- a number that an int can say

@@ -1,10 +1,7 @@
 //! The fields of requests, and of a multi's parts.
 ghost use Rattle.std.specs.Prelude.{◌≡◌, ◌∷◌, []};
 ghost use Rattle.zk_asks.specs.Parts.{part_header};
-ghost use Rattle.zk_fields.specs.Fields.{Head};
-ghost use Rattle.zk_fields.specs.Heads.{plain_head, record_entries, part_entries};
-ghost use Rattle.zk_fields.specs.Rows.{ask_entries};
-ghost use Rattle.zk_fields.specs.Room.{Takes};
+ghost use Rattle.zk_fields.specs.{Fields.Head, Heads.plain_head, Heads.record_entries, Heads.part_entries, Rows.ask_entries, Room.Takes};
 
 use crate::field::{At, Field, put};
 use crate::kind::PART;

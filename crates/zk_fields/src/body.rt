@@ -1,9 +1,7 @@
 //! The fields of replies, and of a multi's results.
 ghost use Rattle.std.specs.Prelude.{◌≡◌};
 ghost use Rattle.zk_answers.specs.Results.{mark_before};
-ghost use Rattle.zk_fields.specs.Room.{Takes};
-ghost use Rattle.zk_fields.specs.Heads.{result_entries, done_entries};
-ghost use Rattle.zk_fields.specs.Rows.{body_entries};
+ghost use Rattle.zk_fields.specs.{Room.Takes, Heads.result_entries, Heads.done_entries, Rows.body_entries};
 
 use crate::ask::{plain_head, show_head};
 use crate::field::{At, Field};

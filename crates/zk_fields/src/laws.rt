@@ -6,8 +6,7 @@ ghost use Rattle.zk_asks.specs.Frames as asks;
 ghost use Rattle.zk_answers.specs.Held.{ServerFrame};
 ghost use Rattle.zk_answers.specs.Frames as answers;
 ghost use Rattle.zk_fields.specs.Frames.{Framed, framed_items, client_framed, server_framed, client_fields, server_fields};
-ghost use Rattle.zk_fields.specs.Contents.{AreAt};
-ghost use Rattle.zk_fields.specs.Walks.{client_opened, server_opened, whole_fields};
+ghost use Rattle.zk_fields.specs.{Contents.AreAt, Walks.client_opened, Walks.server_opened, Walks.whole_fields};
 
 /// The fields of a message are its items, in order and in their places. The function does nothing.
 #[tactic(auto, using(crate::proofs::Same::client_is, crate::proofs::Same::server_is, crate::proofs::Contents::framed_at, crate::proofs::Agreeing::client_whole, crate::proofs::Agreeing::server_whole))]

@@ -2,9 +2,7 @@
 ghost use Rattle.std.specs.Prelude.{◌≡◌, ◌<◌, ◌^◌, ◌∷◌, [], List, Some, None, pos};
 ghost use Rattle.std.specs.List.{flat_map};
 ghost use Rattle.zk_jute.specs.Item.{ACount};
-ghost use Rattle.zk_fields.specs.Fields.{Under};
-ghost use Rattle.zk_fields.specs.Named.{list_entries};
-ghost use Rattle.zk_fields.specs.Room.{Takes};
+ghost use Rattle.zk_fields.specs.{Fields.Under, Named.list_entries, Room.Takes};
 
 use crate::field::{At, Field, put};
 use crate::kind::LIST;

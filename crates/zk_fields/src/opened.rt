@@ -1,9 +1,7 @@
 //! `opened_fields`: the fields of any payload, up to a place.
 ghost use Rattle.std.specs.Prelude.{◌≡◌, ℕ, ◌≤◌, ◌<◌, ◌^◌, List, length, take, IfOk, IfSome};
 ghost use Rattle.zk_jute.specs.Reading.{Tells};
-ghost use Rattle.zk_fields.specs.Frames.{AreWritten};
-ghost use Rattle.zk_fields.specs.Heads.{OfHead, headed_part, headed_result, headed_shape};
-ghost use Rattle.zk_fields.specs.Rows.{ask_content, body_content};
+ghost use Rattle.zk_fields.specs.{Frames.AreWritten, Heads.OfHead, Heads.headed_part, Heads.headed_result, Heads.headed_shape, Rows.ask_content, Rows.body_content};
 ghost use Rattle.zk_fields.specs.Walks.{Met, Walks, walk, head_met, header_at, content_met, opened_content, opened_start, opened_fields};
 
 use crate::ask::show_head;

@@ -1,7 +1,6 @@
 //! `Show`: the fields of a value, written.
 ghost use Rattle.std.specs.Prelude.{◌≡◌, ◌++◌, ℕ, List, option_copied};
-ghost use Rattle.zk_fields.specs.Fields.{Entry, named, bool_number, run_field, run_size};
-ghost use Rattle.zk_fields.specs.Room.{Takes, Puts};
+ghost use Rattle.zk_fields.specs.{Fields.Entry, Fields.named, Fields.bool_number, Fields.run_field, Fields.run_size, Room.Takes, Room.Puts};
 ghost use Rattle.zk_jute.specs.Wired.{int, long, boolean, ustring, buffer};
 
 use crate::field::{At, Field, put, size_of};

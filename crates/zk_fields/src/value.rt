@@ -3,8 +3,7 @@ ghost use Rattle.std.specs.Prelude.{◌≡◌, ◌<◌, ◌^◌, ◌∷◌, ◌+
 ghost use Rattle.std.specs.Option.{option_map, option_and_then};
 ghost use Rattle.zk_jute.specs.Item.{AnInt, ALong, ABoolean, AUstring, ABuffer, ACount, bytes_of, int_bytes};
 ghost use Rattle.zk_records.specs.Records.{multi_header};
-ghost use Rattle.zk_fields.specs.Heads.{plain_head};
-ghost use Rattle.zk_fields.specs.Values.{value_bytes, IsSaid, Fills};
+ghost use Rattle.zk_fields.specs.{Heads.plain_head, Values.value_bytes, Values.IsSaid, Values.Fills};
 ghost use Rattle.zk_fields.specs.Written.{int_said, number_said, int_number, bool_said, count_said, stretch_said, run_said, utf8_said, list_said, Pair, error_said, head_err, head_said, said, said_at};
 
 use crate::field::Field;

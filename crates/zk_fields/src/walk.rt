@@ -3,8 +3,7 @@ ghost use Rattle.std.specs.Prelude.{◌≡◌, ◌≤◌, ℕ, List, length, [],
 ghost use Rattle.zk_jute.specs.Reading as reading;
 ghost use Rattle.zk_jute.specs.Reading.{items_at};
 ghost use Rattle.zk_fields.specs.declared.field.Field as fields;
-ghost use Rattle.zk_fields.specs.Fields.{named};
-ghost use Rattle.zk_fields.specs.Named.{Nothing};
+ghost use Rattle.zk_fields.specs.{Fields.named, Named.Nothing};
 ghost use Rattle.zk_fields.specs.Walks.{Met, Walks, walk, item_met, met_then, times_met, list_met};
 
 use crate::field::{At, Field};

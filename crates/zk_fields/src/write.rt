@@ -1,12 +1,9 @@
 //! Frames, written from their fields: `write_request`, `write_first`, `write_reply`, `write_event`, `write_connected`.
 ghost use Rattle.std.specs.Prelude.{◌≡◌, ◌+◌, ◌≤◌, ◌<◌, ◌^◌, pos, negsuc, Bool, Option, Some, List, [], length};
 ghost use Rattle.zk_jute.specs.Item.{Item, bytes_of, int_bytes};
-ghost use Rattle.zk_records.specs.Held.{ConnectRequest, ConnectResponse, WatcherEvent};
-ghost use Rattle.zk_records.specs.Codes.{op_number};
+ghost use Rattle.zk_records.specs.{Held.ConnectRequest, Held.ConnectResponse, Held.WatcherEvent, Codes.op_number};
 ghost use Rattle.zk_asks.specs.declared.frame.ClientFrameOf.TheVariants as client;
-ghost use Rattle.zk_asks.specs.Held.{Ask};
-ghost use Rattle.zk_asks.specs.Rows.{op_of_ask};
-ghost use Rattle.zk_asks.specs.Forms.{header_items};
+ghost use Rattle.zk_asks.specs.{Held.Ask, Rows.op_of_ask, Forms.header_items};
 ghost use Rattle.zk_answers.specs.Held.{Reply};
 ghost use Rattle.zk_answers.specs.declared.frame.ServerFrameOf.TheVariants as server;
 ghost use Rattle.zk_fields.specs.declared.value.Heads.TheVariants as head;

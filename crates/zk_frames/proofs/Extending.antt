@@ -2,10 +2,8 @@
 use Rattle.std.proofs.Common.{◌≡◌, ℕ, zero, suc, ◌+◌, ◌<◌, ◌≤◌, ◌^◌, ◌⊎◌, inl, inr, List, [], ◌∷◌, ◌++◌, length, take, drop, get_or, ℤ, pos, w32, FitsSigned, rules, refl, sym, ap, ◌∙◌, arith, length-append, length-drop}
 use Rattle.std.specs.Prelude.{negsuc}
 use Rattle.std.specs.Int.{from_be_bytes, cast_signed, cast_unsigned}
-use Rattle.std.proofs.lemmas.Bool.{cases_lt}
+use Rattle.std.proofs.{lemmas.Bool.cases_lt, lemmas.Nat.from_be_bytes-to_be_bytes_4, lemmas.Int.to_z-of_z}
 use Rattle.std.proofs.lemmas.List.{append-nil, take_all, take-append-le, take-append-drop}
-use Rattle.std.proofs.lemmas.Nat.{from_be_bytes-to_be_bytes_4}
-use Rattle.std.proofs.lemmas.Int.{to_z-of_z}
 use Rattle.zk_frames.specs.Framing.{int_bytes, frame, IsBeginning, IsFrame, IsBadLength}
 use Rattle.zk_frames.proofs.Ints.{bits_fit, four, take-four, int_is}
 

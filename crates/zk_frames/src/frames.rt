@@ -1,10 +1,7 @@
 //! `Frames`: the newest frame of one direction, taken piece by piece.
-ghost use Rattle.std.specs.Prelude.{◌≡◌, ◌≤◌, ◌+◌, ◌-◌, ℕ, List, [], ◌++◌, ◌↔◌, length, take, drop, IfOk, IfErr, IfSome, IfNone, OnOk, IsTrue, Err};
-ghost use Rattle.std.specs.Prelude.{vec_capacity};
-ghost use Rattle.zk_frames.specs.declared.frames.FrameFault.TheVariants.{LengthRange};
-ghost use Rattle.zk_frames.specs.Framing.{frame};
+ghost use Rattle.std.specs.Prelude.{◌≡◌, ◌≤◌, ◌+◌, ◌-◌, ℕ, List, [], ◌++◌, ◌↔◌, length, take, drop, IfOk, IfErr, IfSome, IfNone, OnOk, IsTrue, Err, vec_capacity};
+ghost use Rattle.zk_frames.specs.{declared.frames.FrameFault.TheVariants.LengthRange, Framing.frame, Advance.left_of, Advance.IsAnswer};
 ghost use Rattle.zk_frames.specs.Held.{IsWhole, IsRefused, IsHeld, IsNow, IsLeft, IsTaken, IsRefusal, GoesOnAlways, IsFront};
-ghost use Rattle.zk_frames.specs.Advance.{left_of, IsAnswer};
 
 use crate::cutter::{Standing, cut};
 use std::alloc::{AllocError, Global};

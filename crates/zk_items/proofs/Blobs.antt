@@ -2,21 +2,16 @@
 use Rattle.std.specs.Prelude.{◌≡◌, ℕ, zero, suc, ◌+◌, ◌*◌, ◌/◌, ◌%◌, ◌<◌, List, [], ◌∷◌, ◌++◌, length, take, drop, Option, Some, None, Result, Ok, Err, Bool, true, false, ◌==◌, ◌&&◌, refl, slice_index}
 use Rattle.std.specs.List.{prefix_len, AllByRecursion}
 use Rattle.std.proofs.Common.{inl, inr, ap, sym, ◌∙◌, cond, arith, subst, eqb-true}
-use Rattle.std.proofs.lemmas.List.{take-append-drop}
-use Rattle.std.proofs.Math.Seq.{take-append_seam, drop-append_seam}
+use Rattle.std.proofs.{lemmas.List.take-append-drop, Math.Seq.take-append_seam, Math.Seq.drop-append_seam, lemmas.Bool.and_parts, lemmas.Bool.cases_lt}
 use Rattle.hex.specs.Hex.{encode_lower, encode_with, lower_digits, IsBytes, decode_of, decode_pairs, hex_digit_value, value_at, digit_or_error, pair_value}
 use Rattle.hex.specs.Hex as hex
-use Rattle.hex.specs.declared.error.FromHexError.{FromHexError}
-use Rattle.hex.specs.declared.error.FromHexError.TheVariants.{OddLength}
-use Rattle.std.proofs.lemmas.Bool.{and_parts, cases_lt}
+use Rattle.hex.specs.{declared.error.FromHexError.FromHexError, declared.error.FromHexError.TheVariants.OddLength}
 use Rattle.hex.proofs.HexLemmas.{decode_of-encode_lower}
 use Rattle.zk_jute.specs.Held.{Blob}
 use Rattle.zk_jute.specs.declared.value.Nullable.TheVariants as nullable
-use Rattle.zk_items.specs.Form.{Read, stops, in_item}
+use Rattle.zk_items.specs.{Form.Read, Form.stops, Form.in_item, Laws.Lawful}
 use Rattle.zk_items.specs.Leaf.{in_hex, hex_digit, decoded, blob_at, blob_spell, blob_fits, blob}
-use Rattle.zk_items.specs.Laws.{Lawful}
-use Rattle.zk_items.proofs.Forms.{some_is}
-use Rattle.zk_items.proofs.Runs.{run_is, run_passes, stops_end_run}
+use Rattle.zk_items.proofs.{Forms.some_is, Runs.run_is, Runs.run_passes, Runs.stops_end_run}
 
 hex_in_item : (b : ℕ) → in_hex b ≡ true → in_item b ≡ true
 hex_in_item b h = grind arith

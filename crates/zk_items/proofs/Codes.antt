@@ -3,12 +3,9 @@ use Rattle.std.proofs.Common.{◌≡◌, ℕ, List, [], ◌∷◌, ◌++◌, Opt
 use Rattle.std.specs.Prelude.{ℤ, codes}
 use Rattle.std.specs.Fmt.{signed_decimal}
 use Rattle.zk_items.specs.Form.{Read, ◌>>=◌, stops, word_at}
-use Rattle.zk_items.specs.Leaf.{num_at, in_range, in_number}
+use Rattle.zk_items.specs.{Leaf.num_at, Leaf.in_range, Leaf.in_number, Laws.Lawful}
 use Rattle.zk_items.specs.Codes.{name_spell, name_at, code, other_code, is_zero, is_next}
-use Rattle.zk_items.specs.Laws.{Lawful}
-use Rattle.zk_items.proofs.Forms.{bind_some, some_is, if_not, word_again, word_sound}
-use Rattle.zk_items.proofs.Numbers.{int_is, num_again, number_in_item}
-use Rattle.zk_items.proofs.Runs.{run_ends, stops_end_run}
+use Rattle.zk_items.proofs.{Forms.bind_some, Forms.some_is, Forms.if_not, Forms.word_again, Forms.word_sound, Numbers.int_is, Numbers.num_again, Numbers.number_in_item, Runs.run_ends, Runs.stops_end_run}
 
 name_again : (name : Option (List ℕ)) (rest : List ℕ) → stops rest ≡ true → name_at name (name_spell name ++ rest) ≡ Some rest
 unfolding name_at

@@ -1,25 +1,16 @@
 -- Texts and blobs are read into their bytes.
 use Rattle.std.specs.Prelude.{◌≡◌, ℕ, zero, suc, ◌+◌, ◌-◌, ◌/◌, ◌<◌, ◌^◌, List, [], ◌∷◌, ◌++◌, length, take, drop, Option, Some, None, Result, Ok, Err, MatchResult, OnSome, ◌*◌, Bool, true, IsUtf8, pos, negsuc, refl}
-use Rattle.std.specs.List.{prefix_len, AllByRecursion}
-use Rattle.std.specs.Result.{result_ok}
-use Rattle.std.specs.Str.{IsAscii}
+use Rattle.std.specs.{List.prefix_len, List.AllByRecursion, Result.result_ok, Str.IsAscii}
 use Rattle.std.proofs.Common.{ap, sym, subst, ◌∙◌, cond, arith, append_assoc, length-append, length-drop, take_all, unwrap_or}
-use Rattle.std.proofs.lemmas.List.{append-nil, take_at, drop_at}
-use Rattle.std.proofs.lemmas.Str.{is_utf8-from_IsUtf8, IsUtf8-from_ascii}
-use Rattle.hex.specs.Hex.{encode_lower, lower_digits, decode_of, decode_sized}
-use Rattle.hex.specs.declared.error.FromHexError.{FromHexError}
+use Rattle.std.proofs.{lemmas.List.append-nil, lemmas.List.take_at, lemmas.List.drop_at, lemmas.Str.is_utf8-from_IsUtf8, lemmas.Str.IsUtf8-from_ascii}
+use Rattle.hex.specs.{Hex.encode_lower, Hex.lower_digits, Hex.decode_of, Hex.decode_sized, declared.error.FromHexError.FromHexError}
 use Rattle.hex.proofs.HexLemmas.{decode_of-encode_lower, decode_sized-twice, length-encode_with}
-use Rattle.zk_jute.specs.Item.{int_bytes}
-use Rattle.zk_jute.specs.Values.{text_items, blob_items}
+use Rattle.zk_jute.specs.{Item.int_bytes, Values.text_items, Values.blob_items}
 use Rattle.zk_jute.specs.declared.value.Nullable.TheVariants as nullable
 use Rattle.zk_items.specs.Form.{Read, ◌>>=◌}
-use Rattle.zk_items.specs.Many.{many_at, with_front}
+use Rattle.zk_items.specs.{Many.many_at, Many.with_front, Copied.Copied}
 use Rattle.zk_items.specs.Leaf.{in_hex, is_plain, symbol_at, checked, chars_at, text_at, blob_at, decoded}
-use Rattle.zk_items.specs.Copied.{Copied}
-use Rattle.zk_items.proofs.Forms.{bind_some, some_is}
-use Rattle.zk_items.proofs.Blobs.{as_bytes, lower_again}
-use Rattle.zk_items.proofs.Joined.{Hex, hex_bytes}
-use Rattle.zk_items.proofs.Runs.{run_passes}
+use Rattle.zk_items.proofs.{Forms.bind_some, Forms.some_is, Blobs.as_bytes, Blobs.lower_again, Joined.Hex, Joined.hex_bytes, Runs.run_passes}
 
 -- ---- four bytes of room, and what stands behind them
 

@@ -1,17 +1,13 @@
 -- Escapes, made sixteen at a time.
 use Rattle.std.proofs.Common.{◌≡◌, ℕ, zero, suc, ◌+◌, ◌-◌, ◌*◌, ◌/◌, ◌%◌, ◌<◌, ◌≤◌, not, Bool, true, false, cond, eqb, List, [], ◌∷◌, ◌++◌, length, take, drop, get_or, replicate, refl, sym, ap, ap₂, subst, w8, ◌^◌, map, ◌∙◌, arith, append_assoc, Result, Ok, Err, OnOk}
 use Rattle.std.specs.List.{AllByRecursion, flat_map, prefix_len}
-use Rattle.std.proofs.lemmas.Bool.{agree_below_at, eqb-true}
-use Rattle.std.proofs.lemmas.Grind.{flat_map-append}
+use Rattle.std.proofs.{lemmas.Bool.agree_below_at, lemmas.Bool.eqb-true, lemmas.Grind.flat_map-append, lemmas.List.Sums.prefix_len-le-length, Math.Seq.take-append_seam}
 use Rattle.std.proofs.lemmas.List.{append-nil, take_all, take_rest, take-append-drop, take-take, length-take-le, length-take, length-map}
-use Rattle.std.proofs.lemmas.List.Sums.{prefix_len-le-length}
-use Rattle.std.proofs.Math.Seq.{take-append_seam}
 use Rattle.std.proofs.lemmas.Simd.{tops_compared, mask_l-mod, first_set_mask_l, length-zip2}
 use lib.Count.{count_trailing_zeros}
 use lib.Lanes.{pick_l, zip2, mask_l, top}
 use Rattle.hex.specs.Hex.{encode_with, encode_lower}
-use Rattle.zk_items.specs.Leaf.{is_plain, hex_digit, symbol_spell}
-use Rattle.zk_items.specs.Odd.{escape, is_odd}
+use Rattle.zk_items.specs.{Leaf.is_plain, Leaf.hex_digit, Leaf.symbol_spell, Odd.escape, Odd.is_odd}
 use Rattle.zk_items.proofs.Lanes.{high, low}
 
 abbrev spelled : ℕ → List ℕ

@@ -1,8 +1,6 @@
 -- Bits.
 use Rattle.std.proofs.Common.{◌≡◌, ℕ, List, [], ◌∷◌, ◌++◌, Option, Some, None, Bool, true, false, refl, arith}
-use Rattle.zk_items.specs.Form.{stops}
-use Rattle.zk_items.specs.Leaf.{bit_at, bit_spell, bit, ro_at, ro_spell, ro}
-use Rattle.zk_items.specs.Laws.{Lawful}
+use Rattle.zk_items.specs.{Form.stops, Leaf.bit_at, Leaf.bit_spell, Leaf.bit, Leaf.ro_at, Leaf.ro_spell, Leaf.ro, Laws.Lawful}
 use Rattle.zk_items.proofs.Forms.{some_is}
 
 pub bit_again : (x : Bool) (rest : List ℕ) → Unit {0} → stops rest ≡ true → bit_at (bit_spell x ++ rest) ≡ Some (x, rest)

@@ -4,8 +4,7 @@ use Rattle.std.specs.Prelude.{slice_index, ltb}
 use Rattle.std.specs.List.{AllByRecursion}
 use Rattle.std.proofs.lemmas.Bool.{agree_below, agree_below_at, eqb-true, ltb-true}
 use Rattle.std.proofs.lemmas.List.{length-map, get_or-map, get_or_append_left, get_or-append-add, drop_all, take-append-drop, length-take-le, take-take}
-use Rattle.std.proofs.Math.Seq.{drop-cons, take-append_seam}
-use Rattle.std.proofs.lemmas.Simd.{swz_l}
+use Rattle.std.proofs.{Math.Seq.drop-cons, Math.Seq.take-append_seam, lemmas.Simd.swz_l}
 use lib.Lanes.{Each1, pick_l}
 use mir.Val.{zeroes}
 use Rattle.zk_items.specs.Leaf.{hex_digit}

@@ -1,21 +1,12 @@
 -- Numbers are read as they are written.
 use Rattle.std.specs.Prelude.{◌≡◌, ◌≢◌, ℕ, suc, ◌^◌, ◌<◌, ◌≤◌, List, [], ◌∷◌, ◌++◌, length, take, drop, Some, None, Result, Ok, Bool, true, false, ◌==◌, ◌&&◌, ◌||◌, nat_le, ℤ, pos, negsuc, IsUtf8, bytes_eq, refl}
-use Rattle.std.specs.List.{prefix_len, AllByRecursion}
-use Rattle.std.specs.Fmt.{signed_decimal, decimal}
-use Rattle.std.specs.Str.{IsAscii}
+use Rattle.std.specs.{List.prefix_len, List.AllByRecursion, Fmt.signed_decimal, Fmt.decimal, Str.IsAscii}
 use Rattle.std.specs.Str.Parse.{signed_digits_value, digits_value, AllDigits, ParsesSigned, without_leading_sign, without_leading_plus}
 use Rattle.std.proofs.Common.{ap, sym, ◌∙◌, cond, arith, subst, ltb-true, lt-ltb, le-leb, ne_eqb, neg_ℤ, w64}
-use Rattle.std.proofs.lemmas.List.{take-append-drop}
-use Rattle.std.proofs.Math.Seq.{take-append_seam, drop-append_seam}
-use Rattle.std.proofs.lemmas.Fmt.{decimal_is_IsNumeral, IsAscii-signed, parse-signed_decimal}
-use Rattle.std.proofs.lemmas.Str.{IsUtf8-from_ascii}
-use Rattle.std.proofs.lemmas.Str.Parse.{digit_from_value}
-use Rattle.std.proofs.lemmas.Slice.Eq.{bytes_eq-Decides}
-use Rattle.zk_items.specs.Form.{Read, in_item}
-use Rattle.zk_items.specs.Leaf.{in_number, in_range, num_of, num_at, int, long}
-use Rattle.zk_items.specs.Laws.{Lawful}
-use Rattle.zk_items.proofs.Forms.{if_some, some_is}
-use Rattle.zk_items.proofs.Runs.{run_is, run_ends, stops_end_run}
+use Rattle.std.proofs.{lemmas.List.take-append-drop, Math.Seq.take-append_seam, Math.Seq.drop-append_seam, lemmas.Fmt.decimal_is_IsNumeral, lemmas.Fmt.IsAscii-signed, lemmas.Fmt.parse-signed_decimal, lemmas.Str.IsUtf8-from_ascii}
+use Rattle.std.proofs.{lemmas.Str.Parse.digit_from_value, lemmas.Slice.Eq.bytes_eq-Decides}
+use Rattle.zk_items.specs.{Form.Read, Form.in_item, Leaf.in_number, Leaf.in_range, Leaf.num_of, Leaf.num_at, Leaf.int, Leaf.long, Laws.Lawful}
+use Rattle.zk_items.proofs.{Forms.if_some, Forms.some_is, Runs.run_is, Runs.run_ends, Runs.stops_end_run}
 
 pub all_digits : (ds : List ℕ) → AllDigits 10 ds → AllByRecursion (λ b. in_number b ≡ true) ds
 all_digits [] h = tt

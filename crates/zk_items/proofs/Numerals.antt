@@ -1,14 +1,8 @@
 -- Numbers told from their digits alone.
 use Rattle.std.proofs.Common.{◌≡◌, ℕ, zero, suc, ◌+◌, ◌-◌, ◌*◌, ◌^◌, ◌<◌, ◌≤◌, Some, true, false, List, ◌∷◌, length, take, drop, get_or, ap, sym, ◌∙◌, arith, lt-ltb, ltb-true, SFits, w32, w64, to_z, of_z}
 use Rattle.std.specs.Prelude.{◌≢◌, ℤ, pos, negsuc, neg_ℤ}
-use Rattle.std.specs.List.{prefix_len}
-use Rattle.std.specs.Fmt.{decimal, signed_decimal}
-use Rattle.std.specs.Str.Parse.{AllDigits, digits_value, signed_digits_value}
-use Rattle.std.proofs.lemmas.Int.{to_z-of_z}
-use Rattle.std.proofs.lemmas.Int.Digits.{digits_more, digits_value_more}
-use Rattle.std.proofs.lemmas.Fmt.{decimal-digits_value}
-use Rattle.std.proofs.lemmas.List.{length-take-le, get_or-take}
-use Rattle.std.proofs.lemmas.List.Sums.{prefix_len_is}
+use Rattle.std.specs.{List.prefix_len, Fmt.decimal, Fmt.signed_decimal, Str.Parse.AllDigits, Str.Parse.digits_value, Str.Parse.signed_digits_value}
+use Rattle.std.proofs.{lemmas.Int.to_z-of_z, lemmas.Int.Digits.digits_more, lemmas.Int.Digits.digits_value_more, lemmas.Fmt.decimal-digits_value, lemmas.List.length-take-le, lemmas.List.get_or-take, lemmas.List.Sums.prefix_len_is}
 use Rattle.std.proofs.lemmas.Str.{digit_value_digit}
 use Rattle.std.proofs.lemmas.Str.Parse.{IsNumeralModel, numerals_by_value, tells_digits, digits_value_short, digit_at}
 use Rattle.zk_items.specs.Leaf.{in_number, in_range, num_of, num_at}

@@ -1,18 +1,14 @@
 -- Texts are read as they are spelled.
 use Rattle.std.specs.Prelude.{◌≡◌, ℕ, zero, suc, ◌+◌, ◌-◌, ◌*◌, ◌/◌, ◌%◌, ◌<◌, ◌≤◌, List, [], ◌∷◌, ◌++◌, length, take, drop, Option, Some, None, Bool, true, false, ◌==◌, IsUtf8, refl}
-use Rattle.std.specs.List.{flat_map, prefix_len, AllByRecursion}
-use Rattle.std.specs.Str.{is_utf8}
+use Rattle.std.specs.{List.flat_map, List.prefix_len, List.AllByRecursion, Str.is_utf8}
 use Rattle.std.proofs.Common.{ap, ap₂, sym, ◌∙◌, append_assoc, cond, arith, subst, eqb-true}
-use Rattle.std.proofs.lemmas.List.{append-nil, take-append-drop}
-use Rattle.std.proofs.lemmas.Str.{IsUtf8-from_is_utf8, is_utf8-from_IsUtf8}
+use Rattle.std.proofs.{lemmas.List.append-nil, lemmas.List.take-append-drop, lemmas.Str.IsUtf8-from_is_utf8, lemmas.Str.is_utf8-from_IsUtf8}
 use Rattle.zk_jute.specs.Held.{Text}
 use Rattle.zk_jute.specs.declared.value.Nullable.TheVariants as nullable
 use Rattle.zk_items.specs.Form.{Read, ◌>>=◌, stops}
-use Rattle.zk_items.specs.Many.{many_at, then_more, with_first, with_front}
+use Rattle.zk_items.specs.{Many.many_at, Many.then_more, Many.with_first, Many.with_front, Laws.Lawful}
 use Rattle.zk_items.specs.Leaf.{is_plain, hex_digit, hex_value, symbol_spell, text_spell, text_fits, symbol_at, text_at, text, checked, escape_at}
-use Rattle.zk_items.specs.Laws.{Lawful}
-use Rattle.zk_items.proofs.Forms.{bind_some, some_is, if_some, if_not}
-use Rattle.zk_items.proofs.Many.{many_again, many_sound, no_front, step_some}
+use Rattle.zk_items.proofs.{Forms.bind_some, Forms.some_is, Forms.if_some, Forms.if_not, Many.many_again, Many.many_sound, Many.no_front, Many.step_some}
 
 hex_back : (n : ℕ) → n < 16 → hex_value (hex_digit n) ≡ Some n
 hex_back n small = grind arith

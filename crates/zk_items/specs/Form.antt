@@ -1,8 +1,7 @@
 -- Forms: which values of a type are spelled, how, and how a spelling is read from the left.
 use Rattle.std.specs.Prelude.{◌≡◌, ◌≢◌, ℕ, List, [], ◌∷◌, ◌++◌, Option, Some, None, Result, Ok, Err, Bool, true, false, ◌==◌, ◌&&◌, ◌||◌, nat_le, if◌then◌else◌}
 use Rattle.std.specs.Io.{StartsWith}
-use Rattle.zk_items.specs.declared.fault.LineFault.{LineFault}
-use Rattle.zk_items.specs.declared.fault.LineReason.TheVariants.{NoMemory}
+use Rattle.zk_items.specs.{declared.fault.LineFault.LineFault, declared.fault.LineReason.TheVariants.NoMemory}
 
 -- a letter, a digit, `-` or `/`: what may go on a number, a name or a blob
 abbrev pub in_item : ℕ → Bool

@@ -1,13 +1,7 @@
 -- The items of a line that aren't made of others.
-use Rattle.std.specs.Prelude.{◌≡◌, ℕ, ◌+◌, ◌*◌, ◌/◌, ◌%◌, ◌^◌, ◌<◌, List, [], ◌∷◌, ◌++◌, length, take, drop, Option}
-use Rattle.std.specs.Prelude.{Some, None, Result, Ok, Err, Bool, true, false, ◌==◌, ◌&&◌, ◌||◌, nat_le, nat_lt, ◌-◌}
-use Rattle.std.specs.Prelude.{if◌then◌else◌, ℤ, pos, negsuc, codes, IsUtf8, bytes_eq}
-use Rattle.std.specs.List.{prefix_len, flat_map, AllByRecursion}
-use Rattle.std.specs.Fmt.{signed_decimal}
-use Rattle.std.specs.Str.{is_utf8}
-use Rattle.std.specs.Str.Parse.{signed_digits_value}
-use Rattle.hex.specs.Hex.{encode_lower, decode_of}
-use Rattle.hex.specs.declared.error.FromHexError.{FromHexError}
+use Rattle.std.specs.Prelude.{◌≡◌, ℕ, ◌+◌, ◌*◌, ◌/◌, ◌%◌, ◌^◌, ◌<◌, List, [], ◌∷◌, ◌++◌, length, take, drop, Option, Some, None, Result, Ok, Err, Bool, true, false, ◌==◌, ◌&&◌, ◌||◌, nat_le, nat_lt, ◌-◌, if◌then◌else◌, ℤ, pos, negsuc, codes, IsUtf8, bytes_eq}
+use Rattle.std.specs.{List.prefix_len, List.flat_map, List.AllByRecursion, Fmt.signed_decimal, Str.is_utf8, Str.Parse.signed_digits_value}
+use Rattle.hex.specs.{Hex.encode_lower, Hex.decode_of, declared.error.FromHexError.FromHexError}
 use Rattle.zk_jute.specs.Held.{Text, Blob}
 use Rattle.zk_jute.specs.declared.value.Nullable.TheVariants as nullable
 use Rattle.zk_items.specs.Form.{Form, Read, ◌>>=◌}

@@ -1,9 +1,7 @@
 //! Classes of bytes, and the runs of a class in front, found many bytes at a time.
 ghost use Rattle.std.specs.Prelude.{◌≡◌, ◌==◌, ◌<◌, ◌≤◌, ℕ, Bool, if◌then◌else◌, length};
-ghost use Rattle.std.specs.Int.Count.{count_trailing_zeros};
-ghost use Rattle.std.specs.List.{prefix_len};
-ghost use Rattle.zk_items.specs.Leaf.{in_hex, is_plain};
-ghost use Rattle.zk_items.specs.Odd.{is_odd};
+ghost use Rattle.std.specs.{Int.Count.count_trailing_zeros, List.prefix_len};
+ghost use Rattle.zk_items.specs.{Leaf.in_hex, Leaf.is_plain, Odd.is_odd};
 
 use std::simd::prelude::*;
 

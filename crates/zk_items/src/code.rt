@@ -1,8 +1,7 @@
 //! Numbers with names, `-101/NONODE`: errors and types of events, read and written.
 ghost use Rattle.std.specs.Prelude.{◌≡◌, ◌++◌, Some, None, OnOk, option_copied};
 ghost use Rattle.std.specs.Fmt.{signed_decimal};
-ghost use Rattle.zk_items.specs.Form.{Gives, Keeps, Passes};
-ghost use Rattle.zk_items.specs.Codes.{name_at, name_spell};
+ghost use Rattle.zk_items.specs.{Form.Gives, Form.Keeps, Form.Passes, Codes.name_at, Codes.name_spell};
 ghost use Rattle.zk_items.specs.Codes as codes;
 ghost use Rattle.zk_items.specs.Leaf.{int};
 

@@ -1,10 +1,7 @@
 //! Texts and blobs of a line, read into the bytes that they are in a payload.
 ghost use Rattle.std.specs.Prelude.{◌≡◌, ◌+◌, ◌<◌, ◌≤◌, ◌^◌, ◌++◌, ℤ, pos, negsuc, length, take, drop, IsTrue, IsUtf8, IfNone, IfSome, OnSome};
-ghost use Rattle.zk_jute.specs.Item.{int_bytes};
-ghost use Rattle.zk_jute.specs.Values.{text_items, blob_items};
-ghost use Rattle.zk_items.specs.Form.{Keeps};
-ghost use Rattle.zk_items.specs.Leaf.{text_at, blob_at, chars_at};
-ghost use Rattle.zk_items.specs.Copied.{Copied};
+ghost use Rattle.zk_jute.specs.{Item.int_bytes, Values.text_items, Values.blob_items};
+ghost use Rattle.zk_items.specs.{Form.Keeps, Leaf.text_at, Leaf.blob_at, Leaf.chars_at, Copied.Copied};
 
 use crate::fault::LineReason;
 use crate::number::hex_len;

@@ -2,8 +2,7 @@
 ghost use Rattle.std.specs.Prelude.{◌≡◌, ◌+◌, ◌*◌, ◌<◌, ◌≤◌, ◌++◌, OnOk, length, map, take, drop};
 ghost use Rattle.std.specs.List.{AllByRecursion};
 ghost use Rattle.hex.specs.Hex.{encode_lower};
-ghost use Rattle.zk_items.specs.Form.{Keeps};
-ghost use Rattle.zk_items.specs.Leaf.{hex_digit};
+ghost use Rattle.zk_items.specs.{Form.Keeps, Leaf.hex_digit};
 
 use std::alloc::AllocError;
 use std::simd::prelude::*;

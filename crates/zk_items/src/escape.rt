@@ -1,9 +1,7 @@
 //! The escapes of bytes that aren't plain, made many at a time.
 ghost use Rattle.std.specs.Prelude.{◌≡◌, ◌+◌, ◌*◌, ◌<◌, ◌≤◌, ◌++◌, ℕ, OnOk, false, length, take};
 ghost use Rattle.std.specs.List.{AllByRecursion, flat_map, prefix_len};
-ghost use Rattle.zk_items.specs.Form.{Keeps};
-ghost use Rattle.zk_items.specs.Leaf.{is_plain, symbol_spell};
-ghost use Rattle.zk_items.specs.Odd.{escape, is_odd};
+ghost use Rattle.zk_items.specs.{Form.Keeps, Leaf.is_plain, Leaf.symbol_spell, Odd.escape, Odd.is_odd};
 
 use crate::append::append_first;
 use crate::class::{Class, Odd};

@@ -1,7 +1,5 @@
 //! The laws of items: what is written is read again, and what is read was written.
-ghost use Rattle.zk_items.specs.Codes.{error_code, failure_code, event_code};
-ghost use Rattle.zk_items.specs.Laws.{Lawful};
-ghost use Rattle.zk_items.specs.Leaf.{int, long, bit, ro, text, blob};
+ghost use Rattle.zk_items.specs.{Codes.error_code, Codes.failure_code, Codes.event_code, Laws.Lawful, Leaf.int, Leaf.long, Leaf.bit, Leaf.ro, Leaf.text, Leaf.blob};
 
 /// The two laws of each item: the spelling of a value that fits is read again as that value, whatever may follow an
 /// item; and what is read is the spelling of a value that fits, and the rest. The function does nothing.

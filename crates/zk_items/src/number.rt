@@ -1,7 +1,6 @@
 //! Runs of digits or letters in front of bytes, and the numbers that they spell.
 ghost use Rattle.std.specs.Prelude.{◌≡◌, ◌≢◌, ◌≤◌, length, IfSome, IfNone, bytes_eq, ℤ, true, false};
-ghost use Rattle.std.specs.List.{prefix_len};
-ghost use Rattle.std.specs.Fmt.{signed_decimal};
+ghost use Rattle.std.specs.{List.prefix_len, Fmt.signed_decimal};
 ghost use Rattle.zk_items.specs.Leaf as leaf;
 ghost use Rattle.zk_items.specs.Leaf.{in_number, in_name, in_hex, in_word};
 

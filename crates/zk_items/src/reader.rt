@@ -1,10 +1,8 @@
 //! `Reader`: a line, read from left to right, item by item.
 ghost use Rattle.std.specs.Prelude.{◌≡◌, ◌↔◌, ◌*◌, ◌<◌, ◌≤◌, IsTrue, [], length, take, drop, MatchBool, IfErr, Some, None};
 ghost use Rattle.std.specs.List.{AllByRecursion, flat_map, prefix_len};
-ghost use Rattle.zk_items.specs.Form.{Gives, Keeps, Passes, word_at};
+ghost use Rattle.zk_items.specs.{Form.Gives, Form.Keeps, Form.Passes, Form.word_at, Codes.is_next, Many.GivesMore, Many.many_at};
 ghost use Rattle.zk_items.specs.Leaf.{in_name, in_word, is_plain, num_at, bit_at, ro_at, text_at, blob_at, symbol_at, symbol_spell};
-ghost use Rattle.zk_items.specs.Codes.{is_next};
-ghost use Rattle.zk_items.specs.Many.{GivesMore, many_at};
 
 use crate::append::append_first;
 use crate::decimal::{int_ahead, long_ahead};

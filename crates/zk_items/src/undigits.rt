@@ -1,10 +1,8 @@
 //! The bytes that lower-case hexadecimal digits spell, read thirty-two digits at a time.
 ghost use Rattle.std.specs.Prelude.{◌≡◌, ◌+◌, ◌*◌, ◌<◌, ◌≤◌, ◌++◌, ◌⊎◌, IfOk, IfErr, OnSome, Ok, Err, length, map, take, drop, true};
 ghost use Rattle.std.specs.List.{AllByRecursion};
-ghost use Rattle.hex.specs.Hex.{encode_lower, decode_of};
-ghost use Rattle.hex.specs.declared.error.FromHexError.TheVariants.{OutOfMemory};
-ghost use Rattle.zk_items.specs.Form.{Keeps};
-ghost use Rattle.zk_items.specs.Leaf.{in_hex, hex_digit};
+ghost use Rattle.hex.specs.{Hex.encode_lower, Hex.decode_of, declared.error.FromHexError.TheVariants.OutOfMemory};
+ghost use Rattle.zk_items.specs.{Form.Keeps, Leaf.in_hex, Leaf.hex_digit};
 
 use hex::FromHexError;
 use std::alloc::Global;

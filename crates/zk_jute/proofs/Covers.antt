@@ -3,11 +3,10 @@ use Rattle.std.proofs.Common.{◌≡◌, ℕ, zero, suc, List, [], ◌∷◌, �
 use Rattle.std.proofs.lemmas.List.{append-nil}
 use Rattle.std.specs.Prelude.{ℤ}
 use Rattle.std.specs.List.{flat_map}
-use Rattle.zk_jute.specs.Held.{Text, Blob, Vector}
+use Rattle.zk_jute.specs.{Held.Text, Held.Blob, Held.Vector, Values.text_items, Values.blob_items, Values.list_items}
 use Rattle.zk_jute.specs.declared.value.Nullable.TheVariants as nullable
 use Rattle.zk_jute.specs.Item.{Kind, Int, Long, Boolean, Ustring, Buffer, Item, AnInt, ALong, ABoolean, AUstring, ABuffer, ACount, kind_of}
 use Rattle.zk_jute.specs.Layout.{Layout, End, One, Each, Groups, Elements, Unfolds, ◌then◌}
-use Rattle.zk_jute.specs.Values.{text_items, blob_items, list_items}
 use Rattle.zk_jute.specs.Wired.{Wired, int, long, boolean, ustring, buffer, vector}
 
 abbrev pub Covers : {X : Type 0} → Wired X → Type 0

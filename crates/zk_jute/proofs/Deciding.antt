@@ -1,17 +1,10 @@
 -- Bytes begin with a value of a layout, or have a fault.
 use Rattle.std.proofs.Common.{◌≡◌, ℕ, ◌+◌, ◌≤◌, ◌⊎◌, inl, inr, List, [], ◌∷◌, ◌++◌, length, drop, Bool, Option, Some, None, Ok, Err, refl, sym, ap, ◌∙◌, append_assoc, arith}
 use Rattle.std.proofs.lemmas.List.{append-nil}
-use Rattle.zk_jute.specs.declared.fault.Reason.{Reason}
-use Rattle.zk_jute.specs.declared.fault.Reason.TheVariants.{Trailing}
-use Rattle.zk_jute.specs.Item.{Item, bytes_of}
-use Rattle.zk_jute.specs.Layout.{Layout, IsValueOf}
-use Rattle.zk_jute.specs.Faults.{IsFault}
+use Rattle.zk_jute.specs.{declared.fault.Reason.Reason, declared.fault.Reason.TheVariants.Trailing, Item.Item, Item.bytes_of, Layout.Layout, Layout.IsValueOf, Faults.IsFault}
 use Rattle.zk_jute.specs.Reading.{Fault, Read, Fails, told, told_fault, items_at}
 use Rattle.zk_jute.specs.Flagged.{flag_items, flag_layout, IsFlaggedFault, in_value, in_flag, behind_flag}
-use Rattle.zk_jute.proofs.Steps.{IsBytes, IsBytes-drop}
-use Rattle.zk_jute.proofs.Layouts.{items_found, bytes_both}
-use Rattle.zk_jute.proofs.Theorems.{plain_told}
-use Rattle.zk_jute.proofs.Covers.{bool_covered}
+use Rattle.zk_jute.proofs.{Steps.IsBytes, Steps.IsBytes-drop, Layouts.items_found, Layouts.bytes_both, Theorems.plain_told, Covers.bool_covered}
 
 -- the bytes are those of a value, and then a rest
 pub record Starts (l : Layout) (bytes : List ℕ) : Type 0 where

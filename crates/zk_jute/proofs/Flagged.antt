@@ -2,12 +2,8 @@
 use Rattle.std.proofs.Common.{◌≡◌, ℕ, ◌+◌, ◌≤◌, ◌<◌, inl, inr, List, [], ◌∷◌, ◌++◌, length, drop, Bool, true, false, Option, Some, None, refl, sym, ap, subst, ◌∙◌, append_assoc, arith}
 use Rattle.std.specs.Prelude.{◌≢◌, Result, Ok, Err, IfOk, IfErr}
 use Rattle.std.proofs.lemmas.List.{append-nil, length-append}
-use Rattle.zk_jute.specs.declared.fault.ItemFault.{ItemFault}
-use Rattle.zk_jute.specs.declared.fault.Reason.{Reason}
+use Rattle.zk_jute.specs.{declared.fault.ItemFault.ItemFault, declared.fault.Reason.Reason, Item.Item, Item.ABoolean, Item.bytes_of, Item.HaveBytes, Layout.Layout, Layout.Unfolds, Layout.IsValueOf, Reading.told_place}
 use Rattle.zk_jute.specs.declared.fault.Reason.TheVariants.{Trailing, NoMemory}
-use Rattle.zk_jute.specs.Item.{Item, ABoolean, bytes_of, HaveBytes}
-use Rattle.zk_jute.specs.Layout.{Layout, Unfolds, IsValueOf}
-use Rattle.zk_jute.specs.Reading.{told_place}
 use Rattle.zk_jute.specs.Told.{StandsAt, IsReadAs, IsToldFault, IsTold}
 use Rattle.zk_jute.specs.Flagged.{flag_items, flag_layout, IsFlaggedFault, in_value, in_flag, behind_flag}
 use Rattle.zk_jute.proofs.Layouts.{bytes_only, bytes_both, have_both, have_parts, has_byte}

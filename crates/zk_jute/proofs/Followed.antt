@@ -1,15 +1,10 @@
 -- From the windows of a text to the whole of it.
 use Rattle.std.proofs.Common.{◌≡◌, ℕ, suc, ◌+◌, ◌-◌, ◌<◌, ◌≤◌, List, [], ◌∷◌, ◌++◌, length, get_or, take, drop, replicate, refl, sym, ap, subst, ◌∙◌, inl, inr, arith, length-append, get_or-drop, get_or-take}
-use Rattle.std.specs.List.{range_with_len}
-use Rattle.std.specs.Str.{IsUtf8}
-use Rattle.std.proofs.lemmas.Bool.{cases_lt}
-use Rattle.std.proofs.lemmas.List.{get_or-append_right}
-use Rattle.std.proofs.lemmas.Simd.{pick_l-range_with_len, get_or-chunk, length-replicate}
+use Rattle.std.specs.{List.range_with_len, Str.IsUtf8}
+use Rattle.std.proofs.{lemmas.Bool.cases_lt, lemmas.List.get_or-append_right, lemmas.Simd.pick_l-range_with_len, lemmas.Simd.get_or-chunk, lemmas.Simd.length-replicate}
 use lib.Lanes.{chunk, pick_l}
 use Rattle.simdutf8.specs.Steps.{IsClosed, Step, StepsThen}
-use Rattle.simdutf8.proofs.Chars.{StepsThen-IsUtf8}
-use Rattle.simdutf8.proofs.Lanes.{zeros}
-use Rattle.simdutf8.proofs.StepsLemmas.{IsUtf8-append_ascii, IsAscii-replicate}
+use Rattle.simdutf8.proofs.{Chars.StepsThen-IsUtf8, Lanes.zeros, StepsLemmas.IsUtf8-append_ascii, StepsLemmas.IsAscii-replicate}
 use Rattle.zk_jute.specs.Follow.{FollowsAt}
 
 -- sixteen places of a block behind zeros

@@ -2,22 +2,13 @@
 use Rattle.std.proofs.Common.{◌≡◌, ℕ, ◌+◌, ◌-◌, ◌<◌, ◌≤◌, ltb, false, List, [], ◌∷◌, ◌++◌, length, drop, Option, Some, None, Result, Ok, Err, refl, sym, ap, subst, ◌∙◌, arith}
 use Rattle.std.specs.Prelude.{IfOk, IfErr}
 use Rattle.std.specs.List.{flat_map}
-use Rattle.std.proofs.lemmas.Bool.{le-ltb}
-use Rattle.std.proofs.lemmas.Option.{IfSome_then}
-use Rattle.zk_jute.specs.declared.fault.ItemFault.{ItemFault}
-use Rattle.zk_jute.specs.Item.{Item, ACount, bytes_of, HaveBytes}
+use Rattle.std.proofs.{lemmas.Bool.le-ltb, lemmas.Option.IfSome_then}
+use Rattle.zk_jute.specs.{declared.fault.ItemFault.ItemFault, Item.Item, Item.ACount, Item.bytes_of, Item.HaveBytes, Told.StandsAt, Told.HasSureFault, Wired.Wired, Wired.int, Wired.long, Shown.Stretch}
 use Rattle.zk_jute.specs.Layout.{Layout, End, Each, IsValueOf, ◌then◌}
 use Rattle.zk_jute.specs.Reading.{Fault, Read, Tells, Fails, told, end_of, read_map, size_at, times_at, items_at}
-use Rattle.zk_jute.specs.Told.{StandsAt, HasSureFault}
-use Rattle.zk_jute.specs.Wired.{Wired, int, long}
-use Rattle.zk_jute.specs.Shown.{Stretch}
 use Rattle.zk_jute.specs.Verdict.{Says, KeepsPlace, Judges, IsValueAt}
-use Rattle.zk_jute.proofs.Steps.{IsBytes}
-use Rattle.zk_jute.proofs.Layouts.{items_found, items_again, have_parts}
+use Rattle.zk_jute.proofs.{Steps.IsBytes, Layouts.items_found, Layouts.items_again, Layouts.have_parts, Chains.then_ends, Chains.then_fails, Chains.then_fails_later, Loops.IsScanning, Loops.scanning_ends, Theorems.plain_fault}
 use Rattle.zk_jute.proofs.Fields.{end_map, int_is, long_is, fails_told, list_none, list_some, list_fails, elements_fail}
-use Rattle.zk_jute.proofs.Chains.{then_ends, then_fails, then_fails_later}
-use Rattle.zk_jute.proofs.Loops.{IsScanning, scanning_ends}
-use Rattle.zk_jute.proofs.Theorems.{plain_fault}
 use Rattle.zk_jute.proofs.Stretches.{stands_split}
 
 -- the fault of a call that tells what reading gives

@@ -1,25 +1,15 @@
 -- What is known to stand somewhere, for the parts of it.
-use Rattle.std.proofs.Common.{◌≡◌, ℕ, ◌+◌, ◌-◌, ◌<◌, ◌≤◌, Bool, true, false, cond, eqb, List, [], ◌∷◌, ◌++◌, length, drop, Option, Some, None, Ok, Err, refl, sym, ap, subst, ◌∙◌, arith}
+use Rattle.std.proofs.Common.{◌≡◌, ℕ, ◌+◌, ◌-◌, ◌<◌, ◌≤◌, Bool, true, false, cond, eqb, List, [], ◌∷◌, ◌++◌, length, drop, Option, Some, None, Ok, Err, refl, sym, ap, subst, ◌∙◌, arith, nat_lt}
 use Rattle.std.specs.Prelude.{IsOk, IsUtf8}
 use Rattle.std.specs.Str.Lossy.{utf8_valid_len}
-use Rattle.std.proofs.lemmas.Bool.{eqb-true, ltb-false}
-use Rattle.std.proofs.Common.{nat_lt}
-use Rattle.std.proofs.lemmas.List.{append-nil, length-drop, drop_at}
+use Rattle.std.proofs.{lemmas.Bool.eqb-true, lemmas.Bool.ltb-false, lemmas.List.append-nil, lemmas.List.length-drop, lemmas.List.drop_at}
 use Rattle.zk_jute.specs.declared.fault.Reason.TheVariants.{BadText, Short}
 use Rattle.zk_jute.specs.Item.{Int, Long, Boolean, Item, AnInt, ALong, ABoolean, ACount, bytes_of, HaveBytes}
 use Rattle.zk_jute.specs.Layout.{Layout, End, One, Each, ◌then◌, IsValueOf}
 use Rattle.zk_jute.specs.Reading.{Fault, Read, fault, ◌>>=◌, read_map, end_of, int_at, long_at, bool_at, text_at, run_at, size_at, checked_text, times_at, elements_at, items_at}
-use Rattle.zk_jute.specs.Told.{StandsAt}
-use Rattle.zk_jute.specs.Flagged.{flag_items, OneIsFlagged}
-use Rattle.zk_jute.specs.Wired.{Wired, boolean}
-use Rattle.zk_jute.specs.Standing.{OneStands}
-use Rattle.zk_jute.specs.Verdict.{IsValueAt}
-use Rattle.zk_jute.proofs.Primitives.{utf8_if_valid}
+use Rattle.zk_jute.specs.{Told.StandsAt, Flagged.flag_items, Flagged.OneIsFlagged, Wired.Wired, Wired.boolean, Standing.OneStands, Verdict.IsValueAt}
+use Rattle.zk_jute.proofs.{Primitives.utf8_if_valid, Layouts.items_again, Layouts.bytes_only, Layouts.bytes_both, Layouts.have_parts, Lists.one_read, Sequels.none_left, Loops.IsScanning, Loops.IsReading, Loops.next_times}
 use Rattle.zk_jute.proofs.Fields.{read_then, int_is, long_is, bool_is, each_is, list_some}
-use Rattle.zk_jute.proofs.Layouts.{items_again, bytes_only, bytes_both, have_parts}
-use Rattle.zk_jute.proofs.Lists.{one_read}
-use Rattle.zk_jute.proofs.Sequels.{none_left}
-use Rattle.zk_jute.proofs.Loops.{IsScanning, IsReading, next_times}
 
 -- ---- steps of reading
 

@@ -3,20 +3,10 @@ use Rattle.std.proofs.Common.{◌≡◌, ◌≤◌, ℕ, zero, suc, List, [], �
 use Rattle.std.specs.List.{flat_map}
 use Rattle.std.proofs.lemmas.List.{length-append, length-drop}
 use Rattle.zk_jute.specs.declared.value.Nullable.TheVariants as nullable
-use Rattle.zk_jute.specs.Item.{Item, ACount, bytes_of, HaveBytes}
-use Rattle.zk_jute.specs.Layout.{Layout, Each, End}
+use Rattle.zk_jute.specs.{Item.Item, Item.ACount, Item.bytes_of, Item.HaveBytes, Layout.Layout, Layout.Each, Layout.End, Held.Vector, Told.StandsAt, Standing.OneStands, Wired.Wired, Wired.vector, Values.list_items, Values.list_unfolds}
 use Rattle.zk_jute.specs.Reading.{Read, ◌>>=◌, read_map, end_of, size_at, times_at, items_at}
-use Rattle.zk_jute.specs.Held.{Vector}
-use Rattle.zk_jute.specs.Told.{StandsAt}
-use Rattle.zk_jute.specs.Standing.{OneStands}
-use Rattle.zk_jute.specs.Wired.{Wired, vector}
-use Rattle.zk_jute.specs.Values.{list_items, list_unfolds}
 use Rattle.zk_jute.specs.Shown.{next_value, values_at, list_at, Stretch, AreThere, ListIsThere}
-use Rattle.zk_jute.proofs.Layouts.{items_found, items_again, have_both}
-use Rattle.zk_jute.proofs.Sequels.{stands_then}
-use Rattle.zk_jute.proofs.Steps.{IsBytes}
-use Rattle.zk_jute.proofs.Stretches.{none_passed}
-use Rattle.zk_jute.proofs.Fields.{end_map, list_none, list_some}
+use Rattle.zk_jute.proofs.{Layouts.items_found, Layouts.items_again, Layouts.have_both, Sequels.stands_then, Steps.IsBytes, Stretches.none_passed, Fields.end_map, Fields.list_none, Fields.list_some}
 
 module _ {X : Type 0} (items : X → List Item) (at : ℕ → Read X) (read : ℕ → Read (List Item)) (is : (place : ℕ) → read place ≡ read_map items (at place)) where
   -- what reading them gives is what they show, and where it ends

@@ -1,14 +1,10 @@
 -- Pairs of bytes looked up sixteen at a time, and what their faults say of each byte.
 use Rattle.std.proofs.Common.{◌≡◌, ℕ, zero, suc, ◌+◌, ◌-◌, ◌*◌, ◌/◌, ◌%◌, ◌^◌, ◌<◌, Bool, true, false, not, cond, eqb, List, [], ◌∷◌, map, length, get_or, replicate, bit_and, bit_or, bit_xor, refl, sym, ap, ◌∙◌, arith, w8, Fits, eqb-true}
-use Rattle.std.proofs.lemmas.List.{get_or-map, length-map, ext_get_or}
-use Rattle.std.proofs.lemmas.Nat.{and_le_r}
+use Rattle.std.proofs.{lemmas.List.get_or-map, lemmas.List.length-map, lemmas.List.ext_get_or, lemmas.Nat.and_le_r}
 use Rattle.std.proofs.lemmas.Simd.{Each1-all, Each1-weaker, Each1-zip2, Each2-splat, below_from_Fits, length-zip2, mask_l-mod, swz_l, SwzOk, SwzOk-from_below, length-swz_l, get_or-swz_l_below, get_or-zip2, get_or-replicate}
 use lib.Lanes.{zip2, mask_l, top, Each1}
-use Rattle.simdutf8.specs.Classes.{IsClass}
-use Rattle.simdutf8.specs.Steps.{AreZero}
-use Rattle.simdutf8.specs.Tables.{first_high, first_low, second_high}
-use Rattle.simdutf8.proofs.Lanes.{lane_fits, down, differs}
-use Rattle.simdutf8.proofs.Pairs.{fault, fault-Step, lookup_class}
+use Rattle.simdutf8.specs.{Classes.IsClass, Steps.AreZero, Tables.first_high, Tables.first_low, Tables.second_high}
+use Rattle.simdutf8.proofs.{Lanes.lane_fits, Lanes.down, Lanes.differs, Pairs.fault, Pairs.fault-Step, Pairs.lookup_class}
 use Rattle.zk_jute.specs.Follow.{Follow}
 
 -- sixteen bytes

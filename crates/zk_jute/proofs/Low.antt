@@ -1,9 +1,7 @@
 -- Bytes whose high bit is not set, a block at a time.
 use Rattle.std.proofs.Common.{◌≡◌, ℕ, zero, suc, ◌+◌, ◌-◌, ◌%◌, ◌^◌, ◌<◌, ◌≤◌, Bool, true, false, cond, eqb, leb, List, [], ◌∷◌, map, length, get_or, take, drop, replicate, refl, sym, ap, subst, ◌∙◌, inl, inr, arith, get_or-drop, get_or-take}
 use Rattle.std.specs.Str.{IsAscii}
-use Rattle.std.proofs.lemmas.Bool.{cases_lt, leb-false, eqb-true}
-use Rattle.std.proofs.lemmas.List.{length-map, get_or_past}
-use Rattle.std.proofs.lemmas.Simd.{length-zip2, length-replicate, mask_l-mod}
+use Rattle.std.proofs.{lemmas.Bool.cases_lt, lemmas.Bool.leb-false, lemmas.Bool.eqb-true, lemmas.List.length-map, lemmas.List.get_or_past, lemmas.Simd.length-zip2, lemmas.Simd.length-replicate, lemmas.Simd.mask_l-mod}
 use lib.Lanes.{zip2, mask_l, top}
 use Rattle.simdutf8.proofs.Lanes.{at_least}
 

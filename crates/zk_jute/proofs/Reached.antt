@@ -1,33 +1,15 @@
 -- Values whose ends are reached: one after the other, those of a list, and short texts.
 use Rattle.std.proofs.Common.{◌≡◌, ℕ, zero, suc, take-add, ◌+◌, ◌-◌, ◌/◌, ◌%◌, ◌<◌, ◌≤◌, false, ltb, List, [], ◌∷◌, ◌++◌, length, take, drop, Option, Some, None, Ok, refl, sym, ap, subst, ◌∙◌, append_assoc, arith}
 use Rattle.std.specs.Prelude.{ℤ, pos, negsuc}
-use Rattle.std.specs.Int.{w32, cast_unsigned}
-use Rattle.std.specs.Int.RustNames.{FitsSigned}
-use Rattle.std.proofs.lemmas.Int.{ints}
-use Rattle.std.specs.List.{flat_map}
-use Rattle.std.specs.Str.{IsAscii, IsUtf8}
-use Rattle.std.proofs.lemmas.Bool.{le-ltb}
-use Rattle.std.proofs.lemmas.Nat.{be_bytes_4, div-add-mod'}
-use Rattle.std.proofs.Math.Seq.{drop-append_seam}
-use Rattle.simdutf8.specs.Steps.{IsClosed}
-use Rattle.simdutf8.specs.Tracks.{last_three}
+use Rattle.std.specs.{Int.w32, Int.cast_unsigned, Int.RustNames.FitsSigned, List.flat_map, Str.IsAscii, Str.IsUtf8}
+use Rattle.std.proofs.{lemmas.Int.ints, lemmas.Bool.le-ltb, lemmas.Nat.be_bytes_4, lemmas.Nat.div-add-mod', Math.Seq.drop-append_seam, lemmas.Grind.flat_map-append}
+use Rattle.simdutf8.specs.{Steps.IsClosed, Tracks.last_three}
 use Rattle.simdutf8.proofs.Chars.{StepsThen-IsUtf8, closed-IsUtf8}
 use Rattle.simdutf8.proofs.StepsLemmas.{StepsThen-append, StepsThen_parts, Steps_ascii, IsUtf8-after_ascii}
 use Rattle.std.proofs.lemmas.List.{take_at, drop-drop, length-append, length-take, length-drop}
-use Rattle.std.proofs.lemmas.Grind.{flat_map-append}
 use Rattle.zk_jute.specs.declared.value.Nullable.TheVariants as nullable
-use Rattle.zk_jute.specs.Item.{Item, AUstring, HaveBytes, int_bytes}
-use Rattle.zk_jute.specs.Reading.{int_at, size_at, run_at}
-use Rattle.zk_jute.specs.Told.{StandsAt}
-use Rattle.zk_jute.specs.Values.{text_items}
-use Rattle.zk_jute.specs.Shown.{Stretch}
-use Rattle.zk_jute.specs.Ends.{EndsAt, TextsIfUtf8, IsRunOfLowSize}
-use Rattle.zk_jute.proofs.Steps.{IsBytes}
-use Rattle.zk_jute.proofs.Numbers.{len32}
-use Rattle.zk_jute.proofs.Runs.{run_found, size_found}
-use Rattle.zk_jute.proofs.Layouts.{have_both, one_found}
-use Rattle.zk_jute.proofs.Sequels.{stands_then}
-use Rattle.zk_jute.proofs.Stretches.{one_passed}
+use Rattle.zk_jute.specs.{Item.Item, Item.AUstring, Item.HaveBytes, Item.int_bytes, Reading.int_at, Reading.size_at, Reading.run_at, Told.StandsAt, Values.text_items, Shown.Stretch, Ends.EndsAt, Ends.TextsIfUtf8, Ends.IsRunOfLowSize}
+use Rattle.zk_jute.proofs.{Steps.IsBytes, Numbers.len32, Runs.run_found, Runs.size_found, Layouts.have_both, Layouts.one_found, Sequels.stands_then, Stretches.one_passed}
 
 -- one more of a stretch
 pub one_more : {X : Type 0} (items : X → List Item) (src : List ℕ) (place at end count : ℕ) → Stretch items src place at count → EndsAt items src at end → Stretch items src place end (count + 1)

@@ -2,14 +2,9 @@
 use Rattle.std.proofs.Common.{◌≡◌, ℕ, ◌+◌, ◌-◌, ◌≤◌, ◌<◌, List, [], ◌∷◌, ◌++◌, length, drop, suc, Ok, refl, sym, ap, subst, ◌∙◌, append_assoc, arith}
 use Rattle.std.specs.List.{flat_map}
 use Rattle.std.proofs.lemmas.List.{append-nil, length-append, length-drop, drop-drop}
-use Rattle.std.proofs.Math.Seq.{drop-append_seam}
-use Rattle.std.proofs.lemmas.Grind.{flat_map-append}
-use Rattle.zk_jute.specs.Item.{Item, bytes_of, HaveBytes}
-use Rattle.zk_jute.specs.Told.{StandsAt}
-use Rattle.zk_jute.specs.Reading.{Read}
-use Rattle.zk_jute.specs.Shown.{next_value, values_at, Stretch, Begins}
-use Rattle.zk_jute.proofs.Layouts.{bytes_both, have_both, have_parts}
-use Rattle.zk_jute.proofs.Sequels.{stands_then}
+use Rattle.std.proofs.{Math.Seq.drop-append_seam, lemmas.Grind.flat_map-append}
+use Rattle.zk_jute.specs.{Item.Item, Item.bytes_of, Item.HaveBytes, Told.StandsAt, Reading.Read, Shown.next_value, Shown.values_at, Shown.Stretch, Shown.Begins}
+use Rattle.zk_jute.proofs.{Layouts.bytes_both, Layouts.have_both, Layouts.have_parts, Sequels.stands_then}
 
 -- ---- what stands, in two
 

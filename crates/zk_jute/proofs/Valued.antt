@@ -3,16 +3,11 @@ use Rattle.std.proofs.Common.{◌≡◌, ℕ, zero, suc, List, [], ◌∷◌, �
 use Rattle.std.specs.Prelude.{ℤ}
 use Rattle.std.specs.List.{flat_map}
 use Rattle.zk_jute.specs.declared.value.Nullable.TheVariants as nullable
-use Rattle.zk_jute.specs.Item.{Item, AnInt, ALong, ABuffer, ACount, HaveBytes}
-use Rattle.zk_jute.specs.Layout.{Each, End}
+use Rattle.zk_jute.specs.{Item.Item, Item.AnInt, Item.ALong, Item.ABuffer, Item.ACount, Item.HaveBytes, Layout.Each, Layout.End, Values.list_items, Values.blob_items, Told.StandsAt, Standing.OneStands}
 use Rattle.zk_jute.specs.Reading.{Read, ◌>>=◌, read_map, int_at, long_at, run_at, size_at, times_at, items_at}
-use Rattle.zk_jute.specs.Values.{list_items, blob_items}
 use Rattle.zk_jute.specs.Wired.{Wired, int, long, buffer, vector, ◌and◌}
 use Rattle.zk_jute.specs.Shown.{text_of, blob_value, both_at, run_of, elements_from, list_value}
-use Rattle.zk_jute.specs.Told.{StandsAt}
-use Rattle.zk_jute.specs.Standing.{OneStands}
-use Rattle.zk_jute.proofs.Layouts.{items_again}
-use Rattle.zk_jute.proofs.Fields.{list_none, list_some, read_then, after_items}
+use Rattle.zk_jute.proofs.{Layouts.items_again, Fields.list_none, Fields.list_some, Fields.read_then, Fields.after_items}
 
 -- the value that is told is that of the items which stand there
 abbrev pub IsValued : {X : Type 0} → Wired X → List ℕ → (ℕ → Read X) → Type 0

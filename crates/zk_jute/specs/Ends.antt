@@ -1,10 +1,6 @@
 -- Where values end that stand in a payload.
 use Rattle.std.specs.Prelude.{◌≡◌, ℕ, ◌-◌, ◌<◌, ◌%◌, List, length, take, drop, Some, Ok, IsUtf8}
-use Rattle.zk_jute.specs.Item.{Item, HaveBytes}
-use Rattle.zk_jute.specs.Told.{StandsAt}
-use Rattle.zk_jute.specs.Shown.{Stretch}
-use Rattle.zk_jute.specs.Values.{text_items}
-use Rattle.zk_jute.specs.Reading.{run_at}
+use Rattle.zk_jute.specs.{Item.Item, Item.HaveBytes, Told.StandsAt, Shown.Stretch, Values.text_items, Reading.run_at}
 
 -- one of these values is at the place, and ends there
 abbrev pub EndsAt : {X : Type 0} → (X → List Item) → List ℕ → ℕ → ℕ → Type 0

@@ -1,12 +1,8 @@
 -- A value, and then nothing or one boolean: the payloads that open a connection (ZooKeeper 3.4,
 -- ClientCnxnSocket.readConnectResult and ZooKeeperServer.processConnectRequest).
 use Rattle.std.specs.Prelude.{◌≡◌, ◌≢◌, ℕ, ◌+◌, Bool, List, [], ◌∷◌, ◌++◌, length, Option, Some, None}
-use Rattle.zk_jute.specs.declared.fault.Reason.{Reason}
-use Rattle.zk_jute.specs.declared.fault.Reason.TheVariants.{Trailing}
-use Rattle.zk_jute.specs.Item.{Boolean, Item, ABoolean, bytes_of, HaveBytes}
-use Rattle.zk_jute.specs.Layout.{Layout, End, One, IsValueOf}
-use Rattle.zk_jute.specs.Faults.{IsFault, IsTrailing, Opens}
-use Rattle.zk_jute.specs.Wired.{Wired}
+use Rattle.zk_jute.specs.{declared.fault.Reason.Reason, declared.fault.Reason.TheVariants.Trailing, Item.Boolean, Item.Item, Item.ABoolean, Item.bytes_of, Item.HaveBytes, Layout.Layout, Layout.End, Layout.One, Layout.IsValueOf}
+use Rattle.zk_jute.specs.{Faults.IsFault, Faults.IsTrailing, Faults.Opens, Wired.Wired}
 pub use Rattle.zk_jute.specs.Told.{IsReadAs}
 
 abbrev pub flag_items : Option Bool → List Item

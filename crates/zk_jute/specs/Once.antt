@@ -1,9 +1,6 @@
 -- What laws say of values and of kinds of faults: that bytes have one at most.
 use Rattle.std.specs.Prelude.{◌≡◌, ◌↔◌, ℕ, List, ◌++◌, length, Ok}
-use Rattle.zk_jute.specs.declared.fault.Reason.{Reason}
-use Rattle.zk_jute.specs.Item.{Item, bytes_of, HaveBytes}
-use Rattle.zk_jute.specs.Layout.{Layout}
-use Rattle.zk_jute.specs.Reading.{items_at}
+use Rattle.zk_jute.specs.{declared.fault.Reason.Reason, Item.Item, Item.bytes_of, Item.HaveBytes, Layout.Layout, Reading.items_at}
 
 -- these items come first in the bytes, and nothing else is read there
 abbrev pub IsReadFirst : Layout → List Item → List ℕ → Type 0

@@ -1,14 +1,9 @@
 -- What is borrowed from a payload, as a value of its bytes.
-use Rattle.std.specs.Prelude.{◌≡◌, ℕ, zero, suc, List, [], ◌∷◌, length, Option, Some, None, Ok, Err, refl}
+use Rattle.std.specs.Prelude.{◌≡◌, ℕ, zero, suc, List, [], ◌∷◌, length, Option, Some, None, Ok, Err, refl, ◌≤◌}
 use Rattle.zk_jute.specs.declared.value.Nullable.TheVariants as nullable
-use Rattle.zk_jute.specs.Held.{Text, Blob, Vector}
+use Rattle.zk_jute.specs.{Held.Text, Held.Blob, Held.Vector, Item.Item, Item.Ustring, Item.AUstring, Item.HaveBytes, Layout.One, Layout.End, Told.StandsAt, Values.text_items}
 use Rattle.std.specs.List.{flat_map}
-use Rattle.std.specs.Prelude.{◌≤◌}
-use Rattle.zk_jute.specs.Item.{Item, Ustring, AUstring, HaveBytes}
-use Rattle.zk_jute.specs.Layout.{One, End}
-use Rattle.zk_jute.specs.Told.{StandsAt}
 use Rattle.zk_jute.specs.Reading.{Read, ◌>>=◌, read_map, run_at, size_at, text_at, items_at}
-use Rattle.zk_jute.specs.Values.{text_items}
 
 abbrev pub text_of : Option (List ℕ) → Text
 text_of None = nullable.Null

@@ -1,7 +1,6 @@
 -- What is known to be there.
 use Rattle.std.specs.Prelude.{ℕ, List}
-use Rattle.zk_jute.specs.Item.{Item, HaveBytes}
-use Rattle.zk_jute.specs.Told.{StandsAt}
+use Rattle.zk_jute.specs.{Item.Item, Item.HaveBytes, Told.StandsAt}
 
 -- one of these values is at the place
 abbrev pub OneStands : {X : Type 0} → (X → List Item) → List ℕ → ℕ → Type 0

@@ -1,9 +1,6 @@
 -- What a judge's verdict says of reading.
 use Rattle.std.specs.Prelude.{◌≡◌, ℕ, List, Option, Result, Ok, Err, IfSome}
-use Rattle.zk_jute.specs.declared.fault.ItemFault.{ItemFault}
-use Rattle.zk_jute.specs.Item.{Item}
-use Rattle.zk_jute.specs.Told.{StandsAt}
-use Rattle.zk_jute.specs.Reading.{Read, Fails, end_of}
+use Rattle.zk_jute.specs.{declared.fault.ItemFault.ItemFault, Item.Item, Told.StandsAt, Reading.Read, Reading.Fails, Reading.end_of}
 
 -- the verdict reports no other fault than one of these
 abbrev pub Says : {V : Type 0} → (V → Option ItemFault) → (ItemFault → Type 0) → V → Type 0

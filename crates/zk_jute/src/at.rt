@@ -1,11 +1,6 @@
 //! `read_ref` and `scan` judge a value at a place of a payload; `known_at` and `at` return one that is known to be there.
 ghost use Rattle.std.specs.Prelude.{◌≡◌, ◌≤◌, ℕ, length, IfOk, IfErr};
-ghost use Rattle.zk_jute.specs.Held.{Text, Blob, Vector};
-ghost use Rattle.zk_jute.specs.Item.{HaveBytes};
-ghost use Rattle.zk_jute.specs.Layout.{IsValueOf};
-ghost use Rattle.zk_jute.specs.Told.{StandsAt, HasSureFault};
-ghost use Rattle.zk_jute.specs.Standing.{OneStands};
-ghost use Rattle.zk_jute.specs.Values.{text_items, blob_items, list_items};
+ghost use Rattle.zk_jute.specs.{Held.Text, Held.Blob, Held.Vector, Item.HaveBytes, Layout.IsValueOf, Told.StandsAt, Told.HasSureFault, Standing.OneStands, Values.text_items, Values.blob_items, Values.list_items};
 
 use crate::fault::ItemFault;
 use crate::series::TextList;

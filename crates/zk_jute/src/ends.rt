@@ -1,11 +1,6 @@
 //! `Ends`: where a value ends in a payload, found without making the value.
 ghost use Rattle.std.specs.Prelude.{◌≡◌, ℕ, ◌≤◌, ◌<◌, ◌%◌, ◌+◌, length, option_copied, IsTrue, IfOk, IfErr, IfSome};
-ghost use Rattle.zk_jute.specs.Layout.{IsValueOf};
-ghost use Rattle.zk_jute.specs.Reading.{items_at, times_at};
-ghost use Rattle.zk_jute.specs.Told.{HasSureFault};
-ghost use Rattle.zk_jute.specs.Verdict.{Says, Judges, IsValueAt};
-ghost use Rattle.zk_jute.specs.Shown.{Stretch};
-ghost use Rattle.zk_jute.specs.Values.{text_items};
+ghost use Rattle.zk_jute.specs.{Layout.IsValueOf, Reading.items_at, Reading.times_at, Told.HasSureFault, Verdict.Says, Verdict.Judges, Verdict.IsValueAt, Shown.Stretch, Values.text_items};
 ghost use Rattle.zk_jute.specs.Wired.{Wired, int, long, boolean, ustring, buffer, vector, ◌and◌};
 ghost use Rattle.zk_jute.specs.Ends.{IsUtf8Between, TextsIfUtf8, IsRunOfLowSize};
 

@@ -1,7 +1,6 @@
 //! `Left`: a list by what is left of it, owned or borrowed.
 ghost use Rattle.std.specs.Prelude.{◌≡◌, List};
-ghost use Rattle.std.specs.Iterator.{YieldsFirst};
-ghost use Rattle.std.specs.Slice.Iter.{iter_rest};
+ghost use Rattle.std.specs.{Iterator.YieldsFirst, Slice.Iter.iter_rest};
 
 use crate::sequence::{KnownIn, Members};
 use std::marker::Model;

@@ -2,10 +2,7 @@
 //!
 //! Old peers leave the boolean out (`ClientCnxnSocket.readConnectResult` of ZooKeeper 3.4).
 ghost use Rattle.std.specs.Prelude.{◌≡◌, ◌≢◌, ◌≤◌, Option, Bool, length, Ok, IfOk, IfErr};
-ghost use Rattle.zk_jute.specs.declared.fault.Reason.TheVariants.{NoMemory};
-ghost use Rattle.zk_jute.specs.Item.{bytes_of, HaveBytes};
-ghost use Rattle.zk_jute.specs.Layout.{IsValueOf};
-ghost use Rattle.zk_jute.specs.Told.{StandsAt, IsReadAs, IsToldFault, IsTold, HasSureFault, IsSurelyTold};
+ghost use Rattle.zk_jute.specs.{declared.fault.Reason.TheVariants.NoMemory, Item.bytes_of, Item.HaveBytes, Layout.IsValueOf, Told.StandsAt, Told.IsReadAs, Told.IsToldFault, Told.IsTold, Told.HasSureFault, Told.IsSurelyTold};
 ghost use Rattle.zk_jute.specs.Flagged.{flag_items, flagged, IsFlaggedFault, OneIsFlagged};
 
 use crate::at::read_ref;

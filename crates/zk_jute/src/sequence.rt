@@ -1,12 +1,7 @@
 //! `Sequence`: values of a payload that follow one another, and the iterator over them.
 ghost use Rattle.std.specs.Prelude.{◌≡◌, ◌≤◌, ◌∷◌, ℕ, List, [], length, Ok, Some, IfSome, MatchOption};
-ghost use Rattle.std.specs.Iterator.{YieldsFirst, UpTo, item_count};
-ghost use Rattle.std.specs.Iterator.SizeHint.{IsWithinCount};
-ghost use Rattle.zk_jute.specs.Item.{Item, HaveBytes};
-ghost use Rattle.zk_jute.specs.Reading.{Read};
-ghost use Rattle.zk_jute.specs.Shown.{AreThere, values_at};
-ghost use Rattle.zk_jute.specs.Standing.{OneStands};
-ghost use Rattle.zk_jute.specs.Told.{StandsAt};
+ghost use Rattle.std.specs.{Iterator.YieldsFirst, Iterator.UpTo, Iterator.item_count, Iterator.SizeHint.IsWithinCount};
+ghost use Rattle.zk_jute.specs.{Item.Item, Item.HaveBytes, Reading.Read, Shown.AreThere, Shown.values_at, Standing.OneStands, Told.StandsAt};
 
 use std::marker::{Model, PhantomData};
 

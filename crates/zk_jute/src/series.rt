@@ -1,11 +1,6 @@
 //! `Series`: a list that is borrowed from a payload.
 ghost use Rattle.std.specs.Prelude.{◌≡◌, ◌≤◌, ◌↔◌, ℕ, List, length, refl, Ok, IsTrue, IsOk};
-ghost use Rattle.zk_jute.specs.Held.{Text, Vector};
-ghost use Rattle.zk_jute.specs.Item.{HaveBytes};
-ghost use Rattle.zk_jute.specs.Told.{StandsAt};
-ghost use Rattle.zk_jute.specs.Reading.{end_of, items_at, read_map, times_at};
-ghost use Rattle.zk_jute.specs.Standing.{OneStands};
-ghost use Rattle.zk_jute.specs.Values.{text_items, list_items};
+ghost use Rattle.zk_jute.specs.{Held.Text, Held.Vector, Item.HaveBytes, Told.StandsAt, Reading.end_of, Reading.items_at, Reading.read_map, Reading.times_at, Standing.OneStands, Values.text_items, Values.list_items};
 ghost use Rattle.zk_jute.specs.Shown.{ListIsThere, IsNull, count_of, elements_of, list_at, text_value, text_is_value};
 
 use crate::at::known_at;

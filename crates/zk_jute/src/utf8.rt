@@ -3,9 +3,7 @@
 //!
 //! After Keiser and Lemire, "Validating UTF-8 In Less Than One Instruction Per Byte", whose tables these are.
 ghost use Rattle.std.specs.Prelude.{◌≡◌, ℕ, suc, ◌-◌, ◌<◌, ◌≤◌, ◌∷◌, ◌++◌, length, map, replicate, slice_index, IsTrue, IsUtf8};
-ghost use Rattle.simdutf8.specs.Classes.{IsClass};
-ghost use Rattle.simdutf8.specs.Steps.{AreZero};
-ghost use Rattle.simdutf8.specs.Tables.{first_high, first_low, second_high};
+ghost use Rattle.simdutf8.specs.{Classes.IsClass, Steps.AreZero, Tables.first_high, Tables.first_low, Tables.second_high};
 ghost use Rattle.zk_jute.specs.Follow.{EndsClosed, Follow, FollowsAt};
 
 use crate::ascii::{is_plain, plain_front};

@@ -1,8 +1,6 @@
 //! `Verdict`: what a judge returns of a payload that it refuses, the fault or nothing.
 ghost use Rattle.std.specs.Prelude.{◌≡◌, Option, Some, None, IfSome};
-ghost use Rattle.zk_jute.specs.declared.fault.ItemFault.{ItemFault};
-ghost use Rattle.zk_jute.specs.Reading.{told_place};
-ghost use Rattle.zk_jute.specs.Verdict.{Says, Keeps, KeepsPlace};
+ghost use Rattle.zk_jute.specs.{declared.fault.ItemFault.ItemFault, Reading.told_place, Verdict.Says, Verdict.Keeps, Verdict.KeepsPlace};
 
 use crate::fault::{ItemFault, Reason};
 

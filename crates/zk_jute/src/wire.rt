@@ -2,12 +2,8 @@
 //!
 //! They follow `BinaryInputArchive` and `BinaryOutputArchive` of ZooKeeper's jute.
 ghost use Rattle.std.specs.Prelude.{◌≡◌, ℕ, ◌≤◌, ◌<◌, ◌++◌, List, length, Ok, IsOk, IfOk, IfErr, IsTrue, OnOk, OnErr};
-ghost use Rattle.zk_jute.specs.Faults.{IsFault};
-ghost use Rattle.zk_jute.specs.Item.{Item, bytes_of, HaveBytes, Fit, IsSizeWithin};
-ghost use Rattle.zk_jute.specs.Layout.{IsValueOf, takes_none};
-ghost use Rattle.zk_jute.specs.Reading.{Fails, Gives, items_at};
-ghost use Rattle.zk_jute.specs.Told.{StandsAt, IsReadAs, IsToldFault, HasSureFault};
-ghost use Rattle.zk_jute.specs.Once.{HaveOneFault, IsReadFirst, BeginAlike};
+ghost use Rattle.zk_jute.specs.{Faults.IsFault, Item.Item, Item.bytes_of, Item.HaveBytes, Item.Fit, Item.IsSizeWithin, Layout.IsValueOf, Layout.takes_none, Reading.Fails, Reading.Gives, Reading.items_at};
+ghost use Rattle.zk_jute.specs.{Told.StandsAt, Told.IsReadAs, Told.IsToldFault, Told.HasSureFault, Once.HaveOneFault, Once.IsReadFirst, Once.BeginAlike};
 
 use crate::ends::Ends;
 use crate::fault::ItemFault;

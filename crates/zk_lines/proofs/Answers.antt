@@ -1,42 +1,26 @@
 -- The lines of what a server sends have the laws of lines.
 use Rattle.std.proofs.Common.{◌≡◌, ℕ, ℤ, List, [], ◌∷◌, ◌++◌, Option, Some, None, Bool, true, false, refl, ap, sym, subst, ◌∙◌, append_assoc}
-use Rattle.zk_jute.specs.Flagged.{flag_items}
-use Rattle.zk_jute.specs.Item.{HaveBytes}
+use Rattle.zk_jute.specs.{Flagged.flag_items, Item.HaveBytes}
 use Rattle.zk_jute.specs.Wired as wired
 use Rattle.zk_records.specs.Records as records
 use Rattle.zk_records.specs.declared.op.Op.{Op}
 use Rattle.zk_records.specs.declared.op.Op.TheVariants as ops
 use Rattle.zk_asks.specs.Parts.{end_header, marked}
-use Rattle.zk_answers.specs.Held.{PartDone, Body, Outcome}
+use Rattle.zk_answers.specs.{Held.PartDone, Held.Body, Held.Outcome, Frames.op_of_outcome, Results.done_items, Results.result_of, Results.multi_items, Rows.op_of_body, Rows.body_items}
 use Rattle.zk_answers.specs.declared.frame.PartDoneOf.TheVariants as done
 use Rattle.zk_answers.specs.declared.frame.BodyOf.TheVariants as body
 use Rattle.zk_answers.specs.declared.frame.OutcomeOf.TheVariants as outcome
-use Rattle.zk_answers.specs.Frames.{op_of_outcome}
-use Rattle.zk_answers.specs.Results.{done_items, result_of, multi_items}
-use Rattle.zk_answers.specs.Rows.{op_of_body, body_items}
 use Rattle.zk_items.specs.Form.{Read, ◌>>=◌, read_map, stops, word_at}
-use Rattle.zk_items.specs.Leaf.{int, long, text}
-use Rattle.zk_items.specs.Codes.{error_code, failure_code, error_name}
-use Rattle.zk_lines.specs.Words.{field, word_of}
+use Rattle.zk_items.specs.{Leaf.int, Leaf.long, Leaf.text, Codes.error_code, Codes.failure_code, Codes.error_name, Laws.Lawful, Laws.LawfulBefore}
+use Rattle.zk_lines.specs.{Words.field, Words.word_of, declared.done.DoneName.DoneName, Series.if_passed, Series.list_of, Records.stat, Rows.row_at}
 use Rattle.zk_lines.specs.declared.word.Word.TheVariants as words
-use Rattle.zk_items.specs.Laws.{Lawful, LawfulBefore}
 use Rattle.zk_items.proofs.Forms.{IsField, fields_is, and_is, led_is, bind_some, some_is, word_again, word_sound}
-use Rattle.zk_items.proofs.Numbers.{int_is, long_is}
-use Rattle.zk_items.proofs.Codes.{code_is, other_code_is}
-use Rattle.zk_lines.proofs.Words.{field_is, word_stops}
-use Rattle.zk_lines.specs.declared.done.DoneName.{DoneName}
+use Rattle.zk_items.proofs.{Numbers.int_is, Numbers.long_is, Codes.code_is, Codes.other_code_is}
+use Rattle.zk_lines.proofs.{Words.field_is, Words.word_stops, Named.IsNames, Named.IsFound, Named.IsRead, Named.named_is, Named.names_of, Named.mapped, LawsPrinted.Printed, Held.int_fits, Shown.error_shown, Asks.op_names}
 use Rattle.zk_lines.specs.declared.done.DoneName.TheVariants as names
-use Rattle.zk_lines.specs.Series.{if_passed, list_of}
-use Rattle.zk_lines.specs.Records.{stat}
-use Rattle.zk_lines.specs.Rows.{row_at}
 use Rattle.zk_lines.specs.Answers as answers
-use Rattle.zk_lines.proofs.Named.{IsNames, IsFound, IsRead, named_is, names_of, mapped}
-use Rattle.zk_lines.proofs.LawsPrinted.{Printed}
-use Rattle.zk_lines.proofs.Held.{int_fits}
-use Rattle.zk_lines.proofs.Shown.{error_shown}
 use Rattle.zk_lines.proofs.Rows.{IsItem, IsRow, IsRowOf, IsTable, ◌with◌, field_of, row_of_fields, row_of_record, nothing_is, table_opens, table_again, table_sound, table_held, table_series, table_shown}
 use Rattle.zk_lines.proofs.Items.{int_item, long_item, ro_item, blob_item, texts_item, acls_item, event_code_item, path_field, version_field, stat_field}
-use Rattle.zk_lines.proofs.Asks.{op_names}
 
 -- ---- records
 

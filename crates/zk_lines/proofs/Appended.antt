@@ -1,22 +1,16 @@
 -- What is read of a line into bytes, part by part.
-use Rattle.std.proofs.Common.{◌≡◌, ℕ, List, [], ◌++◌, take, drop, Option, Some, None, refl, sym, ap, subst, ◌∙◌, append_assoc}
+use Rattle.std.proofs.Common.{◌≡◌, ℕ, List, [], ◌++◌, take, drop, Option, Some, None, refl, sym, ap, subst, ◌∙◌, append_assoc, ltb-true, w32, to_z, of_z, to_z-of_z}
 use Rattle.std.specs.Prelude.{IfSome, ◌^◌, true, ℤ, pos, negsuc}
-use Rattle.std.proofs.Common.{ltb-true, w32, to_z, of_z, to_z-of_z}
 use Rattle.std.specs.List.{prefix_len}
 use Rattle.std.proofs.lemmas.List.{append-nil}
 use Rattle.zk_jute.specs.Item.{Item, AnInt, bytes_of, HasBytes, HaveBytes}
-use Rattle.zk_records.specs.Codes.{op_number, part_number}
-use Rattle.zk_records.specs.declared.op.Op.{Op}
+use Rattle.zk_records.specs.{Codes.op_number, Codes.part_number, declared.op.Op.Op, declared.op.PartOp.PartOp}
 use Rattle.zk_records.specs.declared.op.Op.TheVariants as ops
-use Rattle.zk_records.specs.declared.op.PartOp.{PartOp}
 use Rattle.zk_records.specs.declared.op.PartOp.TheVariants as parts
 use Rattle.zk_jute.proofs.Layouts.{have_both, bytes_both}
 use Rattle.zk_items.specs.Form.{Read, ◌>>=◌, word_at}
-use Rattle.zk_items.specs.Leaf.{in_name, in_range}
-use Rattle.zk_items.specs.Copied.{Copied}
-use Rattle.zk_lines.specs.Named.{named_at}
-use Rattle.zk_lines.specs.Words.{field_at, word_of}
-use Rattle.zk_lines.specs.declared.word.Word.{Word}
+use Rattle.zk_items.specs.{Leaf.in_name, Leaf.in_range, Copied.Copied}
+use Rattle.zk_lines.specs.{Named.named_at, Words.field_at, Words.word_of, declared.word.Word.Word}
 
 -- a value that was read, and its bytes, which were appended
 abbrev pub value_copied : {X : Type 0} {at : List ℕ → Read X} {items : X → List Item} {line rest old new : List ℕ} (value : X) → at line ≡ Some (value, rest) → HaveBytes (items value) → new ≡ old ++ bytes_of (items value)

@@ -1,27 +1,18 @@
 -- The lines of what a client sends have the laws of lines.
 use Rattle.std.proofs.Common.{◌++◌, refl}
-use Rattle.zk_jute.specs.Flagged.{flag_items}
-use Rattle.zk_jute.specs.Item.{HaveBytes}
+use Rattle.zk_jute.specs.{Flagged.flag_items, Item.HaveBytes}
 use Rattle.zk_records.specs.Records as records
-use Rattle.zk_records.specs.declared.op.Op.{Op}
+use Rattle.zk_records.specs.{declared.op.Op.Op, declared.op.PartOp.PartOp, Codes.op_name, Codes.all_ops, Codes.part_name, Codes.all_parts}
 use Rattle.zk_records.specs.declared.op.Op.TheVariants as ops
-use Rattle.zk_records.specs.declared.op.PartOp.{PartOp}
 use Rattle.zk_records.specs.declared.op.PartOp.TheVariants as parts
-use Rattle.zk_records.specs.Codes.{op_name, all_ops, part_name, all_parts}
-use Rattle.zk_asks.specs.Held.{Ask}
+use Rattle.zk_asks.specs.{Held.Ask, Rows.op_of_ask, Rows.body_items}
 use Rattle.zk_asks.specs.Parts.{op_of_part, record_of, part_items, part_header, end_header, marked, multi_items}
-use Rattle.zk_asks.specs.Rows.{op_of_ask, body_items}
-use Rattle.zk_items.specs.Leaf.{int}
+use Rattle.zk_items.specs.{Leaf.int, Laws.Lawful}
 use Rattle.zk_lines.specs.Words.{field}
 use Rattle.zk_lines.specs.declared.word.Word.TheVariants as words
-use Rattle.zk_items.specs.Laws.{Lawful}
-use Rattle.zk_items.proofs.Forms.{IsField, and_is}
-use Rattle.zk_items.proofs.Numbers.{int_is}
-use Rattle.zk_lines.proofs.Words.{field_is}
+use Rattle.zk_items.proofs.{Forms.IsField, Forms.and_is, Numbers.int_is}
+use Rattle.zk_lines.proofs.{Words.field_is, Named.IsNames, Named.IsFound, Named.names_of, Held.parted, Shown.Shown}
 use Rattle.zk_lines.specs.Asks as asks
-use Rattle.zk_lines.proofs.Named.{IsNames, IsFound, names_of}
-use Rattle.zk_lines.proofs.Held.{parted}
-use Rattle.zk_lines.proofs.Shown.{Shown}
 use Rattle.zk_lines.proofs.Rows.{IsRow, IsRowOf, IsTable, ◌with◌, field_of, row_of_record, nothing_is, table_is, table_held, table_series, named_shown}
 use Rattle.zk_lines.proofs.Items.{int_item, long_item, bit_item, ro_item, text_item, blob_item, texts_item, acls_item, path_field, version_field}
 

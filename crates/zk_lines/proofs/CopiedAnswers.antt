@@ -5,21 +5,13 @@ use Rattle.std.specs.List.{prefix_len}
 use Rattle.zk_jute.specs.Item.{Item, AnInt, ALong, bytes_of, HaveBytes}
 use Rattle.zk_jute.specs.Wired as wired
 use Rattle.zk_records.specs.declared.op.Op.{Op}
-use Rattle.zk_answers.specs.Held.{Outcome, Reply}
+use Rattle.zk_answers.specs.{Held.Outcome, Held.Reply, Frames.err_of, Frames.rest_items, Frames.op_of_reply, Frames.reply_items, Frames.frame_items, Rows.body_items}
 use Rattle.zk_answers.specs.declared.frame.OutcomeOf.TheVariants as outcome
 use Rattle.zk_answers.specs.declared.frame.ServerFrameOf.TheVariants as server
-use Rattle.zk_answers.specs.Frames.{err_of, rest_items, op_of_reply, reply_items, frame_items}
-use Rattle.zk_answers.specs.Rows.{body_items}
-use Rattle.zk_items.specs.Form.{Read, read_map, word_at}
-use Rattle.zk_items.specs.Codes.{failure_code, event_code}
+use Rattle.zk_items.specs.{Form.Read, Form.read_map, Form.word_at, Codes.failure_code, Codes.event_code, Leaf.in_name, Leaf.num_at, Copied.Copied}
 use Rattle.zk_items.specs.Leaf as leaf
-use Rattle.zk_items.specs.Leaf.{in_name, num_at}
-use Rattle.zk_items.specs.Copied.{Copied}
 use Rattle.zk_lines.specs.Answers as answers
-use Rattle.zk_lines.specs.Asks.{op_named}
-use Rattle.zk_lines.specs.Rows.{row_at}
-use Rattle.zk_lines.specs.Series.{if_passed}
-use Rattle.zk_lines.specs.Words.{word_of, field_at}
+use Rattle.zk_lines.specs.{Asks.op_named, Rows.row_at, Series.if_passed, Words.word_of, Words.field_at}
 use Rattle.zk_lines.specs.declared.word.Word.TheVariants as words
 use Rattle.zk_lines.proofs.Answers.{outcome_op}
 use Rattle.zk_lines.proofs.Appended.{◌then◌, value_copied, read_alone, field_copied, made, retold, headed, named_copied}

@@ -2,24 +2,15 @@
 use Rattle.std.proofs.Common.{◌≡◌, ℕ, ℤ, List, [], ◌++◌, take, drop, Some, ap, sym, ◌∷◌, ◌∙◌}
 use Rattle.std.specs.List.{prefix_len}
 use Rattle.zk_jute.specs.Item.{AnInt, bytes_of, HaveBytes}
-use Rattle.zk_records.specs.Codes.{op_number}
-use Rattle.zk_records.specs.declared.op.Op.{Op}
-use Rattle.zk_records.specs.declared.op.PartOp.{PartOp}
-use Rattle.zk_asks.specs.Forms.{header_items}
-use Rattle.zk_asks.specs.Frames.{frame_items}
-use Rattle.zk_asks.specs.Parts.{record_of, part_items, part_header, marked}
-use Rattle.zk_asks.specs.Rows.{body_items}
+use Rattle.zk_records.specs.{Codes.op_number, declared.op.Op.Op, declared.op.PartOp.PartOp}
+use Rattle.zk_asks.specs.{Forms.header_items, Frames.frame_items, Parts.record_of, Parts.part_items, Parts.part_header, Parts.marked, Rows.body_items}
 use Rattle.zk_asks.specs.declared.frame.ClientFrameOf.TheVariants as client
-use Rattle.zk_items.specs.Form.{word_at}
-use Rattle.zk_items.specs.Leaf.{in_name, num_at}
-use Rattle.zk_items.specs.Copied.{Copied}
+use Rattle.zk_items.specs.{Form.word_at, Leaf.in_name, Leaf.num_at, Copied.Copied}
 use Rattle.zk_lines.specs.Asks as asks
-use Rattle.zk_lines.specs.Rows.{row_at}
-use Rattle.zk_lines.specs.Words.{word_of}
+use Rattle.zk_lines.specs.{Rows.row_at, Words.word_of}
 use Rattle.zk_lines.specs.declared.word.Word.TheVariants as words
 use Rattle.zk_lines.proofs.Appended.{◌then◌, read_alone, field_copied, retold, headed, named_copied}
-use Rattle.zk_lines.proofs.Asks.{part_table, ask_table}
-use Rattle.zk_lines.proofs.Rows.{table_sound}
+use Rattle.zk_lines.proofs.{Asks.part_table, Asks.ask_table, Rows.table_sound}
 
 -- a part: its name, for which its header is appended, and its record
 pub part_copied : (line name mid rest old first new : List ℕ) (op : PartOp) → name ≡ take (prefix_len in_name line) line → mid ≡ drop (prefix_len in_name line) line → asks.part_named name ≡ Some op

@@ -2,31 +2,23 @@
 use Rattle.std.proofs.Common.{◌≡◌, ℕ, ℤ, List, [], Option, Some, None, Bool, true, false, refl, sym, ap, ◌∙◌, bytes_eq}
 use Rattle.std.specs.Prelude.{codes}
 use Rattle.zk_jute.specs.Item.{Item, bytes_of}
-use Rattle.zk_records.specs.Held.{ConnectRequest, ConnectResponse, WatcherEvent}
-use Rattle.zk_records.specs.declared.op.Op.{Op}
+use Rattle.zk_records.specs.{Held.ConnectRequest, Held.ConnectResponse, Held.WatcherEvent, declared.op.Op.Op}
 use Rattle.zk_asks.specs.Held.{Ask}
 use Rattle.zk_asks.specs.declared.frame.ClientFrameOf.TheVariants as client
 use Rattle.zk_asks.specs.Frames as asked
-use Rattle.zk_answers.specs.Held.{Outcome}
+use Rattle.zk_answers.specs.{Held.Outcome, Frames.IsOutcome, Frames.op_of_reply, Frames.reply_items}
 use Rattle.zk_answers.specs.declared.frame.OutcomeOf.TheVariants as outcome
 use Rattle.zk_answers.specs.declared.frame.ServerFrameOf.TheVariants as server
-use Rattle.zk_answers.specs.Frames.{IsOutcome, op_of_reply, reply_items}
 use Rattle.zk_answers.specs.Frames as answered
 use Rattle.zk_items.specs.Form.{Read, ◌>>=◌, read_map, word_at}
-use Rattle.zk_items.specs.Codes.{is_zero}
-use Rattle.zk_items.specs.Copied.{Copied}
-use Rattle.zk_talk.specs.Held.{Message}
-use Rattle.zk_talk.specs.declared.message.Kind.{Kind}
+use Rattle.zk_items.specs.{Codes.is_zero, Copied.Copied}
+use Rattle.zk_talk.specs.{Held.Message, declared.message.Kind.Kind, Payloads.client_payload, Payloads.server_payload, Said.payload_of, Written.IsTrueFailure, Written.items_of, Written.kind_of}
 use Rattle.zk_talk.specs.declared.message.Kind.TheVariants as kinds
 use Rattle.zk_talk.specs.declared.message.MessageOf.TheVariants as message
-use Rattle.zk_talk.specs.Payloads.{client_payload, server_payload}
-use Rattle.zk_talk.specs.Said.{payload_of}
-use Rattle.zk_talk.specs.Written.{IsTrueFailure, items_of, kind_of}
 use Rattle.zk_lines.specs.Asks as asks
 use Rattle.zk_lines.specs.Answers as answers
-use Rattle.zk_lines.specs.Copied.{CopiedMessage, IsCopied}
+use Rattle.zk_lines.specs.{Copied.CopiedMessage, Copied.IsCopied, Series.if_passed}
 use Rattle.zk_lines.specs.Lines.{letters, client_at, server_at, message_at, Fits, whole, said}
-use Rattle.zk_lines.specs.Series.{if_passed}
 use Rattle.zk_lines.proofs.Lines.{asked_at, answered_at, message_found}
 
 -- ---- a frame that is read, and its kind

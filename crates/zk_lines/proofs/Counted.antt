@@ -3,16 +3,12 @@ use Rattle.std.proofs.Common.{◌≡◌, ℕ, ◌+◌, ◌-◌, ◌<◌, ◌^◌
 use Rattle.std.specs.Prelude.{IfNone, OnSome, pos, negsuc}
 use Rattle.std.specs.List.{flat_map}
 use Rattle.std.proofs.lemmas.List.{append-nil, take_at}
-use Rattle.zk_jute.specs.Item.{Item, bytes_of, HaveBytes, int_bytes}
-use Rattle.zk_jute.specs.Values.{list_items}
+use Rattle.zk_jute.specs.{Item.Item, Item.bytes_of, Item.HaveBytes, Item.int_bytes, Values.list_items}
 use Rattle.zk_jute.specs.declared.value.Nullable.TheVariants as nullable
 use Rattle.zk_jute.proofs.Layouts.{have_both, bytes_both}
 use Rattle.zk_items.specs.Form.{Read, ◌>>=◌, Keeps, read_map, word_at}
-use Rattle.zk_items.specs.Many.{many_at, with_first, with_front}
-use Rattle.zk_items.specs.Copied.{Copied}
-use Rattle.zk_items.proofs.Copies.{room_filled}
-use Rattle.zk_items.proofs.Kept.{keeps_more}
-use Rattle.zk_items.proofs.Many.{no_front, step_some, step_end}
+use Rattle.zk_items.specs.{Many.many_at, Many.with_first, Many.with_front, Copied.Copied}
+use Rattle.zk_items.proofs.{Copies.room_filled, Kept.keeps_more, Many.no_front, Many.step_some, Many.step_end}
 use Rattle.zk_lines.specs.Series.{element_at, series_at, full_at, list_at, if_passed}
 
 -- ---- the loop

@@ -2,10 +2,8 @@
 use Rattle.std.proofs.Common.{◌≡◌, ◌^◌, List, [], ◌∷◌, ◌++◌, true, lt-ltb, FitsSigned, w32, w64}
 use Rattle.std.specs.Prelude.{ℤ, pos, negsuc}
 use Rattle.std.specs.List.{flat_map, AllByRecursion}
-use Rattle.zk_jute.specs.Held.{Text, Blob, Vector}
+use Rattle.zk_jute.specs.{Held.Text, Held.Blob, Held.Vector, Item.Item, Item.HasBytes, Item.HaveBytes, Wired.Wired}
 use Rattle.zk_jute.specs.declared.value.Nullable.TheVariants as nullable
-use Rattle.zk_jute.specs.Item.{Item, HasBytes, HaveBytes}
-use Rattle.zk_jute.specs.Wired.{Wired}
 use Rattle.zk_jute.specs.Wired as wired
 use Rattle.zk_records.specs.Records as records
 use Rattle.zk_items.specs.Form.{Form}

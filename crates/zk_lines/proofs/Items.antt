@@ -1,30 +1,16 @@
 -- The laws of the items of a line, and of the fields that many records have.
 use Rattle.std.proofs.Common.{List, ◌++◌, refl}
-use Rattle.zk_jute.specs.Flagged.{flag_items}
-use Rattle.zk_jute.specs.Item.{Item}
-use Rattle.zk_jute.specs.Wired.{Wired}
+use Rattle.zk_jute.specs.{Flagged.flag_items, Item.Item, Wired.Wired}
 use Rattle.zk_jute.specs.Wired as wired
 use Rattle.zk_records.specs.Records as records
-use Rattle.zk_items.specs.Form.{Form}
-use Rattle.zk_items.specs.Codes.{event_code, type_name}
-use Rattle.zk_items.specs.Leaf.{int, long, bit, ro, text, blob}
-use Rattle.zk_items.specs.Laws.{Lawful}
-use Rattle.zk_items.proofs.Numbers.{int_is, long_is}
-use Rattle.zk_items.proofs.Codes.{code_is}
-use Rattle.zk_items.proofs.Flags.{bit_is, ro_is}
-use Rattle.zk_items.proofs.Texts.{text_is}
-use Rattle.zk_items.proofs.Blobs.{blob_is}
-use Rattle.zk_items.proofs.Forms.{and_is, closed_is, fields_is}
-use Rattle.zk_lines.specs.Words.{field, word_of}
+use Rattle.zk_items.specs.{Form.Form, Codes.event_code, Codes.type_name, Leaf.int, Leaf.long, Leaf.bit, Leaf.ro, Leaf.text, Leaf.blob, Laws.Lawful}
+use Rattle.zk_items.proofs.{Numbers.int_is, Numbers.long_is, Codes.code_is, Flags.bit_is, Flags.ro_is, Texts.text_is, Blobs.blob_is, Forms.and_is, Forms.closed_is, Forms.fields_is}
+use Rattle.zk_lines.specs.{Words.field, Words.word_of, Series.list_of, Records.acl, Records.row, Records.numbers_of, Records.stat}
 use Rattle.zk_lines.specs.declared.word.Word.TheVariants as words
-use Rattle.zk_lines.specs.Series.{list_of}
-use Rattle.zk_lines.specs.Records.{acl, row, numbers_of, stat}
-use Rattle.zk_lines.proofs.Words.{word_stops}
-use Rattle.zk_lines.proofs.LawsPrinted.{joined, word_printed}
+use Rattle.zk_lines.proofs.{Words.word_stops, LawsPrinted.joined, LawsPrinted.word_printed, Rows.IsItem, Rows.IsFields, Rows.field_of}
 use Rattle.zk_lines.proofs.Lists as lists
 use Rattle.zk_lines.proofs.Held.{Held, int_fits, int_held, long_held, bit_held, text_held, blob_held, names_held, acls_held, parted}
 use Rattle.zk_lines.proofs.Shown.{Shown, int_shown, long_shown, bit_shown, ro_shown, text_shown, blob_shown, event_code_shown, texts_shown, acls_shown}
-use Rattle.zk_lines.proofs.Rows.{IsItem, IsFields, field_of}
 
 item : {X : Type 0} {w : Wired X} {f : Form X} → Lawful f → Held w f → Shown f → IsItem f w.items
 item is held shown = record { lawful = is; held = held.held; shown = shown.shown }

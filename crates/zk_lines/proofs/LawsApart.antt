@@ -1,21 +1,14 @@
 -- Two endings have two lines: a line is taken apart from the left, a word, a side or a number at a time.
 use Rattle.std.proofs.Common.{◌≡◌, ℕ, ◌<◌, ◌^◌, List, [], ◌∷◌, ◌++◌, length, take, drop, Some, Bool, true, false, ◌==◌, refl, ap, sym, ◌∙◌, append_assoc, arith}
 use Rattle.std.specs.Prelude.{ℤ, slice_index, codes}
-use Rattle.std.specs.List.{prefix_len, AllByRecursion}
-use Rattle.std.specs.Fmt.{signed_decimal, decimal}
-use Rattle.std.specs.Str.Parse.{signed_digits_value}
-use Rattle.std.proofs.lemmas.List.{append_cancel_left, take_at, drop_at}
-use Rattle.std.proofs.lemmas.Fmt.{decimal_injective, decimal_is_IsNumeral}
-use Rattle.zk_jute.specs.declared.fault.Reason.{Reason}
+use Rattle.std.specs.{List.prefix_len, List.AllByRecursion, Fmt.signed_decimal, Fmt.decimal, Str.Parse.signed_digits_value}
+use Rattle.std.proofs.{lemmas.List.append_cancel_left, lemmas.List.take_at, lemmas.List.drop_at, lemmas.Fmt.decimal_injective, lemmas.Fmt.decimal_is_IsNumeral}
+use Rattle.zk_jute.specs.{declared.fault.Reason.Reason, Names.reason_name}
 use Rattle.zk_jute.specs.declared.fault.Reason.TheVariants as reasons
-use Rattle.zk_jute.specs.Names.{reason_name}
 use Rattle.zk_items.specs.Leaf.{in_number, int}
-use Rattle.zk_items.proofs.Numbers.{all_digits, wide, written_value}
-use Rattle.zk_items.proofs.Runs.{run_is, run_ends}
-use Rattle.zk_talk.specs.declared.message.Side.{Side}
+use Rattle.zk_items.proofs.{Numbers.all_digits, Numbers.wide, Numbers.written_value, Runs.run_is, Runs.run_ends}
+use Rattle.zk_talk.specs.{declared.message.Side.Side, declared.message.Fault.Fault, declared.message.Ending.Ending}
 use Rattle.zk_talk.specs.declared.message.Side.TheVariants as sides
-use Rattle.zk_talk.specs.declared.message.Fault.{Fault}
-use Rattle.zk_talk.specs.declared.message.Ending.{Ending}
 use Rattle.zk_talk.specs.declared.message.Ending.TheVariants as ending
 use Rattle.zk_lines.specs.Named.{first_named}
 use Rattle.zk_lines.specs.Endings.{side_name, sided, count, order_text, place_text, reason_text, ending_text, ReasonFits, EndingFits}

@@ -2,13 +2,10 @@
 use Rattle.std.proofs.Common.{◌≡◌, ℕ, List, ◌∷◌, true, refl}
 use Rattle.std.specs.Prelude.{codes}
 use Rattle.std.specs.Fmt.{signed_decimal, decimal}
-use Rattle.zk_jute.specs.declared.fault.Reason.{Reason}
+use Rattle.zk_jute.specs.{declared.fault.Reason.Reason, Names.reason_name}
 use Rattle.zk_jute.specs.declared.fault.Reason.TheVariants as reasons
-use Rattle.zk_jute.specs.Names.{reason_name}
-use Rattle.zk_talk.specs.declared.message.Side.{Side}
+use Rattle.zk_talk.specs.{declared.message.Side.Side, declared.message.Fault.Fault, declared.message.Ending.Ending}
 use Rattle.zk_talk.specs.declared.message.Side.TheVariants as sides
-use Rattle.zk_talk.specs.declared.message.Fault.{Fault}
-use Rattle.zk_talk.specs.declared.message.Ending.{Ending}
 use Rattle.zk_talk.specs.declared.message.Ending.TheVariants as ending
 use Rattle.zk_lines.specs.Endings.{side_name, sided, count, order_text, place_text, reason_text, ending_text}
 use Rattle.zk_lines.proofs.LawsPrinted.{Printed, are_printed, checked, joined, decimal_printed, number_printed}

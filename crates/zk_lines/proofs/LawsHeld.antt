@@ -11,16 +11,11 @@ use Rattle.zk_answers.specs.declared.frame.OutcomeOf.TheVariants as outcome
 use Rattle.zk_answers.specs.declared.frame.ServerFrameOf.TheVariants as server
 use Rattle.zk_answers.specs.Frames as given
 use Rattle.zk_items.specs.Codes.{is_zero}
-use Rattle.zk_talk.specs.Held.{Message}
+use Rattle.zk_talk.specs.{Held.Message, declared.limits.Limits.Limits, Conversation.ClientMay, Conversation.ServerMay, Said.MaySay, Said.conversation_of}
 use Rattle.zk_talk.specs.declared.message.MessageOf.TheVariants as message
-use Rattle.zk_talk.specs.declared.limits.Limits.{Limits}
-use Rattle.zk_talk.specs.Conversation.{ClientMay, ServerMay}
-use Rattle.zk_talk.specs.Said.{MaySay, conversation_of}
 use Rattle.zk_lines.specs.Answers as answers
 use Rattle.zk_lines.specs.Lines.{ClientFits, ServerFits, Fits}
-use Rattle.zk_lines.proofs.Held.{int_fits, long_fits}
-use Rattle.zk_lines.proofs.Asks.{connect_is, ask_held}
-use Rattle.zk_lines.proofs.Answers.{connected_is, event_is, body_held}
+use Rattle.zk_lines.proofs.{Held.int_fits, Held.long_fits, Asks.connect_is, Asks.ask_held, Answers.connected_is, Answers.event_is, Answers.body_held}
 
 -- ---- what a client sends
 

@@ -1,10 +1,7 @@
 -- Printed bytes: ASCII characters from the blank to `~`. Numbers, texts, blobs, words and names are spelled by such.
 use Rattle.std.proofs.Common.{◌≡◌, ℕ, zero, suc, ◌/◌, ◌%◌, ◌<◌, ◌≤◌, List, [], ◌∷◌, ◌++◌, Some, Bool, true, false, ◌==◌, ◌&&◌, refl, ap, sym, ◌∙◌, cond, arith, leb-true}
 use Rattle.std.specs.Prelude.{ℤ, pos, negsuc, ◌≢◌, nat_le, slice_index}
-use Rattle.std.specs.List.{flat_map, AllByRecursion}
-use Rattle.std.specs.Map.{lookup}
-use Rattle.std.specs.Ordering.{int_eq}
-use Rattle.std.specs.Fmt.{signed_decimal, decimal, digits, digits_onto, digit_glyph}
+use Rattle.std.specs.{List.flat_map, List.AllByRecursion, Map.lookup, Ordering.int_eq, Fmt.signed_decimal, Fmt.decimal, Fmt.digits, Fmt.digits_onto, Fmt.digit_glyph}
 use Rattle.std.proofs.lemmas.Bool.{and_parts, agree_below_at}
 use Rattle.hex.specs.Hex.{encode_lower, encode_with, lower_digits}
 use Rattle.zk_jute.specs.Held.{Text, Blob}
@@ -12,9 +9,8 @@ use Rattle.zk_jute.specs.declared.value.Nullable.TheVariants as nullable
 use Rattle.zk_records.specs.Names.{errors, events}
 use Rattle.zk_items.specs.Leaf.{in_name, is_plain, hex_digit, symbol_spell, text_spell, text_fits, blob_spell, blob_fits}
 use Rattle.zk_items.specs.Codes.{name_spell, error_name, type_name}
-use Rattle.zk_lines.specs.declared.word.Word.{Word}
+use Rattle.zk_lines.specs.{declared.word.Word.Word, Words.word_of}
 use Rattle.zk_lines.specs.declared.word.Word.TheVariants as words
-use Rattle.zk_lines.specs.Words.{word_of}
 
 -- ---- bytes
 

@@ -3,22 +3,19 @@ use Rattle.std.proofs.Common.{◌≡◌, ℕ, ◌≤◌, List, [], ◌∷◌, �
 use Rattle.std.specs.Prelude.{codes}
 use Rattle.zk_records.specs.Codes.{op_name}
 use Rattle.zk_asks.specs.declared.frame.ClientFrameOf.TheVariants as client
-use Rattle.zk_answers.specs.Held.{Outcome}
+use Rattle.zk_answers.specs.{Held.Outcome, Frames.op_of_outcome}
 use Rattle.zk_answers.specs.declared.frame.OutcomeOf.TheVariants as outcome
 use Rattle.zk_answers.specs.declared.frame.ServerFrameOf.TheVariants as server
-use Rattle.zk_answers.specs.Frames.{op_of_outcome}
 use Rattle.zk_items.specs.Leaf.{long}
 use Rattle.zk_talk.specs.Held.{Message}
 use Rattle.zk_talk.specs.declared.message.MessageOf.TheVariants as message
 use Rattle.zk_lines.specs.declared.word.Word.TheVariants as words
-use Rattle.zk_lines.specs.Words.{field}
+use Rattle.zk_lines.specs.{Words.field, Lines.Fits, Lines.line}
 use Rattle.zk_lines.specs.Asks as asks
 use Rattle.zk_lines.specs.Answers as answers
-use Rattle.zk_lines.specs.Lines.{Fits, line}
 use Rattle.zk_lines.proofs.LawsPrinted.{Printed, checked, joined, letters_printed}
 use Rattle.zk_lines.proofs.Shown.{Shown, ◌with◌, led_shown, int_shown, long_shown, failure_shown}
-use Rattle.zk_lines.proofs.Asks.{op_names, connect_is, ask_shown}
-use Rattle.zk_lines.proofs.Answers.{connected_is, event_is, body_printed}
+use Rattle.zk_lines.proofs.{Asks.op_names, Asks.connect_is, Asks.ask_shown, Answers.connected_is, Answers.event_is, Answers.body_printed}
 
 request_shown : Shown asks.request
 request_shown = int_shown with led_shown words.Blank ask_shown

@@ -1,32 +1,24 @@
 -- A message's line is read as the message, and what is read has the line.
 use Rattle.std.proofs.Common.{◌≡◌, ◌≢◌, ℕ, zero, suc, ℤ, List, [], ◌∷◌, ◌++◌, take, Option, Some, None, Result, Ok, Err, Bool, true, false, ◌==◌, ◌&&◌, refl, ap, sym, subst, ◌∙◌, cond, arith, bytes_eq, ne_eqb, ◌≤◌}
 use Rattle.std.specs.Prelude.{codes}
-use Rattle.std.specs.Fmt.{signed_decimal}
-use Rattle.std.specs.List.{prefix_len, AllByRecursion}
+use Rattle.std.specs.{Fmt.signed_decimal, List.prefix_len, List.AllByRecursion}
 use Rattle.std.proofs.lemmas.List.{append-nil}
-use Rattle.zk_asks.specs.Held.{Ask}
-use Rattle.zk_asks.specs.Held.{ClientFrame}
+use Rattle.zk_asks.specs.Held.{Ask, ClientFrame}
 use Rattle.zk_asks.specs.declared.frame.ClientFrameOf.TheVariants as client
 use Rattle.zk_answers.specs.Held.{Reply, ServerFrame}
 use Rattle.zk_answers.specs.declared.frame.ServerFrameOf.TheVariants as server
 use Rattle.zk_talk.specs.Held.{Message}
 use Rattle.zk_talk.specs.declared.message.MessageOf.TheVariants as message
-use Rattle.zk_items.specs.declared.fault.LineFault.{LineFault}
-use Rattle.zk_items.specs.declared.fault.LineReason.{LineReason}
+use Rattle.zk_items.specs.{declared.fault.LineFault.LineFault, declared.fault.LineReason.LineReason, Leaf.in_word, Leaf.in_number, Leaf.in_range}
 use Rattle.zk_items.specs.declared.fault.LineReason.TheVariants as reasons
 use Rattle.zk_records.specs.Held.{ConnectRequest, ConnectResponse, WatcherEvent}
 use Rattle.zk_items.specs.Form.{Read, ◌>>=◌, read_map, led, word_at, Answers}
-use Rattle.zk_items.specs.Leaf.{in_word, in_number, in_range}
-use Rattle.zk_items.proofs.Forms.{led_is, bind_some, word_sound}
-use Rattle.zk_items.proofs.Numbers.{wide, written_value}
-use Rattle.zk_lines.specs.Words.{word_of}
+use Rattle.zk_items.proofs.{Forms.led_is, Forms.bind_some, Forms.word_sound, Numbers.wide, Numbers.written_value}
+use Rattle.zk_lines.specs.{Words.word_of, Series.if_passed}
 use Rattle.zk_lines.specs.Asks as asks
 use Rattle.zk_lines.specs.Answers as answers
-use Rattle.zk_lines.specs.Series.{if_passed}
 use Rattle.zk_lines.specs.Lines.{letters, client_at, server_at, client_line, server_line, ClientFits, ServerFits, line, Fits, whole, said, message_at, Reads}
-use Rattle.zk_lines.proofs.Named.{mapped}
-use Rattle.zk_lines.proofs.Asks.{connect_is, request_is}
-use Rattle.zk_lines.proofs.Answers.{connected_is, event_is, reply_is}
+use Rattle.zk_lines.proofs.{Named.mapped, Asks.connect_is, Asks.request_is, Answers.connected_is, Answers.event_is, Answers.reply_is}
 
 -- ---- what begins with a number begins with no word
 

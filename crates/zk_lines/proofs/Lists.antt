@@ -1,21 +1,14 @@
 -- The lists of a line.
 use Rattle.std.proofs.Common.{◌≡◌, ℕ, List, [], ◌∷◌, ◌++◌, Some, None, Bool, true, false, ◌==◌, refl, ap, ◌∙◌, append_assoc, cond, arith}
-use Rattle.std.specs.Fmt.{signed_decimal}
-use Rattle.std.specs.List.{AllByRecursion}
+use Rattle.std.specs.{Fmt.signed_decimal, List.AllByRecursion}
 use Rattle.zk_jute.specs.Held.{Text}
 use Rattle.zk_jute.specs.declared.value.Nullable.TheVariants as nullable
 use Rattle.zk_records.specs.Held.{Acl}
 use Rattle.zk_items.specs.Form.{word_at, ◌and◌}
-use Rattle.zk_items.specs.Leaf.{text, text_fits, text_spell, in_number}
-use Rattle.zk_items.specs.Laws.{Lawful}
-use Rattle.zk_items.proofs.Numbers.{wide, written_value}
-use Rattle.zk_items.proofs.Texts.{text_is}
-use Rattle.zk_lines.specs.Words.{word_of, field}
-use Rattle.zk_lines.specs.declared.word.Word.TheVariants.{Colon}
-use Rattle.zk_lines.specs.Series.{list_of}
-use Rattle.zk_lines.specs.Records.{acl}
-use Rattle.zk_lines.proofs.Records.{acl_is}
-use Rattle.zk_lines.proofs.Series.{list_is}
+use Rattle.zk_items.specs.{Leaf.text, Leaf.text_fits, Leaf.text_spell, Leaf.in_number, Laws.Lawful}
+use Rattle.zk_items.proofs.{Numbers.wide, Numbers.written_value, Texts.text_is}
+use Rattle.zk_lines.specs.{Words.word_of, Words.field, declared.word.Word.TheVariants.Colon, Series.list_of, Records.acl}
+use Rattle.zk_lines.proofs.{Records.acl_is, Series.list_is}
 
 text_begins : (x : Text) (rest : List ℕ) → text_fits x → word_at (93 ∷ []) (text_spell x ++ rest) ≡ None
 unfolding word_at

@@ -1,15 +1,10 @@
 -- Values that begin with a name are read as they are spelled.
 use Rattle.std.proofs.Common.{◌≡◌, ℕ, List, [], ◌∷◌, ◌++◌, take, drop, Option, Some, None, Bool, true, false, length, ◌==◌, ◌&&◌, refl, ap, sym, ◌∙◌, append_assoc, cond, arith, bytes_eq}
 use Rattle.std.specs.List.{prefix_len, AllByRecursion}
-use Rattle.std.proofs.lemmas.Bool.{and_parts}
-use Rattle.std.proofs.lemmas.List.{take-append-drop}
-use Rattle.std.proofs.lemmas.Slice.Eq.{bytes_eq-Decides}
-use Rattle.std.proofs.Math.Seq.{take-append_seam, drop-append_seam}
+use Rattle.std.proofs.{lemmas.Bool.and_parts, lemmas.List.take-append-drop, lemmas.Slice.Eq.bytes_eq-Decides, Math.Seq.take-append_seam, Math.Seq.drop-append_seam}
 use Rattle.zk_items.specs.Form.{Form, ◌>>=◌, read_map, stops, in_item, word_at}
-use Rattle.zk_items.specs.Leaf.{in_name}
-use Rattle.zk_items.specs.Laws.{LawfulBefore}
-use Rattle.zk_items.proofs.Forms.{bind_some, some_is}
-use Rattle.zk_items.proofs.Runs.{run_is, stops_end_run}
+use Rattle.zk_items.specs.{Leaf.in_name, Laws.LawfulBefore}
+use Rattle.zk_items.proofs.{Forms.bind_some, Forms.some_is, Runs.run_is, Runs.stops_end_run}
 use Rattle.zk_lines.specs.Named.{Bodies, named, first_named}
 
 name_in_item : (b : ℕ) → in_name b ≡ true → in_item b ≡ true

@@ -1,14 +1,10 @@
 -- Access lists are read as they are spelled; numbers are written before others; and what is written in front.
 use Rattle.std.proofs.Common.{◌≡◌, ◌∷◌, ◌++◌, ℕ, List, refl, ap, sym, ◌∙◌, append_assoc}
 use Rattle.zk_items.specs.Form.{◌and◌}
-use Rattle.zk_items.specs.Leaf.{int, text}
-use Rattle.zk_items.specs.Laws.{Lawful}
+use Rattle.zk_items.specs.{Leaf.int, Leaf.text, Laws.Lawful}
 use Rattle.zk_items.proofs.Forms.{IsField, and_is, fields_is, ◌with◌}
-use Rattle.zk_items.proofs.Numbers.{int_is}
-use Rattle.zk_items.proofs.Texts.{text_is}
-use Rattle.zk_lines.specs.Words.{field}
-use Rattle.zk_lines.specs.declared.word.Word.TheVariants.{Colon}
-use Rattle.zk_lines.specs.Records.{acl}
+use Rattle.zk_items.proofs.{Numbers.int_is, Texts.text_is}
+use Rattle.zk_lines.specs.{Words.field, declared.word.Word.TheVariants.Colon, Records.acl}
 use Rattle.zk_lines.proofs.Words.{field_is}
 
 names_is : IsField (field Colon text and field Colon text)

@@ -2,22 +2,14 @@
 use Rattle.std.proofs.Common.{◌≡◌, ℕ, List, [], ◌∷◌, ◌++◌, Option, Some, None, true, refl, ap, sym, subst, ◌∙◌, append_assoc}
 use Rattle.std.specs.List.{flat_map}
 use Rattle.zk_jute.specs.Item.{Item, HaveBytes}
-use Rattle.zk_items.specs.Form.{Form, read_map, stops, fields, word_at}
+use Rattle.zk_items.specs.{Form.Form, Form.read_map, Form.stops, Form.fields, Form.word_at, Laws.Lawful}
 use Rattle.zk_items.specs.Form as form
-use Rattle.zk_items.specs.Laws.{Lawful}
 use Rattle.zk_items.proofs.Forms.{IsField, and_is, and_opens, fields_is, some_is}
-use Rattle.zk_lines.specs.Words.{field, word_of}
-use Rattle.zk_lines.specs.declared.word.Word.{Word}
+use Rattle.zk_lines.specs.{Words.field, Words.word_of, declared.word.Word.Word, Series.multi_of, Series.series, Named.named}
 use Rattle.zk_lines.specs.declared.word.Word.TheVariants as words
-use Rattle.zk_lines.specs.Series.{multi_of, series}
-use Rattle.zk_lines.specs.Named.{named}
 use Rattle.zk_lines.specs.Rows.{Row, holds, nothing, Content, remake, form_of, row_at, Written, written, bodies_of}
-use Rattle.zk_lines.proofs.Words.{field_is}
-use Rattle.zk_lines.proofs.Named.{IsNames, named_is, mapped}
+use Rattle.zk_lines.proofs.{Words.field_is, Named.IsNames, Named.named_is, Named.mapped, Series.NeverBegins, Series.series_is, Held.parted, Held.each_held, Shown.Shown, Shown.led_shown, Shown.series_shown}
 use Rattle.zk_lines.proofs.LawsPrinted.{Printed, joined, word_printed, letters_printed}
-use Rattle.zk_lines.proofs.Series.{NeverBegins, series_is}
-use Rattle.zk_lines.proofs.Held.{parted, each_held}
-use Rattle.zk_lines.proofs.Shown.{Shown, led_shown, series_shown}
 
 -- ---- fields
 

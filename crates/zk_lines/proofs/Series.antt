@@ -6,10 +6,8 @@ use Rattle.zk_jute.specs.Held.{Vector}
 use Rattle.zk_jute.specs.declared.value.Nullable.TheVariants as nullable
 use Rattle.zk_items.specs.Form.{Form, Read, ◌>>=◌, read_map, stops, word_at}
 use Rattle.zk_lines.specs.Series.{series, series_at, series_spell, element_at, if_passed, list_of, list_at, list_spell, list_fits}
-use Rattle.zk_items.specs.Many.{many_at, with_first}
-use Rattle.zk_items.specs.Laws.{Lawful}
-use Rattle.zk_items.proofs.Forms.{bind_some, some_is, word_again, word_sound}
-use Rattle.zk_items.proofs.Many.{many_again, many_sound}
+use Rattle.zk_items.specs.{Many.many_at, Many.with_first, Laws.Lawful}
+use Rattle.zk_items.proofs.{Forms.bind_some, Forms.some_is, Forms.word_again, Forms.word_sound, Many.many_again, Many.many_sound}
 
 -- no value's spelling begins with the sign
 abbrev pub NeverBegins : {X : Type 0} → Form X → ℕ → Type 0

@@ -1,17 +1,13 @@
 -- What fits is spelled by printed bytes: numbers, texts, blobs, lists, access lists and stats.
 use Rattle.std.proofs.Common.{◌≡◌, ℕ, List, [], ◌∷◌, ◌++◌, Option, Some, None, Bool, true, false, refl}
-use Rattle.std.specs.List.{flat_map, AllByRecursion}
-use Rattle.std.specs.Fmt.{signed_decimal}
+use Rattle.std.specs.{List.flat_map, List.AllByRecursion, Fmt.signed_decimal}
 use Rattle.zk_jute.specs.Held.{Vector}
 use Rattle.zk_jute.specs.declared.value.Nullable.TheVariants as nullable
 use Rattle.zk_items.specs.Form.{Form, ◌and◌}
 use Rattle.zk_items.specs.Leaf.{bit_spell, ro_spell, int, long, bit, ro, text, blob}
 use Rattle.zk_items.specs.Codes.{name_spell, error_name, type_name, error_code, failure_code, event_code}
-use Rattle.zk_lines.specs.declared.word.Word.{Word}
+use Rattle.zk_lines.specs.{declared.word.Word.Word, Words.word_of, Words.field, Series.series, Series.series_spell, Series.list_of, Series.list_spell, Series.list_fits, Records.acl}
 use Rattle.zk_lines.specs.declared.word.Word.TheVariants as words
-use Rattle.zk_lines.specs.Words.{word_of, field}
-use Rattle.zk_lines.specs.Series.{series, series_spell, list_of, list_spell, list_fits}
-use Rattle.zk_lines.specs.Records.{acl}
 use Rattle.zk_lines.proofs.LawsPrinted.{Printed, joined, number_printed, text_printed, blob_printed, word_printed, error_printed, type_printed, is_printed}
 
 -- ---- forms

@@ -1,11 +1,9 @@
 -- An item may end before any fixed word.
 use Rattle.std.proofs.Common.{◌≡◌, ℕ, List, ◌++◌, true, refl}
-use Rattle.zk_items.specs.Form.{Form, stops}
-use Rattle.zk_items.specs.Laws.{Lawful}
+use Rattle.zk_items.specs.{Form.Form, Form.stops, Laws.Lawful}
 use Rattle.zk_items.proofs.Forms.{IsField, led_is, led_opens}
-use Rattle.zk_lines.specs.declared.word.Word.{Word}
+use Rattle.zk_lines.specs.{declared.word.Word.Word, Words.word_of, Words.field}
 use Rattle.zk_lines.specs.declared.word.Word.TheVariants as words
-use Rattle.zk_lines.specs.Words.{word_of, field}
 
 pub word_stops : (w : Word) (rest : List ℕ) → stops (word_of w ++ rest) ≡ true
 unfolding word_of

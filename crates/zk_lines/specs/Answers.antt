@@ -1,31 +1,19 @@
 -- The lines of what a server sends.
 use Rattle.std.specs.Prelude.{ℕ, ℤ, List, [], ◌∷◌, ◌++◌, Option, Some, Bool, codes}
 use Rattle.std.specs.Fmt.{signed_decimal}
-use Rattle.zk_records.specs.Held.{ConnectResponse, WatcherEvent, DataBody, AclBody, CreateBody, ChildrenBody}
-use Rattle.zk_records.specs.declared.connect.ConnectResponseOf.{ConnectResponseOf}
-use Rattle.zk_records.specs.declared.event.WatcherEventOf.{WatcherEventOf}
-use Rattle.zk_records.specs.declared.stat.Stat.{Stat}
-use Rattle.zk_records.specs.declared.op.Op.{Op}
+use Rattle.zk_records.specs.{Held.ConnectResponse, Held.WatcherEvent, Held.DataBody, Held.AclBody, Held.CreateBody, Held.ChildrenBody, declared.connect.ConnectResponseOf.ConnectResponseOf, declared.event.WatcherEventOf.WatcherEventOf}
+use Rattle.zk_records.specs.{declared.stat.Stat.Stat, declared.op.Op.Op, Codes.op_name, Codes.part_name}
 use Rattle.zk_records.specs.declared.op.Op.TheVariants as ops
 use Rattle.zk_records.specs.declared.op.PartOp.TheVariants as parts
-use Rattle.zk_records.specs.Codes.{op_name, part_name}
-use Rattle.zk_answers.specs.Held.{PartDone, Body, Outcome, Reply}
+use Rattle.zk_answers.specs.{Held.PartDone, Held.Body, Held.Outcome, Held.Reply, Frames.op_of_outcome, Rows.row_of, Rows.by_op}
 use Rattle.zk_answers.specs.declared.frame.PartDoneOf.TheVariants as done
 use Rattle.zk_answers.specs.declared.frame.OutcomeOf.TheVariants as outcome
-use Rattle.zk_answers.specs.Frames.{op_of_outcome}
 use Rattle.zk_answers.specs.Rows as answered
-use Rattle.zk_answers.specs.Rows.{row_of, by_op}
 use Rattle.zk_items.specs.Form.{Form, Read, ◌>>=◌, read_map, fields, ◌and◌, word_at}
-use Rattle.zk_items.specs.Leaf.{int, long, ro, text, blob}
-use Rattle.zk_items.specs.Codes.{error_code, failure_code, event_code}
-use Rattle.zk_lines.specs.Words.{word_of, field}
-use Rattle.zk_lines.specs.declared.word.Word.{Word}
+use Rattle.zk_items.specs.{Leaf.int, Leaf.long, Leaf.ro, Leaf.text, Leaf.blob, Codes.error_code, Codes.failure_code, Codes.event_code}
+use Rattle.zk_lines.specs.{Words.word_of, Words.field, declared.word.Word.Word, declared.done.DoneName.DoneName, Series.list_of, Series.multi_of, Series.if_passed, Records.acl, Records.stat, Named.Bodies, Named.first_named, Named.named}
 use Rattle.zk_lines.specs.declared.word.Word.TheVariants as words
-use Rattle.zk_lines.specs.declared.done.DoneName.{DoneName}
 use Rattle.zk_lines.specs.declared.done.DoneName.TheVariants as names
-use Rattle.zk_lines.specs.Series.{list_of, multi_of, if_passed}
-use Rattle.zk_lines.specs.Records.{acl, stat}
-use Rattle.zk_lines.specs.Named.{Bodies, first_named, named}
 use Rattle.zk_lines.specs.Rows.{Row, holds, nothing, bare, Content, remake, row_at, Written, written, bodies_of}
 use Rattle.zk_lines.specs.Asks.{op_named}
 

@@ -1,34 +1,19 @@
 -- The lines of what a client sends.
 use Rattle.std.specs.Prelude.{ℕ, ℤ, List, Option, Bool}
 use Rattle.zk_records.specs.Held.{ConnectRequest, CreateAsk, DeleteAsk, SetDataAsk, SetAclAsk, CheckAsk, WatchAsk, PathAsk, AuthAsk, SetWatchesAsk}
-use Rattle.zk_records.specs.declared.connect.ConnectRequestOf.{ConnectRequestOf}
-use Rattle.zk_records.specs.declared.ask.CreateAskOf.{CreateAskOf}
-use Rattle.zk_records.specs.declared.ask.DeleteAskOf.{DeleteAskOf}
-use Rattle.zk_records.specs.declared.ask.SetDataAskOf.{SetDataAskOf}
-use Rattle.zk_records.specs.declared.ask.SetAclAskOf.{SetAclAskOf}
-use Rattle.zk_records.specs.declared.ask.CheckAskOf.{CheckAskOf}
-use Rattle.zk_records.specs.declared.query.WatchAskOf.{WatchAskOf}
-use Rattle.zk_records.specs.declared.query.PathAskOf.{PathAskOf}
-use Rattle.zk_records.specs.declared.session.AuthAskOf.{AuthAskOf}
-use Rattle.zk_records.specs.declared.session.SetWatchesAskOf.{SetWatchesAskOf}
-use Rattle.zk_records.specs.declared.op.Op.{Op}
+use Rattle.zk_records.specs.{declared.connect.ConnectRequestOf.ConnectRequestOf, declared.ask.CreateAskOf.CreateAskOf, declared.ask.DeleteAskOf.DeleteAskOf, declared.ask.SetDataAskOf.SetDataAskOf, declared.ask.SetAclAskOf.SetAclAskOf}
+use Rattle.zk_records.specs.{declared.ask.CheckAskOf.CheckAskOf, declared.query.WatchAskOf.WatchAskOf, declared.query.PathAskOf.PathAskOf, declared.session.AuthAskOf.AuthAskOf, declared.session.SetWatchesAskOf.SetWatchesAskOf}
+use Rattle.zk_records.specs.{declared.op.Op.Op, declared.op.PartOp.PartOp, Codes.op_name, Codes.all_ops, Codes.part_name, Codes.all_parts}
 use Rattle.zk_records.specs.declared.op.Op.TheVariants as ops
-use Rattle.zk_records.specs.declared.op.PartOp.{PartOp}
 use Rattle.zk_records.specs.declared.op.PartOp.TheVariants as parts
-use Rattle.zk_records.specs.Codes.{op_name, all_ops, part_name, all_parts}
-use Rattle.zk_asks.specs.Held.{Part, Ask}
+use Rattle.zk_asks.specs.{Held.Part, Held.Ask, Parts.op_of_part, Rows.row_of, Rows.by_op, Rows.op_of_ask}
 use Rattle.zk_asks.specs.declared.frame.PartOf.TheVariants as part
-use Rattle.zk_asks.specs.Parts.{op_of_part}
 use Rattle.zk_asks.specs.Rows as asked
-use Rattle.zk_asks.specs.Rows.{row_of, by_op, op_of_ask}
 use Rattle.zk_items.specs.Form.{Form, fields, ◌and◌}
 use Rattle.zk_items.specs.Leaf.{int, long, bit, ro, text, blob}
-use Rattle.zk_lines.specs.Words.{field}
+use Rattle.zk_lines.specs.{Words.field, Series.list_of, Series.multi_of, Records.acl, Named.first_named, Named.named}
 use Rattle.zk_lines.specs.declared.word.Word.TheVariants as words
-use Rattle.zk_lines.specs.Series.{list_of, multi_of}
-use Rattle.zk_lines.specs.Records.{acl}
 use Rattle.zk_records.specs.Made as made
-use Rattle.zk_lines.specs.Named.{first_named, named}
 use Rattle.zk_lines.specs.Rows.{Row, holds, nothing, Content, remake, Written, written, bodies_of}
 
 -- ---- records, owned or borrowed

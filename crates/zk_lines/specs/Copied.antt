@@ -2,16 +2,10 @@
 use Rattle.std.specs.Prelude.{◌≡◌, ℕ, List, ◌+◌, ◌++◌, length, Option, Some}
 use Rattle.std.specs.List.{flat_map}
 use Rattle.zk_jute.specs.Item.{Item, bytes_of, HaveBytes}
-use Rattle.zk_records.specs.Records.{stat}
-use Rattle.zk_records.specs.declared.stat.Stat.{Stat}
-use Rattle.zk_items.specs.Copied.{Copied}
-use Rattle.zk_items.specs.Form.{Read}
-use Rattle.zk_items.specs.Many.{many_at}
-use Rattle.zk_talk.specs.Held.{Message}
-use Rattle.zk_talk.specs.declared.message.Kind.{Kind}
-use Rattle.zk_talk.specs.Written.{IsWritten, items_of, kind_of}
-use Rattle.zk_lines.specs.Lines.{Fits, line}
-use Rattle.zk_lines.specs.Series.{element_at, series_at}
+use Rattle.zk_records.specs.{Records.stat, declared.stat.Stat.Stat}
+use Rattle.zk_items.specs.{Copied.Copied, Form.Read, Many.many_at}
+use Rattle.zk_talk.specs.{Held.Message, declared.message.Kind.Kind, Written.IsWritten, Written.items_of, Written.kind_of}
+use Rattle.zk_lines.specs.{Lines.Fits, Lines.line, Series.element_at, Series.series_at}
 
 -- these items have bytes, which are appended
 abbrev pub Appended : List Item → List ℕ → List ℕ → Type 0

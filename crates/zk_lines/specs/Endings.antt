@@ -1,14 +1,11 @@
 -- The line of an ending.
 use Rattle.std.specs.Prelude.{◌≡◌, ℕ, ℤ, ◌<◌, ◌^◌, List, [], ◌++◌, codes}
 use Rattle.std.specs.Fmt.{signed_decimal, decimal}
-use Rattle.zk_jute.specs.declared.fault.Reason.{Reason}
+use Rattle.zk_jute.specs.{declared.fault.Reason.Reason, Names.reason_name}
 use Rattle.zk_jute.specs.declared.fault.Reason.TheVariants as reasons
-use Rattle.zk_jute.specs.Names.{reason_name}
 use Rattle.zk_items.specs.Leaf.{int}
-use Rattle.zk_talk.specs.declared.message.Side.{Side}
+use Rattle.zk_talk.specs.{declared.message.Side.Side, declared.message.Fault.Fault, declared.message.Ending.Ending}
 use Rattle.zk_talk.specs.declared.message.Side.TheVariants as sides
-use Rattle.zk_talk.specs.declared.message.Fault.{Fault}
-use Rattle.zk_talk.specs.declared.message.Ending.{Ending}
 use Rattle.zk_talk.specs.declared.message.Ending.TheVariants as ending
 
 abbrev pub side_name : Side → List ℕ

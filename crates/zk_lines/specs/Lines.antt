@@ -6,14 +6,10 @@ use Rattle.zk_asks.specs.declared.frame.ClientFrameOf.TheVariants as client
 use Rattle.zk_answers.specs.Held.{ServerFrame}
 use Rattle.zk_answers.specs.declared.frame.ServerFrameOf.TheVariants as server
 use Rattle.zk_items.specs.Form.{Read, ◌>>=◌, read_map, led, word_at}
-use Rattle.zk_items.specs.Leaf.{in_word}
-use Rattle.zk_items.specs.declared.fault.LineFault.{LineFault}
-use Rattle.zk_items.specs.declared.fault.LineReason.TheVariants.{NoMemory}
+use Rattle.zk_items.specs.{Leaf.in_word, declared.fault.LineFault.LineFault, declared.fault.LineReason.TheVariants.NoMemory}
 use Rattle.zk_talk.specs.Held.{Message}
 use Rattle.zk_talk.specs.declared.message.MessageOf.TheVariants as message
-use Rattle.zk_lines.specs.Asks.{connect, request}
-use Rattle.zk_lines.specs.Answers.{connected, event, reply}
-use Rattle.zk_lines.specs.Series.{if_passed}
+use Rattle.zk_lines.specs.{Asks.connect, Asks.request, Answers.connected, Answers.event, Answers.reply, Series.if_passed}
 
 -- ---- lines
 

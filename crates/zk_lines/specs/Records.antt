@@ -1,11 +1,8 @@
 -- Two records that are items: an entry of an access list, and a Stat.
 use Rattle.std.specs.Prelude.{ℕ, ℤ, List, ◌++◌}
 use Rattle.std.specs.Fmt.{signed_decimal}
-use Rattle.zk_records.specs.Held.{Acl}
+use Rattle.zk_records.specs.{Held.Acl, declared.acl.IdOf.IdOf, declared.acl.AclOf.AclOf, declared.stat.Stat.Stat}
 use Rattle.zk_records.specs.Made as made
-use Rattle.zk_records.specs.declared.acl.IdOf.{IdOf}
-use Rattle.zk_records.specs.declared.acl.AclOf.{AclOf}
-use Rattle.zk_records.specs.declared.stat.Stat.{Stat}
 use Rattle.zk_items.specs.Form.{Form, closed, fields, ◌and◌}
 use Rattle.zk_items.specs.Leaf.{int, long, text}
 use Rattle.zk_lines.specs.Words.{word_of, field}

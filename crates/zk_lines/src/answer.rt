@@ -1,8 +1,6 @@
 //! The lines of a server's messages: written and read.
 ghost use Rattle.std.specs.Prelude.{◌≡◌, ◌++◌, OnOk};
-ghost use Rattle.zk_items.specs.Form.{Gives, Keeps};
-ghost use Rattle.zk_items.specs.Codes.{failure_code};
-ghost use Rattle.zk_items.specs.Leaf.{int, long};
+ghost use Rattle.zk_items.specs.{Form.Gives, Form.Keeps, Codes.failure_code, Leaf.int, Leaf.long};
 ghost use Rattle.zk_lines.specs.Words.{word_of};
 ghost use Rattle.zk_lines.specs.declared.word.Word.TheVariants as words;
 ghost use Rattle.zk_lines.specs.Answers as answers;

@@ -1,10 +1,8 @@
 //! The lines of a client's messages: written and read.
 ghost use Rattle.std.specs.Prelude.{◌≡◌, ◌++◌, OnOk, codes};
 ghost use Rattle.std.specs.Fmt.{signed_decimal};
-ghost use Rattle.zk_items.specs.Form.{Gives, Keeps};
-ghost use Rattle.zk_items.specs.Leaf.{int};
-ghost use Rattle.zk_lines.specs.Words.{word_of};
-ghost use Rattle.zk_lines.specs.declared.word.Word.TheVariants.{Blank};
+ghost use Rattle.zk_items.specs.{Form.Gives, Form.Keeps, Leaf.int};
+ghost use Rattle.zk_lines.specs.{Words.word_of, declared.word.Word.TheVariants.Blank};
 ghost use Rattle.zk_lines.specs.Asks as asks;
 ghost use Rattle.zk_lines.specs.Lines as lines;
 ghost use Rattle.zk_lines.specs.Rows.{only_written, row_at};

@@ -1,8 +1,7 @@
 //! The bodies of replies in a line: written and read, by operation.
 ghost use Rattle.std.specs.Prelude.{◌≡◌, ◌++◌, OnOk, OnSome};
 ghost use Rattle.zk_answers.specs.Rows.{body_items};
-ghost use Rattle.zk_items.specs.Copied.{Copied};
-ghost use Rattle.zk_items.specs.Form.{Gives, Keeps};
+ghost use Rattle.zk_items.specs.{Copied.Copied, Form.Gives, Form.Keeps};
 ghost use Rattle.zk_lines.specs.Copied.{with_stat};
 ghost use Rattle.zk_lines.specs.Answers as answers;
 ghost use Rattle.zk_lines.specs.Rows.{only_written, row_at};

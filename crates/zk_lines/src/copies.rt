@@ -3,11 +3,8 @@ ghost use Rattle.std.specs.Prelude.{◌++◌, OnSome};
 ghost use Rattle.std.specs.List.{flat_map};
 ghost use Rattle.zk_jute.specs.Item.{HaveBytes};
 ghost use Rattle.zk_asks.specs.Parts.{end_header, marked};
-ghost use Rattle.zk_items.specs.Copied.{Copied};
-ghost use Rattle.zk_items.specs.Form.{Keeps};
-ghost use Rattle.zk_lines.specs.Copied.{Appended};
-ghost use Rattle.zk_lines.specs.Series.{multi_at};
-ghost use Rattle.zk_lines.specs.Words.{field_at};
+ghost use Rattle.zk_items.specs.{Copied.Copied, Form.Keeps};
+ghost use Rattle.zk_lines.specs.{Copied.Appended, Series.multi_at, Words.field_at};
 
 use crate::item::Item;
 use crate::list::{PARTS, copy_series};

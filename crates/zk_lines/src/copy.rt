@@ -1,8 +1,7 @@
 //! `copy_line`: a line, read into the bytes of its message's payload.
 ghost use Rattle.std.specs.Prelude.{◌≡◌, [], IfNone, IfSome};
 ghost use Rattle.zk_items.specs.Form.{Keeps};
-ghost use Rattle.zk_lines.specs.Copied.{CopiedMessage, IsCopied};
-ghost use Rattle.zk_lines.specs.Lines.{message_at};
+ghost use Rattle.zk_lines.specs.{Copied.CopiedMessage, Copied.IsCopied, Lines.message_at};
 
 use crate::copy_answer::copy_server;
 use crate::copy_ask::copy_client;

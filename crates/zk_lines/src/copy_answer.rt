@@ -3,10 +3,8 @@ ghost use Rattle.std.specs.Prelude.{◌≡◌, ◌∷◌, IfSome, OnSome};
 ghost use Rattle.zk_jute.specs.Item.{AnInt};
 ghost use Rattle.zk_answers.specs.declared.frame.ServerFrameOf.TheVariants as server;
 ghost use Rattle.zk_answers.specs.Frames.{err_of, rest_items, op_of_reply, reply_items, frame_items};
-ghost use Rattle.zk_items.specs.Copied.{Copied};
-ghost use Rattle.zk_items.specs.Form.{Keeps};
-ghost use Rattle.zk_talk.specs.Written.{kind_of};
-ghost use Rattle.zk_talk.specs.declared.message.MessageOf.TheVariants.{Server};
+ghost use Rattle.zk_items.specs.{Copied.Copied, Form.Keeps};
+ghost use Rattle.zk_talk.specs.{Written.kind_of, declared.message.MessageOf.TheVariants.Server};
 ghost use Rattle.zk_lines.specs.Answers as answers;
 ghost use Rattle.zk_lines.specs.Lines.{server_at};
 

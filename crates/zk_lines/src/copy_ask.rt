@@ -1,16 +1,11 @@
 //! A client's line, read into the bytes of its message's payload.
 ghost use Rattle.std.specs.Prelude.{◌≡◌, IfSome, OnSome};
 ghost use Rattle.zk_asks.specs.declared.frame.ClientFrameOf.TheVariants as client;
-ghost use Rattle.zk_asks.specs.Frames.{frame_items};
-ghost use Rattle.zk_asks.specs.Parts.{record_of};
-ghost use Rattle.zk_asks.specs.Rows.{body_items};
-ghost use Rattle.zk_items.specs.Copied.{Copied};
-ghost use Rattle.zk_items.specs.Form.{Keeps};
-ghost use Rattle.zk_talk.specs.Written.{kind_of};
-ghost use Rattle.zk_talk.specs.declared.message.MessageOf.TheVariants.{Client};
+ghost use Rattle.zk_asks.specs.{Frames.frame_items, Parts.record_of, Rows.body_items};
+ghost use Rattle.zk_items.specs.{Copied.Copied, Form.Keeps};
+ghost use Rattle.zk_talk.specs.{Written.kind_of, declared.message.MessageOf.TheVariants.Client};
 ghost use Rattle.zk_lines.specs.Asks as asks;
-ghost use Rattle.zk_lines.specs.Lines.{client_at};
-ghost use Rattle.zk_lines.specs.Rows.{row_at};
+ghost use Rattle.zk_lines.specs.{Lines.client_at, Rows.row_at};
 
 use crate::copies::{Copies, append, append_header, copy_field, copy_fields, copy_multi};
 use crate::name::{op_named, part_named};

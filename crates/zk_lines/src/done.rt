@@ -1,12 +1,8 @@
 //! The results of a multi in a line: written and read.
 ghost use Rattle.std.specs.Prelude.{◌≡◌, ◌++◌, OnOk, OnSome};
 ghost use Rattle.zk_answers.specs.Results as results;
-ghost use Rattle.zk_items.specs.Copied.{Copied};
-ghost use Rattle.zk_items.specs.Form.{Gives, Keeps};
-ghost use Rattle.zk_items.specs.Codes.{error_code};
-ghost use Rattle.zk_lines.specs.Words.{word_of};
-ghost use Rattle.zk_lines.specs.declared.word.Word.TheVariants.{Err};
-ghost use Rattle.zk_lines.specs.declared.done.DoneName.TheVariants.{Fail};
+ghost use Rattle.zk_items.specs.{Copied.Copied, Form.Gives, Form.Keeps, Codes.error_code};
+ghost use Rattle.zk_lines.specs.{Words.word_of, declared.word.Word.TheVariants.Err, declared.done.DoneName.TheVariants.Fail};
 ghost use Rattle.zk_lines.specs.Answers as answers;
 ghost use Rattle.zk_lines.specs.Rows.{row_at};
 

@@ -1,12 +1,8 @@
 //! The laws of lines and of ending lines, as contracts of functions that do nothing.
 ghost use Rattle.std.specs.Prelude.{◌≡◌, ◌≢◌, ◌≤◌, ℕ, List, ◌∷◌};
 ghost use Rattle.std.specs.List.{AllByRecursion};
-ghost use Rattle.zk_lines.specs.Endings.{EndingFits, ending_text};
-ghost use Rattle.zk_lines.specs.Lines.{Fits, line};
-ghost use Rattle.zk_talk.specs.declared.limits.Limits.{Limits};
-ghost use Rattle.zk_talk.specs.declared.message.Ending.{Ending};
-ghost use Rattle.zk_talk.specs.Held.{Message};
-ghost use Rattle.zk_talk.specs.Said.{MaySay};
+ghost use Rattle.zk_lines.specs.{Endings.EndingFits, Endings.ending_text, Lines.Fits, Lines.line};
+ghost use Rattle.zk_talk.specs.{declared.limits.Limits.Limits, declared.message.Ending.Ending, Held.Message, Said.MaySay};
 
 /// The laws of lines.
 pub fn line_laws()

@@ -2,8 +2,7 @@
 ghost use Rattle.std.specs.Prelude.{◌≡◌, ◌++◌, IfOk, OnErr, OnOk, Some};
 ghost use Rattle.zk_items.specs.Form.{Answers};
 ghost use Rattle.zk_lines.specs.Lines as lines;
-ghost use Rattle.zk_lines.specs.Lines.{Fits, Reads, whole, message_at};
-ghost use Rattle.zk_lines.specs.Rows.{only_written};
+ghost use Rattle.zk_lines.specs.{Lines.Fits, Lines.Reads, Lines.whole, Lines.message_at, Rows.only_written};
 ghost use Rattle.zk_talk.specs.Held.{Message};
 
 use crate::answer::read_server;

@@ -2,11 +2,9 @@
 ghost use Rattle.std.specs.Prelude.{◌≡◌, ◌+◌, ◌++◌, ◌∷◌, [], List, length, IfSome, OnOk, OnSome};
 ghost use Rattle.std.specs.List.{flat_map, AllByRecursion};
 ghost use Rattle.zk_jute.specs.Values.{list_items};
-ghost use Rattle.zk_items.specs.Copied.{Copied};
-ghost use Rattle.zk_items.specs.Form.{Gives, GivesSeen, Keeps};
+ghost use Rattle.zk_items.specs.{Copied.Copied, Form.Gives, Form.GivesSeen, Form.Keeps, Many.many_at, Many.with_first};
 ghost use Rattle.zk_lines.specs.Copied.{CopiedOthers, CopiedSeries};
 ghost use Rattle.zk_lines.specs.Series.{element_at, series_at, full_at, list_of, multi_of, series_spell};
-ghost use Rattle.zk_items.specs.Many.{many_at, with_first};
 
 use crate::copies::{Copies, append};
 use crate::item::Item;

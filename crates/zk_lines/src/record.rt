@@ -1,7 +1,6 @@
 //! Two records that are items of a line: an entry of an access list, and a `Stat`.
 ghost use Rattle.std.specs.Prelude.{◌≡◌, ◌++◌, ◌∷◌, ◌+◌, ◌<◌, ◌≤◌, ℕ, OnOk, length, drop};
-ghost use Rattle.zk_items.specs.Form.{Form, Gives, Keeps};
-ghost use Rattle.zk_items.specs.Leaf.{int};
+ghost use Rattle.zk_items.specs.{Form.Form, Form.Gives, Form.Keeps, Leaf.int};
 ghost use Rattle.zk_lines.specs.Records as records;
 
 use crate::copies::{Copies, copy_field};

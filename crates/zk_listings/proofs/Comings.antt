@@ -1,24 +1,15 @@
 -- Whatever bytes are as a recording, it comes to something.
 use Rattle.std.proofs.Common.{ℕ, ◌<◌, inl, inr, List, [], ◌∷◌, ◌++◌, length, Option, Some, None, refl, sym, subst}
 use Rattle.std.specs.List.{AllByRecursion, flat_map}
-use Rattle.zk_talk.specs.declared.limits.Limits.{Limits}
-use Rattle.zk_talk.specs.declared.message.Side.{Side}
+use Rattle.zk_talk.specs.{declared.limits.Limits.Limits, declared.message.Side.Side, Held.Message, History.History, History.on, Conversation.Conversation, Good.Good, Good.IsOrder, Ending.unanswered}
 use Rattle.zk_talk.specs.declared.message.Side.TheVariants.{Client, Server}
 use Rattle.zk_talk.specs.declared.message.Ending.TheVariants.{Whole, Cut, Refused}
-use Rattle.zk_talk.specs.Held.{Message}
-use Rattle.zk_talk.specs.History.{History, on}
-use Rattle.zk_talk.specs.Conversation.{Conversation}
-use Rattle.zk_talk.specs.Good.{Good, IsOrder}
-use Rattle.zk_talk.specs.Ending.{unanswered}
-use Rattle.zk_talk.proofs.Deciding.{AreBytes, IsStopped, history_decided}
-use Rattle.zk_talk.proofs.Headline.{fault_is_bad}
+use Rattle.zk_talk.proofs.{Deciding.AreBytes, Deciding.IsStopped, Deciding.history_decided, Headline.fault_is_bad}
 use Rattle.zk_frames.proofs.Cuts.{AllByRecursion-left, AllByRecursion-right}
-use Rattle.zk_recordings.specs.declared.parts.DamageAt.{DamageAt}
-use Rattle.zk_recordings.specs.declared.parts.Format.{Format}
+use Rattle.zk_recordings.specs.{declared.parts.DamageAt.DamageAt, declared.parts.Format.Format}
 use Rattle.zk_recordings.specs.Recording.{Recording, Breaks, Ends, Place, InPieces, Piece, format_of, head_bytes, spelled, piece_values, piece_bytes, piece_history, front, place_of, begun_of, begun_history, history_at, bytes_of, history_of, limits_of, damage_of, Spells}
-use Rattle.zk_listings.specs.declared.summary.Summary.{Summary}
+use Rattle.zk_listings.specs.{declared.summary.Summary.Summary, Outcome.IsOutcome, Outcome.HasMessages, Outcome.ComesTo}
 use Rattle.zk_listings.specs.declared.summary.Summary.TheVariants.{Ended, Broken}
-use Rattle.zk_listings.specs.Outcome.{IsOutcome, HasMessages, ComesTo}
 
 -- ---- the bytes of its history are its own
 

@@ -1,18 +1,12 @@
 -- A fault stands behind a whole head; and nothing is decided by a front of a recording that is good and undamaged.
 use Rattle.std.proofs.Common.{◌≡◌, ℕ, inl, inr, List, [], ◌++◌, None, sym, ap, ◌∙◌, subst}
 use Rattle.std.proofs.lemmas.Option.{none-some}
-use Rattle.zk_talk.specs.declared.limits.Limits.{Limits}
-use Rattle.zk_talk.specs.Good.{IsGood}
-use Rattle.zk_talk.specs.declared.message.Fault.{Fault}
-use Rattle.zk_talk.specs.Fault.{IsFaultOf}
-use Rattle.zk_talk.proofs.Start.{start}
-use Rattle.zk_talk.proofs.Headline.{fault_is_bad, fault_more}
+use Rattle.zk_talk.specs.{declared.limits.Limits.Limits, Good.IsGood, declared.message.Fault.Fault, Fault.IsFaultOf}
+use Rattle.zk_talk.proofs.{Start.start, Headline.fault_is_bad, Headline.fault_more}
 use Rattle.zk_recordings.specs.Recording.{AtLetters, InHead, Recording, Breaks, Spells, place_of, history_of, limits_of, damage_of}
 use Rattle.zk_recordings.specs.Reading.{IsHeaded}
 use Rattle.zk_listings.specs.Outcome.{IsDecided}
-use Rattle.zk_recordings.proofs.Any.{longer}
-use Rattle.zk_recordings.proofs.Stages.{damaged-more}
-use Rattle.zk_recordings.proofs.Once.{spells-once}
+use Rattle.zk_recordings.proofs.{Any.longer, Stages.damaged-more, Once.spells-once}
 
 nothing-good : (limits : Limits) → IsGood limits []
 nothing-good limits = let s = start limits in (s.conversation, [], [], s.good)

@@ -1,8 +1,7 @@
 -- What holds at the exits of a run.
 use Rattle.std.proofs.Common.{◌≡◌, ℕ, ◌+◌, ◌≤◌, Bool, Result, Ok, Err, IfErr, OnErr, sym, subst}
 use Rattle.std.specs.Result.{IsErrAnd}
-use Rattle.zk_listings.specs.declared.listing.RunFault.TheVariants.{Read}
-use Rattle.zk_listings.specs.Running.{IsSpent, LeavesDevices}
+use Rattle.zk_listings.specs.{declared.listing.RunFault.TheVariants.Read, Running.IsSpent, Running.LeavesDevices}
 
 pub on-err : {T E P : Type 0} (r : Result T E) → P → OnErr r P
 on-err (Ok x) p = tt

@@ -1,26 +1,12 @@
 -- Bytes of one side that are given in several calls.
 use Rattle.std.proofs.Common.{◌≡◌, ℕ, ◌+◌, ◌≤◌, Bool, true, false, List, [], ◌∷◌, ◌++◌, length, take, drop, Option, None, Some, refl, sym, ◌∙◌, ap, subst, append_assoc}
-use Rattle.std.specs.Io.KnownBytes.{Appends}
-use Rattle.std.proofs.lemmas.List.{take-append-drop, take_all, append-nil}
-use Rattle.std.proofs.lemmas.List.Concat.{flat_map-append}
-use Rattle.std.proofs.Math.Seq.{take-add, take-length}
-use Rattle.zk_talk.specs.declared.message.Side.{Side}
-use Rattle.zk_talk.specs.declared.message.Fault.{Fault}
-use Rattle.zk_talk.specs.Held.{Message}
-use Rattle.zk_talk.specs.declared.limits.Limits.{Limits}
-use Rattle.zk_talk.specs.History.{History, on}
-use Rattle.zk_talk.specs.Stands.{TalkState, Stands, Refuses, kept_on}
-use Rattle.zk_talk.specs.Viewed.{Shows}
-use Rattle.std.specs.Option.{option_to_list}
-use Rattle.zk_talk.specs.Good.{Good, IsOrder}
-use Rattle.zk_talk.specs.Taking.{GoesOn, Steps, Passes, IsRefused}
-use Rattle.zk_listings.specs.declared.listing.Listing.{Listing}
+use Rattle.std.specs.{Io.KnownBytes.Appends, Option.option_to_list}
+use Rattle.std.proofs.{lemmas.List.take-append-drop, lemmas.List.take_all, lemmas.List.append-nil, lemmas.List.Concat.flat_map-append, Math.Seq.take-add, Math.Seq.take-length}
+use Rattle.zk_talk.specs.{declared.message.Side.Side, declared.message.Fault.Fault, Held.Message, declared.limits.Limits.Limits, History.History, History.on, Stands.TalkState, Stands.Stands, Stands.Refuses, Stands.kept_on, Viewed.Shows}
+use Rattle.zk_talk.specs.{Good.Good, Good.IsOrder, Taking.GoesOn, Taking.Steps, Taking.Passes, Taking.IsRefused}
+use Rattle.zk_listings.specs.{declared.listing.Listing.Listing, Lines.message_line, Lines.text_of, Outcome.IsGoodWith, Outcome.HasGrownIn, Following.Judges, Following.Takes}
 use Rattle.zk_listings.specs.declared.listing.Listing.TheVariants.{All, Last}
-use Rattle.zk_listings.specs.Lines.{message_line, text_of}
-use Rattle.zk_listings.specs.Outcome.{IsGoodWith, HasGrownIn}
-use Rattle.zk_listings.specs.Following.{Judges, Takes}
-use Rattle.zk_listings.proofs.Bytes.{Appends-then}
-use Rattle.zk_listings.proofs.Found.{grown-further}
+use Rattle.zk_listings.proofs.{Bytes.Appends-then, Found.grown-further}
 use Rattle.zk_recordings.proofs.Lists.{on-append}
 
 pub text_of-append : (listing : Listing) (a b : List Message) → text_of listing (a ++ b) ≡ text_of listing a ++ text_of listing b

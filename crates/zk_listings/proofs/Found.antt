@@ -1,19 +1,12 @@
 -- What a run of reads comes to.
 use Rattle.std.proofs.Common.{ℕ, ◌⊎◌, List, ◌++◌, ◌+◌, length, Option, inl, inr, sym, subst}
 use Rattle.std.specs.Io.KnownBytes.{Consumes, IsAtEnd, Appends}
-use Rattle.zk_talk.specs.declared.limits.Limits.{Limits}
-use Rattle.zk_talk.specs.Held.{Message}
-use Rattle.zk_talk.specs.Stands.{TalkState}
-use Rattle.zk_listings.specs.declared.listing.Listing.{Listing}
-use Rattle.zk_listings.specs.declared.summary.Summary.{Summary}
-use Rattle.zk_listings.specs.Lines.{text_of}
+use Rattle.zk_talk.specs.{declared.limits.Limits.Limits, Held.Message, Stands.TalkState}
+use Rattle.zk_listings.specs.{declared.listing.Listing.Listing, declared.summary.Summary.Summary, Lines.text_of, Running.HasFoundBy, Following.Finishes, Following.Decides}
 use Rattle.zk_recordings.specs.Recording.{Recording, Spells, history_of, limits_of}
 use Rattle.zk_listings.specs.Outcome.{IsBroken, IsDecided, IsGoodWith, Reads, IsRunning, HasGrownIn}
-use Rattle.zk_listings.specs.Running.{HasFoundBy}
-use Rattle.zk_listings.specs.Following.{Finishes, Decides}
 use Rattle.std.proofs.Math.Seq.{take-append-add, take-append_seam}
-use Rattle.zk_listings.proofs.Bytes.{Appends-then}
-use Rattle.zk_listings.proofs.Outcomes.{outcome-once, outcome-good}
+use Rattle.zk_listings.proofs.{Bytes.Appends-then, Outcomes.outcome-once, Outcomes.outcome-good}
 use Rattle.zk_recordings.proofs.Once.{spells-once}
 
 pub reads : (before after : Option (List ℕ)) (x : List ℕ) (r : Recording) → Consumes before after x → Spells x r → Reads before after x r

@@ -2,28 +2,15 @@
 use Rattle.std.proofs.Common.{◌≡◌, ℕ, ◌+◌, ◌≤◌, ◌<◌, ◌^◌, inl, inr, List, [], ◌∷◌, ◌++◌, length, Option, None, Some, sym, ap, ◌∙◌, subst, append_assoc, append-nil, arith, length-append}
 use Rattle.std.specs.List.{flat_map}
 use Rattle.zk_frames.specs.Framing.{IsBeginning}
-use Rattle.zk_talk.specs.declared.limits.Limits.{Limits}
-use Rattle.zk_talk.specs.declared.message.Fault.{Fault}
-use Rattle.zk_talk.specs.declared.message.Side.{Side}
+use Rattle.zk_talk.specs.{declared.limits.Limits.Limits, declared.message.Fault.Fault, declared.message.Side.Side, Fault.side_limit, Held.Message, History.History, History.on, History.side_bytes}
 use Rattle.zk_talk.specs.declared.message.Side.TheVariants.{Client, Server}
-use Rattle.zk_talk.specs.Fault.{side_limit}
-use Rattle.zk_talk.specs.Held.{Message}
-use Rattle.zk_talk.specs.History.{History, on, side_bytes}
 use Rattle.zk_talk.specs.Stands.{TalkState, Stands, held_on}
-use Rattle.zk_talk.proofs.Headline.{refuses_more}
-use Rattle.zk_talk.proofs.Histories.{no_bytes}
-use Rattle.zk_talk.proofs.Small.{small_limits}
-use Rattle.zk_talk.proofs.Standing.{bytes-on, other-on, runs_client, runs_server}
-use Rattle.zk_recordings.specs.declared.parts.Format.{Format}
-use Rattle.zk_recordings.specs.declared.parts.Format.TheVariants.{Zkr1, Zkr2}
+use Rattle.zk_talk.proofs.{Headline.refuses_more, Histories.no_bytes, Small.small_limits, Standing.bytes-on, Standing.other-on, Standing.runs_client, Standing.runs_server}
+use Rattle.zk_recordings.specs.{declared.parts.Format.Format, declared.parts.Format.TheVariants.Zkr1, declared.parts.Format.TheVariants.Zkr2}
 use Rattle.zk_recordings.specs.Recording.{Breaks, Ends, InPieces, Piece, Place, Recording, Spells, begun_history, begun_of, format_of, front, head_bytes, history_at, history_of, limits_of, piece_bytes, piece_history, place_of}
 use Rattle.zk_recordings.proofs.Lists.{on-append}
-use Rattle.zk_listings.specs.declared.listing.Listing.TheVariants.{Last}
-use Rattle.zk_listings.specs.declared.progress.Progress.{Progress}
-use Rattle.zk_listings.specs.Following.{Follows, Has, Judges, Takes}
-use Rattle.zk_listings.specs.Gathered.{SideBytes}
+use Rattle.zk_listings.specs.{declared.listing.Listing.TheVariants.Last, declared.progress.Progress.Progress, Following.Follows, Following.Has, Following.Judges, Following.Takes, Gathered.SideBytes, Outcome.IsGoodWith}
 use Rattle.zk_listings.specs.Gathering.{Begins, FollowsBut, Gathers, HasAllBut, HasAllButOr, HasAllButUnless, IsGathered, Turns}
-use Rattle.zk_listings.specs.Outcome.{IsGoodWith}
 use Rattle.zk_listings.proofs.Talking.{has-good}
 
 -- ---- a side has no more bytes than the recording

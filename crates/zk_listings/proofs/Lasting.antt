@@ -1,21 +1,14 @@
 -- What a front of a recording decides stands whatever follows it.
 use Rattle.std.proofs.Common.{◌≡◌, ℕ, List, [], ◌++◌, inl, inr, sym, ap, ◌∙◌, subst, append-nil}
-use Rattle.zk_talk.specs.declared.limits.Limits.{Limits}
-use Rattle.zk_talk.specs.Held.{Message}
-use Rattle.zk_talk.specs.declared.message.Fault.{Fault}
+use Rattle.zk_talk.specs.{declared.limits.Limits.Limits, Held.Message, declared.message.Fault.Fault, Fault.IsFaultOf, Answer.AreMessages}
 use Rattle.zk_talk.specs.declared.message.Ending.TheVariants.{Whole, Cut, Refused}
-use Rattle.zk_talk.specs.Fault.{IsFaultOf}
-use Rattle.zk_talk.specs.Answer.{AreMessages}
 use Rattle.zk_talk.proofs.Headline.{fault_is_bad, fault_more, messages_more}
-use Rattle.zk_listings.specs.declared.summary.Summary.{Summary}
+use Rattle.zk_listings.specs.{declared.summary.Summary.Summary, Outcome.ComesTo, Outcome.HasMessages, Outcome.IsOutcome, Outcome.IsDecided}
 use Rattle.zk_listings.specs.declared.summary.Summary.TheVariants.{Ended, Broken}
 use Rattle.zk_recordings.specs.Recording.{Recording, Spells, history_at, limits_at, place_of, begun_history, history_of, limits_of, damage_of}
 use Rattle.zk_recordings.specs.Reading.{IsHeaded}
-use Rattle.zk_listings.specs.Outcome.{ComesTo, HasMessages, IsOutcome, IsDecided}
-use Rattle.zk_recordings.proofs.Any.{longer}
-use Rattle.zk_recordings.proofs.Once.{spells-once}
+use Rattle.zk_recordings.proofs.{Any.longer, Once.spells-once, Stages.damaged-more}
 use Rattle.zk_listings.proofs.Decided.{fault-headed}
-use Rattle.zk_recordings.proofs.Stages.{damaged-more}
 
 -- equal limits, histories and damages come to the same
 pub same-outcome : (limits others : Limits) (r s : Recording) (messages : List Message) (summary : Summary) → limits_of others s ≡ limits_of limits r → history_of s ≡ history_of r → damage_of s ≡ damage_of r →

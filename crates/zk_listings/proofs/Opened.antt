@@ -1,18 +1,11 @@
 -- What was read is a recording that begins with the messages so far.
 use Rattle.std.proofs.Common.{ℕ, List, [], ◌∷◌, ◌++◌, Option, None, Some, refl, sym, subst, append-nil}
-use Rattle.zk_talk.specs.declared.limits.Limits.{Limits}
-use Rattle.zk_talk.specs.Held.{Message}
-use Rattle.zk_talk.specs.declared.message.Ending.TheVariants.{Refused}
-use Rattle.zk_talk.specs.History.{History}
-use Rattle.zk_talk.specs.Stands.{TalkState}
-use Rattle.zk_listings.specs.declared.summary.Summary.{Summary}
+use Rattle.zk_talk.specs.{declared.limits.Limits.Limits, Held.Message, declared.message.Ending.TheVariants.Refused, History.History, Stands.TalkState}
+use Rattle.zk_listings.specs.{declared.summary.Summary.Summary, Outcome.IsGoodWith, Following.Has, Following.IsHeadedBy, Following.Finishes, Following.Opens}
 use Rattle.zk_listings.specs.declared.summary.Summary.TheVariants.{Ended, Broken}
 use Rattle.zk_recordings.specs.Recording.{Recording, Spells, history_of, limits_of, place_of}
-use Rattle.zk_listings.specs.Outcome.{IsGoodWith}
-use Rattle.zk_listings.specs.Following.{Has, IsHeadedBy, Finishes, Opens}
 use Rattle.zk_recordings.proofs.Any.{longer}
-use Rattle.zk_listings.proofs.Outcomes.{good-all, good-before}
-use Rattle.zk_listings.proofs.Talking.{has-good}
+use Rattle.zk_listings.proofs.{Outcomes.good-all, Outcomes.good-before, Talking.has-good}
 
 -- all of a recording
 pub opens-whole : (limits : Limits) (x : List ℕ) (messages : List Message) (r : Recording) → Spells x r → IsGoodWith (limits_of limits r) (history_of r) messages → Opens limits x messages

@@ -1,28 +1,14 @@
 -- A recording comes to one thing, with one list of messages.
 use Rattle.std.proofs.Common.{◌≡◌, ℕ, List, [], ◌++◌, Option, Some, refl, sym, ap, ◌∙◌, subst}
 use Rattle.std.proofs.lemmas.Option.{none-some}
-use Rattle.zk_talk.specs.declared.message.Side.{Side}
+use Rattle.zk_talk.specs.{declared.message.Side.Side, declared.limits.Limits.Limits, declared.message.Ending.Ending, declared.message.Fault.Fault, History.History, Conversation.Conversation, Held.Message, Good.Good, Good.IsOrder}
 use Rattle.zk_talk.specs.declared.message.Side.TheVariants.{Client, Server}
-use Rattle.zk_talk.specs.declared.limits.Limits.{Limits}
-use Rattle.zk_talk.specs.declared.message.Ending.{Ending}
 use Rattle.zk_talk.specs.declared.message.Ending.TheVariants.{Whole, Cut, Refused}
-use Rattle.zk_talk.specs.declared.message.Fault.{Fault}
-use Rattle.zk_talk.specs.History.{History}
-use Rattle.zk_talk.specs.Conversation.{Conversation}
-use Rattle.zk_talk.specs.Held.{Message}
-use Rattle.zk_talk.specs.Good.{Good, IsOrder}
-use Rattle.zk_talk.specs.Answer.{AreMessages}
-use Rattle.zk_talk.specs.Ending.{IsEnding, IsCutAt, unanswered}
-use Rattle.zk_talk.proofs.Small.{small_limits}
-use Rattle.zk_talk.proofs.FaultOnce.{same_before, answer_fault}
-use Rattle.zk_talk.proofs.Headline.{same_good, fault_is_bad}
-use Rattle.zk_talk.proofs.FirstMessages.{first_of_good, first_of_any}
-use Rattle.zk_talk.proofs.OrderOnce.{order_once}
-use Rattle.zk_recordings.specs.declared.parts.DamageAt.{DamageAt}
-use Rattle.zk_listings.specs.declared.summary.Summary.{Summary}
+use Rattle.zk_talk.specs.{Answer.AreMessages, Ending.IsEnding, Ending.IsCutAt, Ending.unanswered}
+use Rattle.zk_talk.proofs.{Small.small_limits, FaultOnce.same_before, FaultOnce.answer_fault, Headline.same_good, Headline.fault_is_bad, FirstMessages.first_of_good, FirstMessages.first_of_any, OrderOnce.order_once}
+use Rattle.zk_recordings.specs.{declared.parts.DamageAt.DamageAt, Recording.Recording, Recording.history_of, Recording.limits_of, Recording.damage_of}
+use Rattle.zk_listings.specs.{declared.summary.Summary.Summary, Outcome.ComesTo, Outcome.HasMessages, Outcome.IsGoodWith, Outcome.IsOutcome}
 use Rattle.zk_listings.specs.declared.summary.Summary.TheVariants.{Ended, Broken}
-use Rattle.zk_listings.specs.Outcome.{ComesTo, HasMessages, IsGoodWith, IsOutcome}
-use Rattle.zk_recordings.specs.Recording.{Recording, history_of, limits_of, damage_of}
 
 -- one conversation ends in one place
 cut-once : (v : Conversation) (cr sr : List ℕ) (s t : Side) (n m k l : ℕ) → IsCutAt v cr sr s n k → IsCutAt v cr sr t m l → Cut s n k ≡ Cut t m l

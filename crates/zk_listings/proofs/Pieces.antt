@@ -1,25 +1,11 @@
 -- What a piece that is whole at the front of a block comes to, once a talk has begun.
 use Rattle.std.proofs.Common.{◌≡◌, ℕ, ◌+◌, ◌-◌, ◌≤◌, List, ◌++◌, take, drop, Option, Some, None, refl, sym, ap, ◌∙◌, subst, append_assoc, append-nil, arith}
-use Rattle.std.proofs.Math.Seq.{take-add}
-use Rattle.std.proofs.lemmas.Option.{none-some}
-use Rattle.zk_talk.specs.declared.limits.Limits.{Limits}
-use Rattle.zk_talk.specs.Held.{Message}
-use Rattle.zk_talk.specs.declared.message.Fault.{Fault}
-use Rattle.zk_talk.specs.declared.message.Side.{Side}
-use Rattle.zk_talk.specs.declared.message.Ending.TheVariants.{Refused}
-use Rattle.zk_talk.specs.History.{on}
-use Rattle.zk_talk.specs.Stands.{TalkState, Stands}
-use Rattle.zk_listings.specs.declared.listing.Listing.{Listing}
-use Rattle.zk_listings.specs.declared.progress.Progress.{Progress}
-use Rattle.zk_listings.specs.declared.summary.Summary.{Summary}
-use Rattle.zk_listings.specs.declared.summary.Summary.TheVariants.{Ended}
-use Rattle.zk_recordings.specs.Reader.{ReaderState}
-use Rattle.zk_recordings.specs.Pieces.{ReadsPiece}
-use Rattle.zk_recordings.specs.Recording.{Spells, history_of, limits_of}
-use Rattle.zk_recordings.specs.Reading.{IsAt, ReadsOn}
+use Rattle.std.proofs.{Math.Seq.take-add, lemmas.Option.none-some}
+use Rattle.zk_talk.specs.{declared.limits.Limits.Limits, Held.Message, declared.message.Fault.Fault, declared.message.Side.Side, declared.message.Ending.TheVariants.Refused, History.on, Stands.TalkState, Stands.Stands}
+use Rattle.zk_listings.specs.{declared.listing.Listing.Listing, declared.progress.Progress.Progress, declared.summary.Summary.Summary, declared.summary.Summary.TheVariants.Ended}
+use Rattle.zk_recordings.specs.{Reader.ReaderState, Pieces.ReadsPiece, Recording.Spells, Recording.history_of, Recording.limits_of, Reading.IsAt, Reading.ReadsOn}
 use Rattle.zk_listings.specs.Following.{Follows, Talks, Takes, Decides, Advances, Steps, ended_by}
-use Rattle.zk_listings.proofs.Stops.{decides-by_fault}
-use Rattle.zk_listings.proofs.Talking.{Given, given, gives-by, goes-headed, goes-history}
+use Rattle.zk_listings.proofs.{Stops.decides-by_fault, Talking.Given, Talking.given, Talking.gives-by, Talking.goes-headed, Talking.goes-history}
 
 module _ (listing : Listing) (p : Progress) (t u : TalkState) (lines lines_now block : List ℕ) (head used : ℕ) (side : Side) (state : ReaderState) (refused : Option Fault)
     (begun : p.talk ≡ Some t)

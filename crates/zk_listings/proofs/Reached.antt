@@ -1,21 +1,10 @@
 -- What a run of reads comes to, whose last bytes aren't given to the talk yet.
 use Rattle.std.proofs.Common.{◌≡◌, ℕ, ◌+◌, ◌<◌, ◌≤◌, ◌^◌, List, [], ◌++◌, length, Option, None, Some, subst, arith, length-append}
 use Rattle.std.specs.Io.KnownBytes.{Appends, Consumes}
-use Rattle.zk_talk.specs.declared.limits.Limits.{Limits}
-use Rattle.zk_talk.specs.Held.{Message}
-use Rattle.zk_listings.specs.declared.listing.Listing.{Listing}
-use Rattle.zk_listings.specs.declared.progress.Progress.{Progress}
-use Rattle.zk_listings.specs.declared.summary.Summary.{Summary}
-use Rattle.zk_listings.specs.Lines.{text_of}
-use Rattle.zk_listings.specs.Following.{Opens}
-use Rattle.zk_listings.specs.Gathered.{SideBytes}
-use Rattle.zk_listings.specs.Gathering.{AdvancesBut, ReachesBut}
-use Rattle.zk_listings.specs.Outcome.{HasGrownIn}
-use Rattle.zk_listings.specs.Running.{HasBegunLines, HasFoundBy, HasReached}
-use Rattle.zk_listings.proofs.Bytes.{Consumes-none, Consumes-then}
-use Rattle.zk_listings.proofs.Feeding.{grown-more, grown-whole, told-more}
-use Rattle.zk_listings.proofs.Found.{found-decided, reads, running}
-use Rattle.zk_listings.proofs.Gathering.{good-here-but}
+use Rattle.zk_talk.specs.{declared.limits.Limits.Limits, Held.Message}
+use Rattle.zk_listings.specs.{declared.listing.Listing.Listing, declared.progress.Progress.Progress, declared.summary.Summary.Summary, Lines.text_of, Following.Opens, Gathered.SideBytes, Gathering.AdvancesBut, Gathering.ReachesBut}
+use Rattle.zk_listings.specs.{Outcome.HasGrownIn, Running.HasBegunLines, Running.HasFoundBy, Running.HasReached}
+use Rattle.zk_listings.proofs.{Bytes.Consumes-none, Bytes.Consumes-then, Feeding.grown-more, Feeding.grown-whole, Feeding.told-more, Found.found-decided, Found.reads, Found.running, Gathering.good-here-but}
 use Rattle.zk_listings.proofs.Opened.{opens-finished, opens-later, opens-whole}
 
 -- some bytes were read, at most so many, which come to this, and the lines of their messages were written

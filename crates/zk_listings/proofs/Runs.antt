@@ -1,29 +1,16 @@
 -- What a block does to a recording whose last bytes may be gathered.
 use Rattle.std.proofs.Common.{◌≡◌, ℕ, ◌≤◌, ◌<◌, ◌^◌, List, [], ◌++◌, length, take, Option, None, Some, refl, sym, ap, ◌∙◌, subst, append_assoc, append-nil, arith, length-append}
-use Rattle.std.proofs.Math.Seq.{take-length}
-use Rattle.std.proofs.lemmas.List.{length-take-le}
-use Rattle.std.proofs.lemmas.Option.{none-some}
-use Rattle.zk_talk.specs.declared.limits.Limits.{Limits}
-use Rattle.zk_talk.specs.declared.message.Fault.{Fault}
-use Rattle.zk_talk.specs.declared.message.Side.{Side}
-use Rattle.zk_talk.specs.Held.{Message}
-use Rattle.zk_talk.specs.History.{on}
-use Rattle.zk_talk.specs.Stands.{TalkState}
+use Rattle.std.proofs.{Math.Seq.take-length, lemmas.List.length-take-le, lemmas.Option.none-some}
+use Rattle.zk_talk.specs.{declared.limits.Limits.Limits, declared.message.Fault.Fault, declared.message.Side.Side, Held.Message, History.on, Stands.TalkState}
 use Rattle.zk_recordings.specs.Reader.{ReaderState}
 use Rattle.zk_recordings.specs.Reading.{IsAt, IsHeaded, IsUndamaged, ReadsContent, ReadsOn, content_of}
 use Rattle.zk_recordings.specs.Recording.{Place, Recording, Spells, history_of, limits_of, place_of}
-use Rattle.zk_listings.specs.declared.listing.Listing.{Listing}
+use Rattle.zk_listings.specs.{declared.listing.Listing.Listing, declared.progress.Progress.Progress, declared.summary.Summary.Summary, Gathered.SideBytes, Outcome.IsBroken}
 use Rattle.zk_listings.specs.declared.listing.Listing.TheVariants.{All, Last}
-use Rattle.zk_listings.specs.declared.progress.Progress.{Progress}
-use Rattle.zk_listings.specs.declared.summary.Summary.{Summary}
 use Rattle.zk_listings.specs.declared.summary.Summary.TheVariants.{Ended, Broken}
 use Rattle.zk_listings.specs.Following.{IsHeadedBy, IsLastingSummary, Steps, Takes, ended_by}
-use Rattle.zk_listings.specs.Gathered.{SideBytes}
 use Rattle.zk_listings.specs.Gathering.{AdvancesBut, FollowsBut, Gathers, GathersIn, HasAllBut, HasAllButOr, IsGathered, ReachesBut, StepsBut}
-use Rattle.zk_listings.specs.Outcome.{IsBroken}
-use Rattle.zk_listings.proofs.Feeding.{listed-none, listed-then}
-use Rattle.zk_listings.proofs.Stops.{decides-by_damage, decides-by_fault}
-use Rattle.zk_listings.proofs.Talking.{goes-headed, goes-history, headed-by}
+use Rattle.zk_listings.proofs.{Feeding.listed-none, Feeding.listed-then, Stops.decides-by_damage, Stops.decides-by_fault, Talking.goes-headed, Talking.goes-history, Talking.headed-by}
 use Rattle.zk_listings.proofs.Gathering.{append-gathers, but-follows, follows-but, given-all, good-but, history-within}
 
 -- ---- one block after another

@@ -1,18 +1,10 @@
 -- What the first bytes of a block come to.
 use Rattle.std.proofs.Common.{◌≡◌, ℕ, List, ◌++◌, take, Option, Some, None, sym, ap, ◌∙◌, subst}
-use Rattle.zk_talk.specs.declared.limits.Limits.{Limits}
-use Rattle.zk_talk.specs.Held.{Message}
-use Rattle.zk_talk.specs.declared.message.Fault.{Fault}
-use Rattle.zk_talk.specs.declared.message.Side.{Side}
-use Rattle.zk_listings.specs.declared.listing.Listing.{Listing}
-use Rattle.zk_listings.specs.declared.progress.Progress.{Progress}
-use Rattle.zk_listings.specs.declared.summary.Summary.{Summary}
+use Rattle.zk_talk.specs.{declared.limits.Limits.Limits, Held.Message, declared.message.Fault.Fault, declared.message.Side.Side}
+use Rattle.zk_listings.specs.{declared.listing.Listing.Listing, declared.progress.Progress.Progress, declared.summary.Summary.Summary, Following.Follows, Following.IsLastingSummary, Following.Steps, Following.TakesContent}
 use Rattle.zk_listings.specs.declared.summary.Summary.TheVariants.{Ended, Broken}
-use Rattle.zk_recordings.specs.Recording.{Recording, place_of, history_of, limits_of}
-use Rattle.zk_recordings.specs.Reading.{IsAt, IsHeaded, ReadsOn, content_of}
-use Rattle.zk_listings.specs.Following.{Follows, IsLastingSummary, Steps, TakesContent}
-use Rattle.zk_listings.proofs.Stops.{decides-by_fault, decides-by_damage}
-use Rattle.zk_listings.proofs.Talking.{Given, given, has-good}
+use Rattle.zk_recordings.specs.{Recording.Recording, Recording.place_of, Recording.history_of, Recording.limits_of, Reading.IsAt, Reading.IsHeaded, Reading.ReadsOn, Reading.content_of}
+use Rattle.zk_listings.proofs.{Stops.decides-by_fault, Stops.decides-by_damage, Talking.Given, Talking.given, Talking.has-good}
 
 module _ (listing : Listing) (p now : Progress) (lines lines_now block : List ℕ) (used : ℕ) (side : Option Side) (now_limits : Limits) (refused : Option Fault)
     (options : now.limits ≡ p.limits)

@@ -1,20 +1,11 @@
 -- What was written by the time that a run stops.
 use Rattle.std.proofs.Common.{◌≡◌, ℕ, ◌<◌, ◌≤◌, ◌⊎◌, inl, inr, List, ◌++◌, length, Option, sym, ◌∙◌, ap, subst, append_assoc, arith}
 use Rattle.std.specs.Io.KnownBytes.{Appends}
-use Rattle.std.proofs.lemmas.Bool.{cases_lt}
-use Rattle.std.proofs.lemmas.List.{take_all, take-append-le}
-use Rattle.std.proofs.Math.Seq.{take-append_seam}
-use Rattle.zk_talk.specs.declared.limits.Limits.{Limits}
-use Rattle.zk_talk.specs.Held.{Message}
-use Rattle.zk_talk.specs.Stands.{TalkState}
-use Rattle.zk_listings.specs.declared.listing.Listing.{Listing}
-use Rattle.zk_listings.specs.declared.summary.Summary.{Summary}
-use Rattle.zk_listings.specs.Lines.{text_of, last_line}
-use Rattle.zk_listings.specs.Outcome.{IsOutcome, IsFound, HasGrownIn}
+use Rattle.std.proofs.{lemmas.Bool.cases_lt, lemmas.List.take_all, lemmas.List.take-append-le, Math.Seq.take-append_seam}
+use Rattle.zk_talk.specs.{declared.limits.Limits.Limits, Held.Message, Stands.TalkState}
+use Rattle.zk_listings.specs.{declared.listing.Listing.Listing, declared.summary.Summary.Summary, Lines.text_of, Lines.last_line, Outcome.IsOutcome, Outcome.IsFound, Outcome.HasGrownIn}
 use Rattle.zk_listings.specs.Running.{HasBegunLines, HasFoundBy, HasStopped, in_messages, in_last_line}
-use Rattle.zk_listings.proofs.Feeding.{text_of-append}
-use Rattle.zk_listings.proofs.Found.{grown-front}
-use Rattle.zk_listings.proofs.Outcomes.{outcome-first}
+use Rattle.zk_listings.proofs.{Feeding.text_of-append, Found.grown-front, Outcomes.outcome-first}
 
 -- a front of a text is a front of whatever begins with it
 pub grown-in : (old new : Option (List ℕ)) (text more : List ℕ) → HasGrownIn old new text → HasGrownIn old new (text ++ more)

@@ -1,25 +1,15 @@
 -- What a run finds before the end.
 use Rattle.std.proofs.Common.{◌≡◌, ℕ, List, ◌++◌, take, drop, Option, Some, None, inl, inr, refl, sym, ap, ◌∙◌, subst, append_assoc, append-nil}
 use Rattle.std.proofs.lemmas.List.{take-append-drop}
-use Rattle.zk_talk.specs.declared.limits.Limits.{Limits}
-use Rattle.zk_talk.specs.Held.{Message}
-use Rattle.zk_talk.specs.declared.message.Fault.{Fault}
-use Rattle.zk_talk.specs.declared.message.Ending.{Ending}
-use Rattle.zk_talk.specs.declared.message.Ending.TheVariants.{Refused}
-use Rattle.zk_talk.specs.History.{History}
-use Rattle.zk_talk.specs.Fault.{IsFaultOf}
-use Rattle.zk_talk.specs.Ending.{IsEnding}
-use Rattle.zk_talk.specs.Answer.{AreMessages}
-use Rattle.zk_talk.specs.Stands.{TalkState, Refuses}
+use Rattle.zk_talk.specs.{declared.limits.Limits.Limits, Held.Message, declared.message.Fault.Fault, declared.message.Ending.Ending, declared.message.Ending.TheVariants.Refused, History.History, Fault.IsFaultOf, Ending.IsEnding}
+use Rattle.zk_talk.specs.{Answer.AreMessages, Stands.TalkState, Stands.Refuses}
 use Rattle.zk_talk.proofs.Headline.{fault_is_bad, refused, refuses_more, stands_messages}
-use Rattle.zk_recordings.specs.declared.parts.DamageAt.{DamageAt}
+use Rattle.zk_recordings.specs.{declared.parts.DamageAt.DamageAt, Reading.IsDecidedBy, Reading.IsHeaded}
 use Rattle.zk_listings.specs.declared.summary.Summary.TheVariants.{Ended, Broken}
 use Rattle.zk_recordings.specs.Recording.{Recording, Spells, place_of, begun_history, history_at, history_of, limits_at, limits_of, damage_of}
-use Rattle.zk_recordings.specs.Reading.{IsDecidedBy, IsHeaded}
 use Rattle.zk_listings.specs.Outcome.{HasNoFault, ComesTo, IsGoodWith}
 use Rattle.zk_listings.specs.Following.{Has, HasRefused, IsKept, Decides, Finishes}
-use Rattle.zk_recordings.proofs.Any.{longer}
-use Rattle.zk_recordings.proofs.Stages.{damaged-more}
+use Rattle.zk_recordings.proofs.{Any.longer, Stages.damaged-more}
 use Rattle.zk_listings.proofs.Talking.{talk_now, has-stands, has-good}
 
 no-fault : (limits : Limits) (h : History) (messages : List Message) → IsGoodWith limits h messages → HasNoFault limits h

@@ -1,19 +1,10 @@
 -- The line behind a last line.
 use Rattle.std.proofs.Common.{◌≡◌, ℕ, List, Option, None, Some, Bor, refl, sym, subst}
 use Rattle.zk_answers.specs.declared.layout.Layout.{Layout}
-use Rattle.zk_talk.specs.declared.limits.Limits.{Limits}
-use Rattle.zk_talk.specs.declared.message.Ending.TheVariants.{Refused}
-use Rattle.zk_talk.specs.declared.message.Fault.{Fault}
-use Rattle.zk_talk.specs.Held.{Message}
-use Rattle.zk_talk.specs.History.{History}
-use Rattle.zk_talk.specs.Stands.{TalkState}
-use Rattle.zk_listings.specs.declared.summary.Summary.{Summary}
-use Rattle.zk_listings.specs.declared.summary.Summary.TheVariants.{Ended}
-use Rattle.zk_listings.specs.declared.listing.Listing.{Listing}
+use Rattle.zk_talk.specs.{declared.limits.Limits.Limits, declared.message.Ending.TheVariants.Refused, declared.message.Fault.Fault, Held.Message, History.History, Stands.TalkState}
+use Rattle.zk_listings.specs.{declared.summary.Summary.Summary, declared.summary.Summary.TheVariants.Ended, declared.listing.Listing.Listing, Following.HasRefused, Following.IsKept, Running.HasFoundBy}
 use Rattle.zk_listings.specs.Earliest.{IsTail, IsTailOf, IsFoundWith, IsToldOf, TellsBody, in_body, in_none}
-use Rattle.zk_listings.specs.Following.{HasRefused, IsKept}
 use Rattle.zk_recordings.specs.Recording.{history_of, limits_of}
-use Rattle.zk_listings.specs.Running.{HasFoundBy}
 
 tail-of : (limits : Limits) (h : History) (f : Fault) (body : Option (Layout × Bor (List ℕ))) (b : TellsBody limits h f body) (tail : List ℕ) → IsToldOf (Ended (Refused f)) body tail → IsTailOf limits h f b.0 tail
 tail-of limits h f None b tail is = subst (IsTailOf limits h f b.0) (sym is) (in_none b.1)

@@ -2,18 +2,11 @@
 use Rattle.std.proofs.Common.{◌≡◌, ℕ, List, [], ◌∷◌, ◌++◌, Option, None, Some, MatchOption, refl, sym, ap, ◌∙◌, subst, append_assoc, append-nil}
 use Rattle.std.specs.List.{flat_map}
 use Rattle.std.proofs.lemmas.Option.{none-some}
-use Rattle.zk_talk.specs.declared.limits.Limits.{Limits}
-use Rattle.zk_talk.specs.Held.{Message}
-use Rattle.zk_talk.specs.declared.message.Fault.{Fault}
-use Rattle.zk_talk.specs.declared.message.Side.{Side}
-use Rattle.zk_talk.specs.History.{History}
-use Rattle.zk_talk.specs.Stands.{TalkState, Stands}
+use Rattle.zk_talk.specs.{declared.limits.Limits.Limits, Held.Message, declared.message.Fault.Fault, declared.message.Side.Side, History.History, Stands.TalkState, Stands.Stands}
 use Rattle.zk_talk.proofs.Start.{start_state, start}
-use Rattle.zk_listings.specs.declared.listing.Listing.{Listing}
+use Rattle.zk_listings.specs.{declared.listing.Listing.Listing, Lines.text_of, Outcome.IsGoodWith}
 use Rattle.zk_recordings.specs.Recording.{piece_history, Place, AtLetters, InHead, InPieces, Recording, Breaks, place_of, begun_history, history_at, history_of, limits_at, limits_of}
 use Rattle.zk_recordings.specs.Reading.{content_of, IsHeaded, IsBare, GoesOn, in_head, within, ends}
-use Rattle.zk_listings.specs.Lines.{text_of}
-use Rattle.zk_listings.specs.Outcome.{IsGoodWith}
 use Rattle.zk_listings.specs.Following.{Has, IsHeadedBy, Talks, HasOr, Judges, Takes, TakesContent}
 use Rattle.zk_recordings.proofs.Lists.{flat_map-snoc}
 use Rattle.zk_listings.proofs.Feeding.{good-here}

@@ -1,26 +1,13 @@
 -- The line of the first impossible byte of the body in which a recording's fault is found.
 use Rattle.std.specs.Prelude.{◌≡◌, ℕ, ◌+◌, List, [], ◌∷◌, ◌++◌, Option, None, Some, MatchOption, codes}
-use Rattle.std.specs.Borrow.{Bor}
-use Rattle.std.specs.Fmt.{decimal}
-use Rattle.std.specs.Io.KnownBytes.{Appends}
+use Rattle.std.specs.{Borrow.Bor, Fmt.decimal, Io.KnownBytes.Appends}
 use Rattle.zk_answers.specs.declared.layout.Layout.{Layout}
 use Rattle.zk_earliest.specs.Earliest.{IsEarliestOf}
-use Rattle.zk_talk.specs.declared.limits.Limits.{Limits}
-use Rattle.zk_talk.specs.declared.message.Ending.TheVariants.{Refused}
-use Rattle.zk_talk.specs.declared.message.Fault.{Fault}
-use Rattle.zk_talk.specs.Held.{Message}
-use Rattle.zk_talk.specs.declared.message.Side.{Side}
-use Rattle.zk_talk.specs.Fault.{IsFaultOf}
-use Rattle.zk_talk.specs.History.{History}
+use Rattle.zk_talk.specs.{declared.limits.Limits.Limits, declared.message.Ending.TheVariants.Refused, declared.message.Fault.Fault, Held.Message, declared.message.Side.Side, Fault.IsFaultOf, History.History}
 use Rattle.zk_talk.specs.Refused.{header_size, IsRefusedBody}
-use Rattle.zk_listings.specs.declared.listing.Listing.TheVariants.{Last}
-use Rattle.zk_listings.specs.declared.summary.Status.{Status}
-use Rattle.zk_listings.specs.declared.summary.Summary.{Summary}
-use Rattle.zk_listings.specs.declared.summary.Summary.TheVariants.{Ended}
-use Rattle.zk_listings.specs.Lines.{last_line, status_of}
-use Rattle.zk_listings.specs.Outcome.{IsFound, HasGrownIn}
+use Rattle.zk_listings.specs.{declared.listing.Listing.TheVariants.Last, declared.summary.Status.Status, declared.summary.Summary.Summary, declared.summary.Summary.TheVariants.Ended, Lines.last_line, Lines.status_of}
+use Rattle.zk_listings.specs.{Outcome.IsFound, Outcome.HasGrownIn, Running.HasStopped}
 use Rattle.zk_recordings.specs.Recording.{history_of, limits_of}
-use Rattle.zk_listings.specs.Running.{HasStopped}
 
 -- the byte's place in the payload; a dash, if no body has that length
 abbrev pub answer_text : Side → Option ℕ → List ℕ

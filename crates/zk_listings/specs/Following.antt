@@ -1,20 +1,10 @@
 -- How far a recording was read, with the conversation in it, and which lines were appended.
 use Rattle.std.specs.Prelude.{◌≡◌, ℕ, List, [], ◌++◌, take, Option, None, Some}
-use Rattle.zk_talk.specs.declared.limits.Limits.{Limits}
-use Rattle.zk_talk.specs.Held.{Message}
-use Rattle.zk_talk.specs.declared.message.Ending.TheVariants.{Refused}
-use Rattle.zk_talk.specs.declared.message.Fault.{Fault}
-use Rattle.zk_talk.specs.History.{History}
-use Rattle.zk_talk.specs.Stands.{TalkState, Stands, Refuses}
-use Rattle.zk_listings.specs.declared.listing.Listing.{Listing}
-use Rattle.zk_listings.specs.declared.progress.Progress.{Progress}
-use Rattle.zk_listings.specs.declared.summary.Summary.{Summary}
+use Rattle.zk_talk.specs.{declared.limits.Limits.Limits, Held.Message, declared.message.Ending.TheVariants.Refused, declared.message.Fault.Fault, History.History, Stands.TalkState, Stands.Stands, Stands.Refuses}
+use Rattle.zk_listings.specs.{declared.listing.Listing.Listing, declared.progress.Progress.Progress, declared.summary.Summary.Summary, Lines.text_of, Outcome.IsGoodWith, Outcome.IsOutcome, Outcome.IsBroken, Outcome.IsDecided}
 use Rattle.zk_listings.specs.declared.summary.Summary.TheVariants.{Ended, Broken}
 use Rattle.zk_recordings.specs.Recording.{Place, Recording, Spells, place_of, history_of, limits_of}
-use Rattle.zk_recordings.specs.Reader.{ReaderState}
-use Rattle.zk_recordings.specs.Reading.{IsAt, IsDamagedBy, IsHeaded, IsUndamaged}
-use Rattle.zk_listings.specs.Lines.{text_of}
-use Rattle.zk_listings.specs.Outcome.{IsGoodWith, IsOutcome, IsBroken, IsDecided}
+use Rattle.zk_recordings.specs.{Reader.ReaderState, Reading.IsAt, Reading.IsDamagedBy, Reading.IsHeaded, Reading.IsUndamaged}
 
 -- the history of a talk: none, if no content has come
 abbrev pub Has : Limits → Option TalkState → History → List Message → Type 0

@@ -2,24 +2,12 @@
 use Rattle.std.specs.Prelude.{Vec, ◌≡◌, ◌≢◌, ℕ, ◌^◌, ◌+◌, ◌<◌, ◌≤◌, ◌⊎◌, List, [], ◌++◌, length, take, Option, None, Some}
 use Rattle.std.specs.Io.KnownBytes.{Consumes}
 use Rattle.zk_frames.specs.Framing.{IsBeginning}
-use Rattle.zk_talk.specs.declared.limits.Limits.{Limits}
-use Rattle.zk_talk.specs.declared.message.Fault.{Fault}
-use Rattle.zk_talk.specs.Fault.{side_limit}
-use Rattle.zk_talk.specs.Held.{Message}
-use Rattle.zk_talk.specs.History.{History, on}
-use Rattle.zk_talk.specs.Stands.{TalkState, held_on}
-use Rattle.zk_recordings.specs.Recording.{Recording, history_of, limits_of, place_of}
-use Rattle.zk_recordings.specs.Reading.{IsAt, IsInContent}
-use Rattle.zk_listings.specs.declared.gather.NextRead.{NextRead}
+use Rattle.zk_talk.specs.{declared.limits.Limits.Limits, declared.message.Fault.Fault, Fault.side_limit, Held.Message, History.History, History.on, Stands.TalkState, Stands.held_on}
+use Rattle.zk_recordings.specs.{Recording.Recording, Recording.history_of, Recording.limits_of, Recording.place_of, Reading.IsAt, Reading.IsInContent}
+use Rattle.zk_listings.specs.{declared.gather.NextRead.NextRead, declared.listing.Listing.Listing, declared.progress.Progress.Progress, declared.summary.Summary.Summary, Lines.text_of, Outcome.IsBroken}
 use Rattle.zk_listings.specs.declared.gather.NextRead.TheVariants.{Block, Content}
-use Rattle.zk_listings.specs.declared.listing.Listing.{Listing}
 use Rattle.zk_listings.specs.declared.listing.Listing.TheVariants.{All, Last}
-use Rattle.zk_listings.specs.declared.progress.Progress.{Progress}
-use Rattle.zk_listings.specs.declared.summary.Summary.{Summary}
-use Rattle.zk_listings.specs.Lines.{text_of}
-use Rattle.zk_listings.specs.Outcome.{IsBroken}
-use Rattle.zk_listings.specs.Following.{Decides, Has, HasRefused, IsHeadedBy}
-use Rattle.zk_listings.specs.Gathered.{SideBytes}
+use Rattle.zk_listings.specs.{Following.Decides, Following.Has, Following.HasRefused, Following.IsHeadedBy, Gathered.SideBytes}
 
 -- the talk has come through the history before these bytes
 abbrev pub HasAllBut : SideBytes → Limits → Option TalkState → History → List Message → Type 0

@@ -1,19 +1,13 @@
 -- A listing: a line for each message, and the last line.
 use Rattle.std.specs.Prelude.{ℕ, List, [], ◌∷◌, ◌++◌, codes}
-use Rattle.std.specs.Fmt.{decimal}
-use Rattle.std.specs.List.{flat_map}
-use Rattle.zk_talk.specs.Held.{Message}
-use Rattle.zk_talk.specs.declared.message.Ending.TheVariants.{Whole}
-use Rattle.zk_lines.specs.Lines.{line}
-use Rattle.zk_lines.specs.Endings.{ending_text}
-use Rattle.zk_listings.specs.declared.listing.Listing.{Listing}
+use Rattle.std.specs.{Fmt.decimal, List.flat_map}
+use Rattle.zk_talk.specs.{Held.Message, declared.message.Ending.TheVariants.Whole}
+use Rattle.zk_lines.specs.{Lines.line, Endings.ending_text}
+use Rattle.zk_listings.specs.{declared.listing.Listing.Listing, declared.summary.Summary.Summary, declared.summary.Status.Status}
 use Rattle.zk_listings.specs.declared.listing.Listing.TheVariants.{All, Last}
-use Rattle.zk_recordings.specs.declared.parts.DamageAt.{DamageAt}
-use Rattle.zk_recordings.specs.declared.parts.Damage.{Damage}
+use Rattle.zk_recordings.specs.{declared.parts.DamageAt.DamageAt, declared.parts.Damage.Damage}
 use Rattle.zk_recordings.specs.declared.parts.Damage.TheVariants.{BadHead, BadLimits, BadSide, BadTime, BadSize, Short}
-use Rattle.zk_listings.specs.declared.summary.Summary.{Summary}
 use Rattle.zk_listings.specs.declared.summary.Summary.TheVariants.{Ended, Broken}
-use Rattle.zk_listings.specs.declared.summary.Status.{Status}
 use Rattle.zk_listings.specs.declared.summary.Status.TheVariants.{Good, Bad}
 
 abbrev pub damage_word : Damage → List ℕ

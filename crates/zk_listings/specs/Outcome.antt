@@ -1,21 +1,12 @@
 -- The summary of a recording: the fault of its history if there is one, else its damage, else its history's ending.
 use Rattle.std.specs.Prelude.{◌≡◌, ℕ, ◌⊎◌, List, take, Option, None, Some}
 use Rattle.std.specs.Io.KnownBytes.{Consumes, IsAtEnd, Appends}
-use Rattle.zk_talk.specs.declared.limits.Limits.{Limits}
-use Rattle.zk_talk.specs.Held.{Message}
-use Rattle.zk_talk.specs.declared.message.Fault.{Fault}
-use Rattle.zk_talk.specs.declared.message.Ending.TheVariants.{Refused}
-use Rattle.zk_talk.specs.History.{History}
-use Rattle.zk_talk.specs.Conversation.{Conversation}
-use Rattle.zk_talk.specs.Good.{Good, IsOrder}
-use Rattle.zk_talk.specs.Fault.{IsFaultOf}
-use Rattle.zk_talk.specs.Ending.{IsEnding}
-use Rattle.zk_talk.specs.Answer.{AreMessages}
-use Rattle.zk_recordings.specs.declared.parts.DamageAt.{DamageAt}
+use Rattle.zk_talk.specs.{declared.limits.Limits.Limits, Held.Message, declared.message.Fault.Fault, declared.message.Ending.TheVariants.Refused, History.History, Conversation.Conversation, Good.Good, Good.IsOrder, Fault.IsFaultOf}
+use Rattle.zk_talk.specs.{Ending.IsEnding, Answer.AreMessages}
+use Rattle.zk_recordings.specs.{declared.parts.DamageAt.DamageAt, Reading.IsDecidedBy}
 use Rattle.zk_listings.specs.declared.summary.Summary.{Summary}
 use Rattle.zk_listings.specs.declared.summary.Summary.TheVariants.{Ended, Broken}
 use Rattle.zk_recordings.specs.Recording.{Recording, Spells, history_of, limits_of, damage_of}
-use Rattle.zk_recordings.specs.Reading.{IsDecidedBy}
 
 abbrev pub HasNoFault : Limits → History → Type 0
 HasNoFault limits h = (fault : Fault) → IsFaultOf limits h fault → ⊥

@@ -1,19 +1,11 @@
 -- What a run has read and written when it returns.
 use Rattle.std.specs.Prelude.{◌≡◌, ℕ, ◌+◌, ◌^◌, ◌<◌, ◌≤◌, ◌⊎◌, List, ◌++◌, Bool, true, false, Option, Result, IfOk, IsErrOf}
 use Rattle.std.specs.Io.KnownBytes.{IsAtEnd, Appends}
-use Rattle.zk_talk.specs.declared.limits.Limits.{Limits}
-use Rattle.zk_talk.specs.Held.{Message}
-use Rattle.zk_talk.specs.History.{History}
-use Rattle.zk_talk.specs.Stands.{TalkState}
-use Rattle.zk_listings.specs.declared.listing.Listing.{Listing}
-use Rattle.zk_listings.specs.declared.listing.RunFault.{RunFault}
+use Rattle.zk_talk.specs.{declared.limits.Limits.Limits, Held.Message, History.History, Stands.TalkState}
+use Rattle.zk_listings.specs.{declared.listing.Listing.Listing, declared.listing.RunFault.RunFault, declared.progress.Progress.Progress, declared.summary.Summary.Summary, declared.summary.Status.Status}
 use Rattle.zk_listings.specs.declared.listing.RunFault.TheVariants.{Read, Write, Memory}
-use Rattle.zk_listings.specs.declared.progress.Progress.{Progress}
-use Rattle.zk_listings.specs.declared.summary.Summary.{Summary}
-use Rattle.zk_listings.specs.declared.summary.Status.{Status}
-use Rattle.zk_listings.specs.Lines.{text_of, last_line, status_of}
+use Rattle.zk_listings.specs.{Lines.text_of, Lines.last_line, Lines.status_of, Following.IsKept, Following.Opens}
 use Rattle.zk_recordings.specs.Recording.{Recording, history_of, limits_of}
-use Rattle.zk_listings.specs.Following.{IsKept, Opens}
 use Rattle.zk_listings.specs.Outcome.{Reads, IsGoodWith, IsOutcome, IsDecided, IsFound, IsRunning, HasGrownIn}
 
 -- the reader failed, or was read as often as a run may

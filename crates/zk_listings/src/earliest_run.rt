@@ -3,8 +3,7 @@ ghost use Rattle.std.specs.Prelude.{◌≡◌, ◌≢◌, ◌+◌, ◌^◌, ◌<
 ghost use Rattle.zk_records.specs.declared.op.Op.TheVariants as ops;
 ghost use Rattle.zk_answers.specs.declared.layout.Layout.TheVariants as layouts;
 ghost use Rattle.zk_talk.specs.Refused.{header_size as size_of};
-ghost use Rattle.zk_listings.specs.declared.listing.Listing.TheVariants.{Last};
-ghost use Rattle.zk_listings.specs.Earliest.{answer_line as line_of, IsToldOf, HasToldEarliest, HasStoppedEarliest};
+ghost use Rattle.zk_listings.specs.{declared.listing.Listing.TheVariants.Last, Earliest.answer_line as line_of, Earliest.IsToldOf, Earliest.HasToldEarliest, Earliest.HasStoppedEarliest};
 ghost use Rattle.zk_listings.specs.Running.{AreReady, LeavesDevices, OnRead, HasReached};
 
 use crate::engines::read_on;

@@ -2,8 +2,7 @@
 ghost use Rattle.std.specs.Prelude.{◌≡◌, ◌≢◌, ◌+◌, ◌^◌, ◌<◌, ◌≤◌, ℕ, List, [], false, true, None, Err, length, IfOk, OnErr, IsErrOf};
 ghost use Rattle.std.specs.Io.KnownBytes.{Consumes, IsAtEnd, Keeps};
 ghost use Rattle.zk_recordings.specs.Reading.{place_in};
-ghost use Rattle.zk_listings.specs.declared.listing.RunFault.TheVariants.{Write};
-ghost use Rattle.zk_listings.specs.Gathering.{HasTaken};
+ghost use Rattle.zk_listings.specs.{declared.listing.RunFault.TheVariants.Write, Gathering.HasTaken};
 ghost use Rattle.zk_listings.specs.declared.listing.Listing.TheVariants.{All, Last};
 ghost use Rattle.zk_listings.specs.Running.{AreReady, LeavesDevices, OnRead, HasFoundWith, HasBegunLines, HasListed, HasReached, HasStopped};
 

@@ -2,11 +2,8 @@
 //! whole, so that they aren't copied.
 ghost use Rattle.std.specs.Prelude.{◌≡◌, ◌≢◌, ◌+◌, ◌^◌, ◌<◌, ◌≤◌, ◌++◌, [], None, List, ℕ, pos, IfOk, IsTrue, IfSome, length};
 ghost use Rattle.zk_frames.specs.Framing.{IsBeginning};
-ghost use Rattle.zk_talk.specs.Fault.{side_limit};
-ghost use Rattle.zk_talk.specs.History.{on};
-ghost use Rattle.zk_talk.specs.declared.limits.Limits.{Limits as limits_of};
-ghost use Rattle.zk_listings.specs.declared.listing.Listing.TheVariants.{Last};
-ghost use Rattle.zk_listings.specs.Following.{Takes};
+ghost use Rattle.zk_talk.specs.{Fault.side_limit, History.on, declared.limits.Limits.Limits as limits_of};
+ghost use Rattle.zk_listings.specs.{declared.listing.Listing.TheVariants.Last, Following.Takes};
 ghost use Rattle.zk_listings.specs.Gathering.{Begins, Gathers, GathersIn, GivesUp, IsNextRead, StepsBut, TakesRead, Turns};
 ghost use Rattle.zk_recordings.specs.Reading.{IsInContent, content_of, place_in};
 

@@ -1,8 +1,7 @@
 //! `RunFault`, `Listing`: what a run writes, and why it fails.
 ghost use Rattle.std.specs.Prelude.{◌≡◌, ◌++◌, OnOk};
 ghost use Rattle.std.specs.Option.{option_to_list};
-ghost use Rattle.zk_listings.specs.Lines.{text_of};
-ghost use Rattle.zk_listings.specs.declared.listing.Listing.TheVariants.{All};
+ghost use Rattle.zk_listings.specs.{Lines.text_of, declared.listing.Listing.TheVariants.All};
 
 use crate::streams::Failed;
 use std::alloc::AllocError;

@@ -1,9 +1,6 @@
 //! `Progress`: a recording that is read block by block, and the conversation in it.
 ghost use Rattle.std.specs.Prelude.{◌≡◌, ◌≢◌, ◌+◌, ◌^◌, ◌<◌, ◌≤◌, ℕ, List, [], Some, None, IfOk, IfSome, length, take, drop};
-ghost use Rattle.zk_talk.specs.Held.{Message};
-ghost use Rattle.zk_talk.specs.Ending.{IsEnding};
-ghost use Rattle.zk_talk.specs.History.{History, on};
-ghost use Rattle.zk_talk.specs.declared.message.Fault.{Fault as fault_of};
+ghost use Rattle.zk_talk.specs.{Held.Message, Ending.IsEnding, History.History, History.on, declared.message.Fault.Fault as fault_of};
 ghost use Rattle.zk_records.specs.declared.op.Op.TheVariants as ops;
 ghost use Rattle.zk_answers.specs.declared.layout.Layout.TheVariants as layouts;
 ghost use Rattle.zk_listings.specs.declared.listing.Listing.TheVariants.{All, Last};

@@ -1,27 +1,16 @@
 -- What stands behind a good value of each part.
 use Rattle.std.proofs.Common.{◌≡◌, ℕ, ◌+◌, ◌<◌, ◌≤◌, inl, inr, ◌⊎◌, List, [], ◌∷◌, ◌++◌, length, take, set, get_or, map, Option, None, true, refl, sym, ap, ◌∙◌, subst, append_assoc, append-nil, arith, length-append, length-take}
-use Rattle.std.proofs.lemmas.Bool.Decides.{nat_tests}
-use Rattle.std.proofs.Math.Bridge.{le_prop}
-use Rattle.std.proofs.lemmas.Bool.{cases_Bool}
-use Rattle.std.proofs.lemmas.List.{map-append, take_more_set}
-use Rattle.std.proofs.lemmas.Slice.Eq.{bytes_eq-Decides}
+use Rattle.std.proofs.{lemmas.Bool.Decides.nat_tests, Math.Bridge.le_prop, lemmas.Bool.cases_Bool, lemmas.List.map-append, lemmas.List.take_more_set, lemmas.Slice.Eq.bytes_eq-Decides}
 use Rattle.std.specs.Str.{bytes_eq}
 use Rattle.zk_records.specs.declared.profile.Profile.{Profile as ProfileType}
-use Rattle.zk_talk.specs.declared.limits.Limits.{Limits}
-use Rattle.zk_talk.specs.declared.message.Side.{Side}
-use Rattle.zk_talk.specs.Ranges.{AreLimits}
-use Rattle.zk_recordings.specs.declared.parts.Format.{Format}
-use Rattle.zk_recordings.specs.declared.parts.Format.TheVariants.{Zkr1, Zkr2}
-use Rattle.zk_recordings.specs.declared.parts.Part.{Part}
+use Rattle.zk_talk.specs.{declared.limits.Limits.Limits, declared.message.Side.Side, Ranges.AreLimits}
+use Rattle.zk_recordings.specs.{declared.parts.Format.Format, declared.parts.Format.TheVariants.Zkr1, declared.parts.Format.TheVariants.Zkr2, declared.parts.Part.Part, Reader.Content, Reader.ReaderState}
 use Rattle.zk_recordings.specs.declared.parts.Part.TheVariants.{Letters, ClientLimit, ServerLimit, Waiting, Profile, SideByte, Time, Size}
-use Rattle.zk_recordings.specs.Reader.{Content, ReaderState}
 use Rattle.zk_recordings.specs.Parts.{number, width, is_good, is_within, letters, head_parts, piece_parts}
 use Rattle.zk_recordings.specs.HeadLimits.{limits_or, limits_by, profile_by, are_or_not}
 use Rattle.zk_recordings.specs.Recording.{IsValue, AreValues, spelled, End, Cut, IsBreakIn, IsBreak, Head, First, Second, format_of, IsHead, head_bytes, head_limits, Piece, piece_values, IsTimed, piece_bytes, side_byte, no_time, Place, AtLetters, InHead, InPieces, parts_at, IsPlace, front, Recording, Breaks, Ends, Spells, place_of, behind, nothing}
 use Rattle.zk_recordings.specs.Reading.{chosen, HasHead, HasHeadAt, HasTime, before_size, AtPart, then_at, in_head, within, ReadsOn}
-use Rattle.zk_recordings.proofs.Any.{other-letters}
-use Rattle.zk_recordings.proofs.Stages.{cut_in, at-side, has-same, to-next, next-bytes, spelled-snoc}
-use Rattle.zk_recordings.proofs.Walks.{length-spelled}
+use Rattle.zk_recordings.proofs.{Any.other-letters, Stages.cut_in, Stages.at-side, Stages.has-same, Stages.to-next, Stages.next-bytes, Stages.spelled-snoc, Walks.length-spelled}
 
 -- ---- letters
 

@@ -1,21 +1,12 @@
 -- All bytes are a recording, and what a recording holds stands first in what longer bytes hold.
 use Rattle.std.proofs.Common.{◌≡◌, ℕ, ◌+◌, ◌-◌, ◌<◌, ◌≤◌, inl, inr, zero, suc, List, [], ◌∷◌, ◌++◌, length, take, drop, Bool, true, false, ◌||◌, cond, refl, sym, ap, ◌∙◌, subst, append_assoc, append-nil, arith, length-append, length-take, length-drop}
-use Rattle.std.specs.List.{flat_map}
-use Rattle.std.specs.Str.{bytes_eq}
-use Rattle.std.proofs.lemmas.Bool.{cases_lt, cases_Bool, false≢true}
-use Rattle.std.proofs.lemmas.List.{take-append-drop, take_all}
-use Rattle.std.proofs.lemmas.List.Elements.{All-append}
-use Rattle.std.proofs.lemmas.Slice.Eq.{bytes_eq-Decides}
-use Rattle.std.proofs.Math.Seq.{take-append-add}
-use Rattle.zk_talk.specs.declared.limits.Limits.{Limits}
+use Rattle.std.specs.{List.flat_map, Str.bytes_eq}
+use Rattle.std.proofs.{lemmas.Bool.cases_lt, lemmas.Bool.cases_Bool, lemmas.Bool.false≢true, lemmas.List.take-append-drop, lemmas.List.take_all, lemmas.List.Elements.All-append, lemmas.Slice.Eq.bytes_eq-Decides, Math.Seq.take-append-add}
+use Rattle.zk_talk.specs.{declared.limits.Limits.Limits, History.History, History.on}
 use Rattle.zk_talk.specs.declared.message.Side.TheVariants.{Client, Server}
-use Rattle.zk_talk.specs.History.{History, on}
-use Rattle.zk_recordings.specs.declared.parts.Format.{Format}
-use Rattle.zk_recordings.specs.declared.parts.Format.TheVariants.{Zkr1, Zkr2}
-use Rattle.zk_recordings.specs.declared.parts.Part.TheVariants.{Letters, SideByte}
-use Rattle.zk_recordings.specs.Parts.{letters, number, head_parts, piece_parts, is_good}
+use Rattle.zk_recordings.specs.{declared.parts.Format.Format, declared.parts.Format.TheVariants.Zkr1, declared.parts.Format.TheVariants.Zkr2, declared.parts.Part.TheVariants.Letters, declared.parts.Part.TheVariants.SideByte}
+use Rattle.zk_recordings.specs.{Parts.letters, Parts.number, Parts.head_parts, Parts.piece_parts, Parts.is_good, Reading.IsHeaded}
 use Rattle.zk_recordings.specs.Recording.{IsValue, AreValues, spelled, break_bytes, Head, First, Second, format_of, head_values, head_limits, IsHead, head_bytes, Piece, piece_values, IsTimed, IsBegun, IsPiece, piece_bytes, piece_history, side_byte, AtLetters, InHead, InPieces, AreIn, front, place_of, history_of, limits_of, Recording, Breaks, Ends, Spells}
-use Rattle.zk_recordings.specs.Reading.{IsHeaded}
 use Rattle.zk_recordings.proofs.Lists.{flat_map-snoc, All-one, on-append}
 use Rattle.zk_recordings.proofs.Walks.{Walk, Walked, Broke, walk, walk-is, IsWalk, spelled-append, length-spelled, cond-true, cond-false, lt-true, lt-false}
 use Rattle.zk_recordings.proofs.Once.{with_content, side_in, piece_with, sized, choose, parse, parse_all, behind_numbers, behind_letters, recorded}

@@ -1,9 +1,6 @@
 -- Within a content.
 use Rattle.std.proofs.Common.{◌≡◌, ℕ, ◌+◌, ◌<◌, List, length, subst, arith}
-use Rattle.zk_recordings.specs.declared.parts.Part.TheVariants.{SideByte}
-use Rattle.zk_recordings.specs.Reader.{Content, ReaderState}
-use Rattle.zk_recordings.specs.Recording.{Recording}
-use Rattle.zk_recordings.specs.Reading.{AtContent, AtStage, IsAt, ReadsContent, then_at}
+use Rattle.zk_recordings.specs.{declared.parts.Part.TheVariants.SideByte, Reader.Content, Reader.ReaderState, Recording.Recording, Reading.AtContent, Reading.AtStage, Reading.IsAt, Reading.ReadsContent, Reading.then_at}
 use Rattle.zk_recordings.proofs.Stages.{content-more, content-whole}
 
 module _ (s : ReaderState) (got : ℕ) (is : s.stage ≡ Content got) (count : ℕ) (bytes : List ℕ) (long : length bytes ≡ count) where

@@ -1,10 +1,8 @@
 -- One element more, and bytes of one side in two runs.
 use Rattle.std.proofs.Common.{◌≡◌, ◌∙◌, ap, sym, List, [], ◌∷◌, ◌++◌, ℕ, zero, suc, arith, append_assoc, append-nil}
 use Rattle.std.specs.List.{All, flat_map}
-use Rattle.std.proofs.lemmas.List.{map-append}
-use Rattle.std.proofs.lemmas.Grind.{flat_map-append}
-use Rattle.zk_talk.specs.declared.message.Side.{Side}
-use Rattle.zk_talk.specs.History.{History, on}
+use Rattle.std.proofs.{lemmas.List.map-append, lemmas.Grind.flat_map-append}
+use Rattle.zk_talk.specs.{declared.message.Side.Side, History.History, History.on}
 
 pub flat_map-snoc : {X : Type 0} {A : Type 0} (f : X → List A) (xs : List X) (x : X) → flat_map f (xs ++ x ∷ []) ≡ flat_map f xs ++ f x
 flat_map-snoc f xs x = flat_map-append f xs (x ∷ []) ∙ ap (λ l. flat_map f xs ++ l) (append-nil (f x))

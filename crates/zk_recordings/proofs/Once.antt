@@ -1,14 +1,10 @@
 -- Bytes are one recording at most: the one that is read from them.
 use Rattle.std.proofs.Common.{◌≡◌, ℕ, ◌<◌, ◌≤◌, zero, suc, List, [], ◌∷◌, ◌++◌, length, take, drop, cond, nat_lt, refl, sym, ◌∙◌, ap, append_assoc, append-nil, arith, length-append}
-use Rattle.std.specs.List.{All, flat_map}
-use Rattle.std.specs.Str.{bytes_eq}
-use Rattle.std.proofs.lemmas.List.Elements.{All-head, All-tail}
-use Rattle.std.proofs.Math.Seq.{take-append_seam, drop-append_seam}
+use Rattle.std.specs.{List.All, List.flat_map, Str.bytes_eq}
+use Rattle.std.proofs.{lemmas.List.Elements.All-head, lemmas.List.Elements.All-tail, Math.Seq.take-append_seam, Math.Seq.drop-append_seam}
 use Rattle.zk_talk.specs.declared.message.Side.{Side}
 use Rattle.zk_talk.specs.declared.message.Side.TheVariants.{Client, Server}
-use Rattle.zk_recordings.specs.declared.parts.Format.{Format}
-use Rattle.zk_recordings.specs.declared.parts.Format.TheVariants.{Zkr1, Zkr2}
-use Rattle.zk_recordings.specs.declared.parts.Part.TheVariants.{Letters}
+use Rattle.zk_recordings.specs.{declared.parts.Format.Format, declared.parts.Format.TheVariants.Zkr1, declared.parts.Format.TheVariants.Zkr2, declared.parts.Part.TheVariants.Letters}
 use Rattle.zk_recordings.specs.Parts.{letters, number, head_parts, piece_parts}
 use Rattle.zk_recordings.specs.Recording.{AreValues, spelled, Break, IsBreak, break_bytes, Head, First, Second, format_of, IsHead, head_bytes, Piece, piece_values, IsTimed, IsPiece, IsCut, piece_bytes, no_time, side_byte, AtLetters, InHead, InPieces, front, Recording, Breaks, Ends, Spells, nothing}
 use Rattle.zk_recordings.proofs.Walks.{Walk, Walked, Broke, walk, walk-values, walk-break, spelled-append, cond-true, cond-false, lt-true, lt-false}

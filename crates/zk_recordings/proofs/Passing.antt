@@ -1,18 +1,12 @@
 -- The whole head of a piece, passed at once.
 use Rattle.std.proofs.Common.{◌≡◌, ℕ, ◌+◌, ◌<◌, List, [], ◌∷◌, ◌++◌, length, take, drop, None, true, refl, sym, ap, ◌∙◌, subst, append-nil, arith, length-take}
-use Rattle.std.proofs.lemmas.Bool.Decides.{nat_tests}
-use Rattle.std.proofs.lemmas.List.{drop-drop, length-drop}
-use Rattle.std.proofs.Math.Seq.{take-add}
+use Rattle.std.proofs.{lemmas.Bool.Decides.nat_tests, lemmas.List.drop-drop, lemmas.List.length-drop, Math.Seq.take-add}
 use Rattle.zk_talk.specs.declared.message.Side.{Side}
 use Rattle.zk_talk.specs.declared.message.Side.TheVariants.{Client, Server}
-use Rattle.zk_recordings.specs.declared.parts.Format.{Format}
-use Rattle.zk_recordings.specs.declared.parts.Format.TheVariants.{Zkr1, Zkr2}
+use Rattle.zk_recordings.specs.{declared.parts.Format.Format, declared.parts.Format.TheVariants.Zkr1, declared.parts.Format.TheVariants.Zkr2, Reader.ReaderState, Parts.number, Parts.is_within, Parts.piece_parts}
 use Rattle.zk_recordings.specs.declared.parts.Part.TheVariants.{SideByte, Time, Size}
-use Rattle.zk_recordings.specs.Reader.{ReaderState}
-use Rattle.zk_recordings.specs.Parts.{number, is_within, piece_parts}
 use Rattle.zk_recordings.specs.Recording.{IsValue, AreValues, Cut, format_of, Piece, piece_values, IsTimed, piece_bytes, side_byte, no_time, InPieces, Recording, Breaks, Ends, Spells, place_of, front, behind, nothing}
-use Rattle.zk_recordings.specs.Heads.{IsTimeIn, PassesHead}
-use Rattle.zk_recordings.specs.Reading.{HasHeadAt, HasHead, AtFixed, within, ReadsOn}
+use Rattle.zk_recordings.specs.{Heads.IsTimeIn, Heads.PassesHead, Reading.HasHeadAt, Reading.HasHead, Reading.AtFixed, Reading.within, Reading.ReadsOn}
 
 -- the time that a piece has, and its size
 abbrev time_bytes : Format → List ℕ → List ℕ

@@ -1,21 +1,13 @@
 -- One step of the reader of recordings.
 use Rattle.std.proofs.Common.{◌≡◌, ◌≢◌, ℕ, ◌+◌, ◌<◌, ◌≤◌, List, [], ◌∷◌, ◌++◌, length, take, set, None, Some, false, refl, sym, ap, ◌∙◌, subst, append_assoc, append-nil, arith, length-append, length-take}
-use Rattle.std.proofs.lemmas.List.{take_more_set, map-append}
-use Rattle.std.proofs.lemmas.Option.{none-some}
-use Rattle.std.proofs.Math.ListN.{length-set}
+use Rattle.std.proofs.{lemmas.List.take_more_set, lemmas.List.map-append, lemmas.Option.none-some, Math.ListN.length-set}
 use Rattle.zk_talk.specs.History.{on}
-use Rattle.zk_recordings.specs.declared.parts.Damage.TheVariants.{Short}
-use Rattle.zk_recordings.specs.declared.parts.DamageAt.{DamageAt}
-use Rattle.zk_recordings.specs.declared.parts.Format.{Format}
-use Rattle.zk_recordings.specs.declared.parts.Format.TheVariants.{Zkr1, Zkr2}
-use Rattle.zk_recordings.specs.declared.parts.Part.{Part}
+use Rattle.zk_recordings.specs.{declared.parts.Damage.TheVariants.Short, declared.parts.DamageAt.DamageAt, declared.parts.Format.Format, declared.parts.Format.TheVariants.Zkr1, declared.parts.Format.TheVariants.Zkr2}
+use Rattle.zk_recordings.specs.{declared.parts.Part.Part, Reader.Content, Reader.Damaged, Reader.Fixed, Reader.ReaderStage, Reader.ReaderState, Parts.width, Parts.is_good, Parts.damage_bad, Parts.head_parts, Parts.piece_parts}
 use Rattle.zk_recordings.specs.declared.parts.Part.TheVariants.{Letters, SideByte, Time, Size}
-use Rattle.zk_recordings.specs.Reader.{Content, Damaged, Fixed, ReaderStage, ReaderState}
-use Rattle.zk_recordings.specs.Parts.{width, is_good, damage_bad, head_parts, piece_parts}
 use Rattle.zk_recordings.specs.Recording.{spelled, End, Cut, Bad, IsEnd, end_bytes, Break, IsBreakIn, IsBreak, Head, First, Second, format_of, Piece, piece_values, IsPiece, piece_bytes, piece_history, Place, AtLetters, InHead, InPieces, parts_at, front, Recording, Breaks, Ends, Spells, place_of, begun_of, begun_history, damage_at, behind, nothing}
 use Rattle.zk_recordings.specs.Reading.{chosen, HasHead, HasHeadAt, Knows, AtPart, AtFixed, AtContent, IsDecidedBy, AtStage, IsAt, then_at, MayHold, within, ends, ReadsOn}
-use Rattle.zk_recordings.proofs.Any.{same-values, begun-with, bytes-with, front-snoc, are-snoc}
-use Rattle.zk_recordings.proofs.Walks.{spelled-append, length-spelled}
+use Rattle.zk_recordings.proofs.{Any.same-values, Any.begun-with, Any.bytes-with, Any.front-snoc, Any.are-snoc, Walks.spelled-append, Walks.length-spelled}
 
 -- cut within a part
 abbrev pub cut_in : Place → List (List ℕ) → Part → List ℕ → Recording

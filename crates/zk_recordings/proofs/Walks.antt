@@ -1,10 +1,7 @@
 -- Values of parts are read from bytes in one way.
 use Rattle.std.proofs.Common.{◌≡◌, ℕ, ◌+◌, ◌<◌, ◌≤◌, inl, inr, List, [], ◌∷◌, ◌++◌, length, take, drop, Bool, true, false, cond, nat_lt, refl, sym, ◌∙◌, ap, subst, append_assoc, arith, length-append, length-take}
-use Rattle.std.proofs.lemmas.Bool.{cases_lt, cases_Bool}
-use Rattle.std.proofs.lemmas.Bool.Decides.{nat_tests}
-use Rattle.std.proofs.lemmas.List.{take_at, drop_at, take-append-drop}
-use Rattle.zk_recordings.specs.declared.parts.Part.{Part}
-use Rattle.zk_recordings.specs.Parts.{width, is_good}
+use Rattle.std.proofs.{lemmas.Bool.cases_lt, lemmas.Bool.cases_Bool, lemmas.Bool.Decides.nat_tests, lemmas.List.take_at, lemmas.List.drop_at, lemmas.List.take-append-drop}
+use Rattle.zk_recordings.specs.{declared.parts.Part.Part, Parts.width, Parts.is_good}
 use Rattle.zk_recordings.specs.Recording.{IsValue, AreValues, spelled, End, Cut, Bad, end_bytes, Break, IsBreakIn, IsBreak, break_bytes}
 
 pub data Walk : Type 0 where

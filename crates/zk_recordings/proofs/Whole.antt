@@ -1,17 +1,11 @@
 -- A piece that is whole at the front of a block: two steps of the reader.
 use Rattle.std.proofs.Common.{◌≡◌, ℕ, ◌+◌, ◌-◌, List, [], ◌++◌, length, take, drop, None, Some, refl, sym, ap, ◌∙◌, subst, arith, length-take}
-use Rattle.std.proofs.lemmas.List.{length-drop}
-use Rattle.std.proofs.lemmas.Option.{none-some}
-use Rattle.zk_recordings.specs.declared.heads.PieceHead.{PieceHead}
-use Rattle.zk_recordings.specs.declared.heads.WholePiece.{WholePiece}
-use Rattle.zk_recordings.specs.declared.parts.Part.TheVariants.{SideByte}
-use Rattle.zk_recordings.specs.Reader.{Content, Fixed, ReaderState}
+use Rattle.std.proofs.{lemmas.List.length-drop, lemmas.Option.none-some}
+use Rattle.zk_recordings.specs.{declared.heads.PieceHead.PieceHead, declared.heads.WholePiece.WholePiece, declared.parts.Part.TheVariants.SideByte, Reader.Content, Reader.Fixed, Reader.ReaderState, Heads.PassesHead}
 use Rattle.zk_recordings.specs.Recording.{Cut, InPieces, Recording, Breaks, place_of, no_time, nothing}
-use Rattle.zk_recordings.specs.Heads.{PassesHead}
 use Rattle.zk_recordings.specs.Pieces.{IsHeadIn, IsPieceIn, ReadsPiece}
 use Rattle.zk_recordings.specs.Reading.{HasHead, HasHeadAt, AtFixed, AtStage, IsAt, IsDecidedBy, IsSound, IsSoundAt, IsBetweenOf, IsNeverBetween, IsUndamaged, ReadsOn, format_at, then_at}
-use Rattle.zk_recordings.proofs.Passing.{passes-head}
-use Rattle.zk_recordings.proofs.Stages.{content-whole, has-same, short-only}
+use Rattle.zk_recordings.proofs.{Passing.passes-head, Stages.content-whole, Stages.has-same, Stages.short-only}
 
 -- ---- the head
 

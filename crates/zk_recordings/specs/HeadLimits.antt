@@ -1,12 +1,10 @@
 -- The limits that a head's numbers make.
 use Rattle.std.specs.Prelude.{ℕ, ◌⊎◌, ◌&&◌, ◌==◌, if◌then◌else◌}
 use Rattle.std.proofs.Common.{arith, inl, inr}
-use Rattle.std.proofs.lemmas.Bool.{cases_Bool}
-use Rattle.std.proofs.lemmas.Bool.Decides.{nat_tests}
+use Rattle.std.proofs.{lemmas.Bool.cases_Bool, lemmas.Bool.Decides.nat_tests}
 use Rattle.zk_records.specs.declared.profile.Profile.{Profile}
 use Rattle.zk_records.specs.declared.profile.Profile.TheVariants.{V34, V35}
-use Rattle.zk_talk.specs.declared.limits.Limits.{Limits}
-use Rattle.zk_talk.specs.Ranges.{AreLimits}
+use Rattle.zk_talk.specs.{declared.limits.Limits.Limits, Ranges.AreLimits}
 use Rattle.zk_recordings.specs.Parts.{is_within}
 
 pub are_or_not : (client server waiting : ℕ) → AreLimits client server waiting ⊎ (AreLimits client server waiting → ⊥)

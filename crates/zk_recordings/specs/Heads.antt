@@ -1,12 +1,8 @@
 -- The head of a piece, where it is whole at the front of a block.
 use Rattle.std.specs.Prelude.{◌≡◌, ℕ, ◌+◌, ◌≤◌, List, [], ◌∷◌, length, take, drop, true}
 use Rattle.zk_talk.specs.declared.message.Side.{Side}
-use Rattle.zk_recordings.specs.declared.parts.Format.{Format}
-use Rattle.zk_recordings.specs.declared.parts.Format.TheVariants.{Zkr1, Zkr2}
-use Rattle.zk_recordings.specs.declared.parts.Part.TheVariants.{Time, Size}
-use Rattle.zk_recordings.specs.Reader.{Content, ReaderState}
-use Rattle.zk_recordings.specs.Parts.{number, is_good}
-use Rattle.zk_recordings.specs.Recording.{side_byte}
+use Rattle.zk_recordings.specs.{declared.parts.Format.Format, declared.parts.Format.TheVariants.Zkr1, declared.parts.Format.TheVariants.Zkr2, declared.parts.Part.TheVariants.Time, declared.parts.Part.TheVariants.Size}
+use Rattle.zk_recordings.specs.{Reader.Content, Reader.ReaderState, Parts.number, Parts.is_good, Recording.side_byte}
 
 -- a good time comes after a side's byte, and the size after it; the first format has no time
 abbrev pub IsTimeIn : Format → List ℕ → ℕ → Type 0

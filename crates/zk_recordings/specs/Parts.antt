@@ -1,14 +1,10 @@
 -- The parts of recordings whose width is fixed, row by row: how wide each is, which values are good, and which damage a
 -- recording has that ends in it; and the formats, as lists of parts.
 use Rattle.std.specs.Prelude.{ℕ, List, [], ◌∷◌, Option, None, Some, Bool, nat_le, nat_lt, ◌&&◌, ◌||◌, ◌^◌}
-use Rattle.std.specs.Int.{from_be_bytes}
-use Rattle.std.specs.Str.{bytes_eq}
+use Rattle.std.specs.{Int.from_be_bytes, Str.bytes_eq}
 use Rattle.std.proofs.Common.{w32, w64}
-use Rattle.zk_recordings.specs.declared.parts.Damage.{Damage}
+use Rattle.zk_recordings.specs.{declared.parts.Damage.Damage, declared.parts.Format.Format, declared.parts.Format.TheVariants.Zkr1, declared.parts.Format.TheVariants.Zkr2, declared.parts.Part.Part}
 use Rattle.zk_recordings.specs.declared.parts.Damage.TheVariants.{BadHead, BadLimits, BadSide, BadTime, BadSize, Short}
-use Rattle.zk_recordings.specs.declared.parts.Format.{Format}
-use Rattle.zk_recordings.specs.declared.parts.Format.TheVariants.{Zkr1, Zkr2}
-use Rattle.zk_recordings.specs.declared.parts.Part.{Part}
 use Rattle.zk_recordings.specs.declared.parts.Part.TheVariants.{Letters, ClientLimit, ServerLimit, Waiting, Profile, SideByte, Time, Size}
 
 -- the letters ZKR1, and ZKR2

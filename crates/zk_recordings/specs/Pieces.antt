@@ -1,15 +1,8 @@
 -- A piece that is whole at the front of a block, and what it does to a reader.
 use Rattle.std.specs.Prelude.{◌≡◌, ℕ, ◌+◌, ◌≤◌, List, [], ◌∷◌, length, take, drop, None, Some, true}
 use Rattle.zk_talk.specs.declared.message.Side.{Side}
-use Rattle.zk_recordings.specs.declared.heads.PieceHead.{PieceHead}
-use Rattle.zk_recordings.specs.declared.heads.WholePiece.{WholePiece}
-use Rattle.zk_recordings.specs.declared.parts.Format.{Format}
-use Rattle.zk_recordings.specs.declared.parts.Part.TheVariants.{Size}
-use Rattle.zk_recordings.specs.Reader.{ReaderState}
-use Rattle.zk_recordings.specs.Parts.{number, is_good}
-use Rattle.zk_recordings.specs.Recording.{Recording, side_byte}
-use Rattle.zk_recordings.specs.Heads.{IsTimeIn}
-use Rattle.zk_recordings.specs.Reading.{IsAt, IsBetweenOf, IsNeverBetween, IsUndamaged, ReadsOn}
+use Rattle.zk_recordings.specs.{declared.heads.PieceHead.PieceHead, declared.heads.WholePiece.WholePiece, declared.parts.Format.Format, declared.parts.Part.TheVariants.Size, Reader.ReaderState, Parts.number, Parts.is_good}
+use Rattle.zk_recordings.specs.{Recording.Recording, Recording.side_byte, Heads.IsTimeIn, Reading.IsAt, Reading.IsBetweenOf, Reading.IsNeverBetween, Reading.IsUndamaged, Reading.ReadsOn}
 
 -- the block begins with this head of a piece, each part of it good
 pub record IsHeadIn (format : Format) (block : List ℕ) (head : PieceHead) : Type 0 where

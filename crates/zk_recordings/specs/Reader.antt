@@ -1,13 +1,8 @@
 -- What a reader of recordings knows of what it has read.
 use Rattle.std.specs.Prelude.{ℕ, List, Option}
-use Rattle.zk_talk.specs.declared.limits.Limits.{Limits}
-use Rattle.zk_talk.specs.declared.message.Side.{Side}
-use Rattle.zk_recordings.specs.declared.parts.DamageAt.{DamageAt}
-use Rattle.zk_recordings.specs.declared.parts.Format.{Format}
-use Rattle.zk_recordings.specs.declared.parts.Part.{Part}
-use Rattle.zk_recordings.specs.declared.recording.Stage.{Stage}
+use Rattle.zk_talk.specs.{declared.limits.Limits.Limits, declared.message.Side.Side}
+use Rattle.zk_recordings.specs.{declared.parts.DamageAt.DamageAt, declared.parts.Format.Format, declared.parts.Part.Part, declared.recording.Stage.Stage, declared.recording.State.State}
 use Rattle.zk_recordings.specs.declared.recording.Stage.TheVariants.{Fixed as fixed, Content as content, Damaged as damaged}
-use Rattle.zk_recordings.specs.declared.recording.State.{State}
 
 -- in a part, of which it has the first of these eight bytes, by their number; in a content, of which it has read this many bytes; or after a damage
 pub data ReaderStage : Type 0 where

@@ -1,20 +1,10 @@
 -- What a reader of recordings has read, by its stage.
 use Rattle.std.specs.Prelude.{◌≡◌, ◌≢◌, ℕ, ◌+◌, ◌<◌, ◌≤◌, List, [], ◌∷◌, ◌++◌, length, take, map, Option, None, Some}
-use Rattle.zk_talk.specs.declared.limits.Limits.{Limits}
-use Rattle.zk_talk.specs.declared.message.Side.{Side}
-use Rattle.zk_talk.specs.History.{History, on}
-use Rattle.zk_recordings.specs.declared.parts.Damage.TheVariants.{Short}
-use Rattle.zk_recordings.specs.declared.parts.DamageAt.{DamageAt}
-use Rattle.zk_recordings.specs.declared.parts.Format.{Format}
-use Rattle.zk_recordings.specs.declared.parts.Format.TheVariants.{Zkr1, Zkr2}
-use Rattle.zk_recordings.specs.declared.parts.Part.{Part}
+use Rattle.zk_talk.specs.{declared.limits.Limits.Limits, declared.message.Side.Side, History.History, History.on}
+use Rattle.zk_recordings.specs.{declared.parts.Damage.TheVariants.Short, declared.parts.DamageAt.DamageAt, declared.parts.Format.Format, declared.parts.Format.TheVariants.Zkr1, declared.parts.Format.TheVariants.Zkr2}
+use Rattle.zk_recordings.specs.{declared.parts.Part.Part, Reader.Content, Reader.Damaged, Reader.Fixed, Reader.ReaderStage, Reader.ReaderState, Parts.number, Parts.width}
 use Rattle.zk_recordings.specs.declared.parts.Part.TheVariants.{Letters, ClientLimit, ServerLimit, Waiting, Profile, SideByte, Time, Size}
-use Rattle.zk_recordings.specs.Reader.{Content, Damaged, Fixed, ReaderStage, ReaderState}
-use Rattle.zk_recordings.specs.Parts.{number, width}
-use Rattle.zk_recordings.specs.Recording.{Head, format_of, head_limits, Piece, piece_values, piece_bytes}
-use Rattle.zk_recordings.specs.Recording.{piece_history, side_byte, no_time, Place, AtLetters, InHead, InPieces, Cut}
-use Rattle.zk_recordings.specs.Recording.{Recording, Breaks, Ends, Spells, place_of, begun_of, begun_history}
-use Rattle.zk_recordings.specs.Recording.{damage_of, behind, nothing}
+use Rattle.zk_recordings.specs.Recording.{Head, format_of, head_limits, Piece, piece_values, piece_bytes, piece_history, side_byte, no_time, Place, AtLetters, InHead, InPieces, Cut, Recording, Breaks, Ends, Spells, place_of, begun_of, begun_history, damage_of, behind, nothing}
 
 -- the limits that a head has, else the options
 abbrev pub chosen : Option Limits → Limits → Limits

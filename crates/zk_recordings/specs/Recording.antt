@@ -1,18 +1,10 @@
 -- What a recording is: a head, whole pieces, and what comes after the last of them. It is of one of two formats.
 use Rattle.std.specs.Prelude.{◌≡◌, ℕ, ◌+◌, ◌<◌, List, [], ◌∷◌, ◌++◌, length, Option, Some, true, false}
-use Rattle.std.specs.List.{All, flat_map}
-use Rattle.std.specs.Option.{option_map}
-use Rattle.zk_talk.specs.declared.limits.Limits.{Limits}
-use Rattle.zk_talk.specs.declared.message.Side.{Side}
+use Rattle.std.specs.{List.All, List.flat_map, Option.option_map}
+use Rattle.zk_talk.specs.{declared.limits.Limits.Limits, declared.message.Side.Side, History.History, History.on}
 use Rattle.zk_talk.specs.declared.message.Side.TheVariants.{Client, Server}
-use Rattle.zk_talk.specs.History.{History, on}
-use Rattle.zk_recordings.specs.declared.parts.Damage.{Damage}
-use Rattle.zk_recordings.specs.declared.parts.Damage.TheVariants.{Short}
-use Rattle.zk_recordings.specs.declared.parts.DamageAt.{DamageAt}
-use Rattle.zk_recordings.specs.declared.parts.Format.{Format}
-use Rattle.zk_recordings.specs.declared.parts.Format.TheVariants.{Zkr1, Zkr2}
-use Rattle.zk_recordings.specs.declared.parts.Part.{Part}
-use Rattle.zk_recordings.specs.declared.parts.Part.TheVariants.{Letters, SideByte}
+use Rattle.zk_recordings.specs.{declared.parts.Damage.Damage, declared.parts.Damage.TheVariants.Short, declared.parts.DamageAt.DamageAt, declared.parts.Format.Format}
+use Rattle.zk_recordings.specs.{declared.parts.Format.TheVariants.Zkr1, declared.parts.Format.TheVariants.Zkr2, declared.parts.Part.Part, declared.parts.Part.TheVariants.Letters, declared.parts.Part.TheVariants.SideByte}
 use Rattle.zk_recordings.specs.Parts.{letters, number, width, is_good, damage_bad, damage_cut, head_parts, piece_parts}
 use Rattle.zk_recordings.specs.HeadLimits.{limits_or, profile_by}
 

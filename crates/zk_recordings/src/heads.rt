@@ -1,12 +1,8 @@
 //! The limits of a head; the head of a piece, and a whole piece, read at once where a block begins with them.
 ghost use Rattle.std.specs.Prelude.{◌≡◌, ◌≤◌, ◌+◌, true, IfSome, length, take, drop};
-ghost use Rattle.zk_recordings.specs.declared.parts.Part.TheVariants.{Size};
-ghost use Rattle.zk_recordings.specs.HeadLimits.{limits_or, profile_by};
+ghost use Rattle.zk_recordings.specs.{declared.parts.Part.TheVariants.Size, HeadLimits.limits_or, HeadLimits.profile_by};
 ghost use Rattle.zk_recordings.specs.Parts as parts;
-ghost use Rattle.zk_recordings.specs.Recording.{side_byte};
-ghost use Rattle.zk_recordings.specs.Reading.{chosen};
-ghost use Rattle.zk_recordings.specs.Heads.{IsTimeIn};
-ghost use Rattle.zk_recordings.specs.Pieces.{IsHeadIn, IsPieceIn};
+ghost use Rattle.zk_recordings.specs.{Recording.side_byte, Reading.chosen, Heads.IsTimeIn, Pieces.IsHeadIn, Pieces.IsPieceIn};
 
 use crate::parts::{Format, Part, number};
 use zk_records::Profile;

@@ -1,13 +1,10 @@
 //! `RecordingReader`: reads recordings of both formats, a head, and pieces of either side.
 ghost use Rattle.std.specs.Prelude.{◌≡◌, ◌+◌, ◌-◌, ◌^◌, ◌<◌, ◌≤◌, ◌∷◌, ℕ, List, [], true, None, Some, MatchOption, IfSome, IfNone, length, take, drop};
-ghost use Rattle.zk_recordings.specs.declared.parts.DamageAt.{DamageAt};
-ghost use Rattle.zk_recordings.specs.declared.parts.Format.TheVariants.{Zkr1, Zkr2};
+ghost use Rattle.zk_recordings.specs.{declared.parts.DamageAt.DamageAt, declared.parts.Format.TheVariants.Zkr1, declared.parts.Format.TheVariants.Zkr2};
 ghost use Rattle.zk_recordings.specs.declared.parts.Part.TheVariants.{Letters, ClientLimit, SideByte, Time, Size};
 ghost use Rattle.zk_recordings.specs.Parts as parts;
-ghost use Rattle.zk_recordings.specs.Reader.{Content, state_of};
+ghost use Rattle.zk_recordings.specs.{Reader.Content, Reader.state_of, Heads.PassesHead, Pieces.ReadsPiece};
 ghost use Rattle.zk_recordings.specs.Recording.{Recording, Breaks, AtLetters, Cut, damage_of, limits_of, place_of, side_byte};
-ghost use Rattle.zk_recordings.specs.Heads.{PassesHead};
-ghost use Rattle.zk_recordings.specs.Pieces.{ReadsPiece};
 ghost use Rattle.zk_recordings.specs.Reading.{GoesOnFrom, Accepts, IsAt, IsBetweenOf, IsNeverBetween, IsDamagedBy, IsUndamaged, IsHeaded, IsSound, ReadsOn, place_in, then_at};
 
 use crate::heads::{WholePiece, head_in, head_limits, piece_in, profile_of};

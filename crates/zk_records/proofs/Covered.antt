@@ -1,10 +1,8 @@
 -- Items of a record's layout are some record's.
 use Rattle.std.proofs.Common.{◌≡◌, subst, ◌∙◌, refl}
 use Rattle.std.specs.Prelude.{ℤ, Bool}
-use Rattle.zk_jute.specs.Held.{Text, Blob, Vector}
-use Rattle.zk_records.specs.Held.{Id, Acl}
-use Rattle.zk_records.specs.declared.stat.Stat.{Stat}
-use Rattle.zk_jute.specs.Layout.{Unfolds}
+use Rattle.zk_jute.specs.{Held.Text, Held.Blob, Held.Vector, Layout.Unfolds}
+use Rattle.zk_records.specs.{Held.Id, Held.Acl, declared.stat.Stat.Stat}
 use Rattle.zk_jute.specs.Wired.{Wired, ◌and◌, int, long, boolean, ustring, buffer, vector}
 use Rattle.zk_jute.proofs.Covers.{Covers, field, joined, int_covered, long_covered, bool_covered, text_covered, blob_covered, vector_covered}
 use Rattle.zk_records.specs.Made as made

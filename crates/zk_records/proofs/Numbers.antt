@@ -1,16 +1,11 @@
 -- Each operation and each part has a number of its own.
 use Rattle.std.specs.Prelude.{◌≡◌, ◌≢◌, ◌↔◌, ℤ, pos, List, map, Option, Some, IfSome, Bool, true, false, refl}
-use Rattle.std.specs.List.{All}
+use Rattle.std.specs.{List.All, Map.lookup, Ordering.int_eq}
 use Rattle.std.proofs.Common.{sym, ap, subst, ◌∙◌}
-use Rattle.std.proofs.lemmas.Map.Views.{IfSome-lookup_from_All}
-use Rattle.std.proofs.lemmas.Bool.Decides.{Decides-int_eq, not_from_Decides}
-use Rattle.std.specs.Map.{lookup}
-use Rattle.std.specs.Ordering.{int_eq}
-use Rattle.zk_records.specs.declared.op.Op.{Op}
+use Rattle.std.proofs.{lemmas.Map.Views.IfSome-lookup_from_All, lemmas.Bool.Decides.Decides-int_eq, lemmas.Bool.Decides.not_from_Decides}
+use Rattle.zk_records.specs.{declared.op.Op.Op, declared.op.PartOp.PartOp, declared.profile.Profile.Profile}
 use Rattle.zk_records.specs.declared.op.Op.TheVariants as ops
-use Rattle.zk_records.specs.declared.op.PartOp.{PartOp}
 use Rattle.zk_records.specs.declared.op.PartOp.TheVariants as parts
-use Rattle.zk_records.specs.declared.profile.Profile.{Profile}
 use Rattle.zk_records.specs.declared.profile.Profile.TheVariants as profiles
 use Rattle.zk_records.specs.Codes.{op_row, op_number, all_ops, IsSince, HasOp, part_number, all_parts}
 

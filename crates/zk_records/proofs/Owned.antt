@@ -1,9 +1,7 @@
 -- What is copied out of a payload, element by element.
 use Rattle.std.proofs.Common.{◌≡◌, List, map, refl, sym, ◌∙◌, ap}
-use Rattle.std.proofs.lemmas.List.{map-id}
+use Rattle.std.proofs.{lemmas.List.map-id, lemmas.Iterator.items_from_drains, lemmas.Iterator.Consumers.YieldsList-from_first}
 use Rattle.std.specs.Iterator.{Drains, YieldsFirst}
-use Rattle.std.proofs.lemmas.Iterator.{items_from_drains}
-use Rattle.std.proofs.lemmas.Iterator.Consumers.{YieldsList-from_first}
 use Rattle.zk_jute.specs.declared.value.Nullable.TheVariants as nullable
 use Rattle.zk_jute.specs.Held.{Vector}
 use Rattle.zk_records.specs.Owned.{each}

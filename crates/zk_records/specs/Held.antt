@@ -1,23 +1,9 @@
 -- The records that hold texts, blobs or lists, owned or borrowed.
 use Rattle.zk_jute.specs.Held.{Text, Blob, Vector}
-use Rattle.zk_records.specs.declared.acl.IdOf.{IdOf}
-use Rattle.zk_records.specs.declared.acl.AclOf.{AclOf}
-use Rattle.zk_records.specs.declared.connect.ConnectRequestOf.{ConnectRequestOf}
-use Rattle.zk_records.specs.declared.connect.ConnectResponseOf.{ConnectResponseOf}
-use Rattle.zk_records.specs.declared.event.WatcherEventOf.{WatcherEventOf}
-use Rattle.zk_records.specs.declared.ask.CreateAskOf.{CreateAskOf}
-use Rattle.zk_records.specs.declared.ask.DeleteAskOf.{DeleteAskOf}
-use Rattle.zk_records.specs.declared.ask.SetDataAskOf.{SetDataAskOf}
-use Rattle.zk_records.specs.declared.ask.SetAclAskOf.{SetAclAskOf}
-use Rattle.zk_records.specs.declared.ask.CheckAskOf.{CheckAskOf}
-use Rattle.zk_records.specs.declared.query.WatchAskOf.{WatchAskOf}
-use Rattle.zk_records.specs.declared.query.PathAskOf.{PathAskOf}
-use Rattle.zk_records.specs.declared.session.AuthAskOf.{AuthAskOf}
-use Rattle.zk_records.specs.declared.session.SetWatchesAskOf.{SetWatchesAskOf}
-use Rattle.zk_records.specs.declared.body.DataBodyOf.{DataBodyOf}
-use Rattle.zk_records.specs.declared.body.AclBodyOf.{AclBodyOf}
-use Rattle.zk_records.specs.declared.body.ChildrenBodyOf.{ChildrenBodyOf}
-use Rattle.zk_records.specs.declared.body.CreateBodyOf.{CreateBodyOf}
+use Rattle.zk_records.specs.{declared.acl.IdOf.IdOf, declared.acl.AclOf.AclOf, declared.connect.ConnectRequestOf.ConnectRequestOf, declared.connect.ConnectResponseOf.ConnectResponseOf, declared.event.WatcherEventOf.WatcherEventOf}
+use Rattle.zk_records.specs.{declared.ask.CreateAskOf.CreateAskOf, declared.ask.DeleteAskOf.DeleteAskOf, declared.ask.SetDataAskOf.SetDataAskOf, declared.ask.SetAclAskOf.SetAclAskOf, declared.ask.CheckAskOf.CheckAskOf}
+use Rattle.zk_records.specs.{declared.query.WatchAskOf.WatchAskOf, declared.query.PathAskOf.PathAskOf, declared.session.AuthAskOf.AuthAskOf, declared.session.SetWatchesAskOf.SetWatchesAskOf, declared.body.DataBodyOf.DataBodyOf}
+use Rattle.zk_records.specs.{declared.body.AclBodyOf.AclBodyOf, declared.body.ChildrenBodyOf.ChildrenBodyOf, declared.body.CreateBodyOf.CreateBodyOf}
 
 abbrev pub Id : Type 0
 Id = IdOf Text

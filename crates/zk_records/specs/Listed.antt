@@ -1,9 +1,7 @@
 -- A record by its fields, each with its kind.
 use Rattle.std.specs.Prelude.{◌≡◌, List, ◌++◌}
-use Rattle.zk_jute.specs.Item.{Item}
+use Rattle.zk_jute.specs.{Item.Item, Apart.unfolds_only, Wired.Wired, Wired.unfolds_then, Wired.has_then}
 use Rattle.zk_jute.specs.Layout.{Layout, Unfolds, HasFields, ◌then◌}
-use Rattle.zk_jute.specs.Apart.{unfolds_only}
-use Rattle.zk_jute.specs.Wired.{Wired, unfolds_then, has_then}
 
 -- fields of a record of the type X
 pub record Listed (X : Type 0) : Type 1 where

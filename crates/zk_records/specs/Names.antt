@@ -1,7 +1,6 @@
 -- The names of errors and events (ZooKeeper 3.4: KeeperException.Code, Watcher.Event.EventType), as tables.
 use Rattle.std.specs.Prelude.{ℕ, List, [], ◌∷◌, Option, ℤ, pos, codes}
-use Rattle.std.specs.Map.{lookup}
-use Rattle.std.specs.Ordering.{int_eq}
+use Rattle.std.specs.{Map.lookup, Ordering.int_eq}
 use Rattle.zk_records.specs.Codes.{minus}
 
 abbrev pub errors : List (ℤ × List ℕ)

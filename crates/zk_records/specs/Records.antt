@@ -1,31 +1,12 @@
 -- The records, by their fields: each with its kind, in order.
 use Rattle.std.specs.Prelude.{◌≡◌}
 use Rattle.std.proofs.Common.{rules}
-use Rattle.zk_records.specs.declared.acl.IdOf.{IdOf}
-use Rattle.zk_records.specs.declared.acl.AclOf.{AclOf}
-use Rattle.zk_records.specs.declared.stat.Stat.{Stat}
-use Rattle.zk_records.specs.declared.connect.ConnectRequestOf.{ConnectRequestOf}
-use Rattle.zk_records.specs.declared.connect.ConnectResponseOf.{ConnectResponseOf}
-use Rattle.zk_records.specs.declared.header.RequestHeader.{RequestHeader}
-use Rattle.zk_records.specs.declared.header.ReplyHeader.{ReplyHeader}
-use Rattle.zk_records.specs.declared.header.MultiHeader.{MultiHeader}
-use Rattle.zk_records.specs.declared.event.WatcherEventOf.{WatcherEventOf}
-use Rattle.zk_records.specs.declared.ask.CreateAskOf.{CreateAskOf}
-use Rattle.zk_records.specs.declared.ask.DeleteAskOf.{DeleteAskOf}
-use Rattle.zk_records.specs.declared.query.WatchAskOf.{WatchAskOf}
-use Rattle.zk_records.specs.declared.ask.SetDataAskOf.{SetDataAskOf}
-use Rattle.zk_records.specs.declared.query.PathAskOf.{PathAskOf}
-use Rattle.zk_records.specs.declared.ask.SetAclAskOf.{SetAclAskOf}
-use Rattle.zk_records.specs.declared.session.AuthAskOf.{AuthAskOf}
-use Rattle.zk_records.specs.declared.session.SetWatchesAskOf.{SetWatchesAskOf}
-use Rattle.zk_records.specs.declared.ask.CheckAskOf.{CheckAskOf}
-use Rattle.zk_records.specs.declared.body.DataBodyOf.{DataBodyOf}
-use Rattle.zk_records.specs.declared.body.AclBodyOf.{AclBodyOf}
-use Rattle.zk_records.specs.declared.body.ChildrenBodyOf.{ChildrenBodyOf}
-use Rattle.zk_records.specs.declared.body.CreateBodyOf.{CreateBodyOf}
-use Rattle.zk_records.specs.Held.{Id, Acl, ConnectRequest, ConnectResponse, WatcherEvent, CreateAsk, DeleteAsk}
-use Rattle.zk_records.specs.Held.{SetDataAsk, SetAclAsk, CheckAsk, WatchAsk, PathAsk, AuthAsk, SetWatchesAsk}
-use Rattle.zk_records.specs.Held.{DataBody, AclBody, ChildrenBody, CreateBody}
+use Rattle.zk_records.specs.{declared.acl.IdOf.IdOf, declared.acl.AclOf.AclOf, declared.stat.Stat.Stat, declared.connect.ConnectRequestOf.ConnectRequestOf, declared.connect.ConnectResponseOf.ConnectResponseOf}
+use Rattle.zk_records.specs.{declared.header.RequestHeader.RequestHeader, declared.header.ReplyHeader.ReplyHeader, declared.header.MultiHeader.MultiHeader, declared.event.WatcherEventOf.WatcherEventOf, declared.ask.CreateAskOf.CreateAskOf}
+use Rattle.zk_records.specs.{declared.ask.DeleteAskOf.DeleteAskOf, declared.query.WatchAskOf.WatchAskOf, declared.ask.SetDataAskOf.SetDataAskOf, declared.query.PathAskOf.PathAskOf, declared.ask.SetAclAskOf.SetAclAskOf}
+use Rattle.zk_records.specs.{declared.session.AuthAskOf.AuthAskOf, declared.session.SetWatchesAskOf.SetWatchesAskOf, declared.ask.CheckAskOf.CheckAskOf, declared.body.DataBodyOf.DataBodyOf, declared.body.AclBodyOf.AclBodyOf}
+use Rattle.zk_records.specs.{declared.body.ChildrenBodyOf.ChildrenBodyOf, declared.body.CreateBodyOf.CreateBodyOf}
+use Rattle.zk_records.specs.Held.{Id, Acl, ConnectRequest, ConnectResponse, WatcherEvent, CreateAsk, DeleteAsk, SetDataAsk, SetAclAsk, CheckAsk, WatchAsk, PathAsk, AuthAsk, SetWatchesAsk, DataBody, AclBody, ChildrenBody, CreateBody}
 use Rattle.zk_records.specs.Listed.{Listed, ◌of◌, ◌and◌, by}
 use Rattle.zk_jute.specs.Wired.{Wired, int, long, boolean, ustring, buffer, vector}
 

@@ -1,12 +1,9 @@
 -- Borrowed access rights, as values of their payload's bytes.
 use Rattle.std.specs.Prelude.{◌≡◌, ℕ, ℤ, List, [], ◌∷◌, Option, Some, None, Ok, Err, refl}
-use Rattle.zk_jute.specs.Held.{Text}
-use Rattle.zk_jute.specs.Item.{Item, AnInt, AUstring}
+use Rattle.zk_jute.specs.{Held.Text, Item.Item, Item.AnInt, Item.AUstring, Shown.text_of, Shown.text_value}
 use Rattle.zk_jute.specs.Layout.{◌then◌}
 use Rattle.zk_jute.specs.Reading.{Read, ◌>>=◌, read_map, int_at, text_at, items_at}
-use Rattle.zk_jute.specs.Shown.{text_of, text_value}
-use Rattle.zk_records.specs.Held.{Id, Acl}
-use Rattle.zk_records.specs.Records.{id, acl}
+use Rattle.zk_records.specs.{Held.Id, Held.Acl, Records.id, Records.acl}
 
 -- the `Id` at a place
 abbrev pub id_value : List ℕ → ℕ → Read Id

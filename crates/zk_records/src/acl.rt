@@ -1,11 +1,8 @@
 //! Access rights: the records `Id` and `ACL` of zookeeper.jute.
 ghost use Rattle.std.specs.Prelude.{◌≡◌, ◌≤◌, ℕ, length, refl, Ok};
-ghost use Rattle.zk_jute.specs.Item.{HaveBytes};
-ghost use Rattle.zk_jute.specs.Standing.{OneStands};
-ghost use Rattle.zk_jute.specs.Told.{StandsAt};
+ghost use Rattle.zk_jute.specs.{Item.HaveBytes, Standing.OneStands, Told.StandsAt};
 ghost use Rattle.zk_records.specs.Held as held;
-ghost use Rattle.zk_records.specs.Records.{id, acl, id_of, acl_of};
-ghost use Rattle.zk_records.specs.Shown.{acl_value, acl_is_value};
+ghost use Rattle.zk_records.specs.{Records.id, Records.acl, Records.id_of, Records.acl_of, Shown.acl_value, Shown.acl_is_value};
 
 use crate::fields::{of, pairs};
 use crate::fields_of;

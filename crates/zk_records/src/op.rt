@@ -1,8 +1,7 @@
 //! The numbers of operations: those of `ZooDefs.OpCode` that a `Profile` has.
 ghost use Rattle.std.specs.Prelude.{◌≡◌, ◌≢◌, ◌↔◌, pos, MatchOption};
 ghost use Rattle.zk_records.specs.Codes as codes;
-ghost use Rattle.zk_records.specs.declared.op.Op.{Op};
-ghost use Rattle.zk_records.specs.declared.op.PartOp.{PartOp};
+ghost use Rattle.zk_records.specs.{declared.op.Op.Op, declared.op.PartOp.PartOp};
 ghost use Rattle.zk_records.specs.declared.profile.Profile.TheVariants as profiles;
 
 use crate::profile::Profile;

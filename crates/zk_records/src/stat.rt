@@ -1,7 +1,6 @@
 //! The record `Stat` of zookeeper.jute: what is known of a node.
 ghost use Rattle.std.specs.Prelude.{◌≡◌, refl};
-ghost use Rattle.zk_records.specs.Ordered.{stat_row};
-ghost use Rattle.zk_records.specs.Records.{stat};
+ghost use Rattle.zk_records.specs.{Ordered.stat_row, Records.stat};
 
 use crate::fields::pairs;
 use crate::fields_of;

@@ -1,31 +1,18 @@
 -- One line more.
 use Rattle.std.proofs.Common.{◌≡◌, ◌≢◌, ℕ, ◌+◌, ◌<◌, List, [], ◌∷◌, ◌++◌, length, map, Option, ◌⊎◌, inl, inr, refl, sym, ap, ◌∙◌, subst, append_assoc, append-nil, arith, length-append, true, false, Bool}
-use Rattle.std.specs.Io.KnownBytes.{Appends, append_known}
-use Rattle.std.specs.List.{flat_map}
-use Rattle.std.specs.Int.{w32, to_be_bytes}
+use Rattle.std.specs.{Io.KnownBytes.Appends, Io.KnownBytes.append_known, List.flat_map, Int.w32, Int.to_be_bytes}
 use Rattle.std.proofs.lemmas.List.{map-append, length-map}
-use Rattle.zk_talk.specs.declared.limits.Limits.{Limits}
-use Rattle.zk_talk.specs.Held.{Message}
-use Rattle.zk_talk.specs.declared.message.Ending.TheVariants.{Whole as whole}
-use Rattle.zk_talk.specs.declared.say.SayFault.{SayFault}
-use Rattle.zk_talk.specs.declared.say.SayFault.TheVariants.{NoMemory as no_memory}
-use Rattle.zk_talk.specs.Ending.{unanswered}
-use Rattle.zk_talk.specs.Said.{SpeakerState, Says, AreSaid, MaySay, IsSayFault, conversation_of}
-use Rattle.zk_items.specs.declared.fault.LineFault.{LineFault}
-use Rattle.zk_items.specs.declared.fault.LineReason.{LineReason}
-use Rattle.zk_items.specs.declared.fault.LineReason.TheVariants.{NoMemory}
-use Rattle.zk_lines.specs.Lines.{line, Fits}
-use Rattle.zk_lines.specs.Endings.{ending_text}
-use Rattle.zk_talk.specs.declared.message.Side.{Side}
+use Rattle.zk_talk.specs.{declared.limits.Limits.Limits, Held.Message, declared.message.Ending.TheVariants.Whole as whole, declared.say.SayFault.SayFault, declared.say.SayFault.TheVariants.NoMemory as no_memory, Ending.unanswered}
+use Rattle.zk_talk.specs.Said.{SpeakerState, Says, AreSaid, MaySay, IsSayFault, conversation_of, payload_of, side_of}
+use Rattle.zk_items.specs.{declared.fault.LineFault.LineFault, declared.fault.LineReason.LineReason, declared.fault.LineReason.TheVariants.NoMemory}
+use Rattle.zk_lines.specs.{Lines.line, Lines.Fits, Endings.ending_text}
+use Rattle.zk_talk.specs.{declared.message.Side.Side, Payloads.client_payload, Payloads.server_payload}
 use Rattle.zk_talk.specs.declared.message.MessageOf.TheVariants.{Client, Server}
-use Rattle.zk_talk.specs.Payloads.{client_payload, server_payload}
-use Rattle.zk_talk.specs.Said.{payload_of, side_of}
 use Rattle.zk_frames.specs.Framing.{frame}
 use Rattle.zk_frames.proofs.Cuts.{AllByRecursion-push, length-frame}
 use Rattle.zk_runs.specs.declared.built.Built.TheVariants.{Whole, LineRefused, SayRefused}
-use Rattle.zk_runs.specs.Building.{head, built_bytes}
+use Rattle.zk_runs.specs.Building.{head, built_bytes, IsDotted, AreAccepted, AreEnded, IsNextLine, IsBuilt, without_ending, with_ending, behind_ending, other_ending, no_message, not_said, ending_fault, due_ending, piece_of, recording_of}
 use Rattle.zk_recordings.specs.Recording.{no_time}
-use Rattle.zk_runs.specs.Building.{IsDotted, AreAccepted, AreEnded, IsNextLine, IsBuilt, without_ending, with_ending, behind_ending, other_ending, no_message, not_said, ending_fault, due_ending, piece_of, recording_of}
 use Rattle.zk_runs.specs.Accepting.{AreGood, Took, Refuses, StopsAfter, HaltsAt, line_halt, line_halt_by, say_halt}
 use Rattle.zk_listings.proofs.Bytes.{Appends-then}
 use Rattle.zk_recordings.proofs.Lists.{flat_map-snoc}

@@ -1,21 +1,14 @@
 -- What a run that builds has read and written when it answers.
 use Rattle.std.proofs.Common.{ℕ, List, [], ◌++◌, Option, IfOk, OnErr, refl, sym, subst, append-nil, Bool}
 use Rattle.std.specs.Io.KnownBytes.{Consumes, IsAtEnd}
-use Rattle.zk_talk.specs.declared.limits.Limits.{Limits}
-use Rattle.zk_talk.specs.Said.{SpeakerState}
-use Rattle.zk_runs.specs.declared.built.Built.{Built}
-use Rattle.zk_runs.specs.declared.built.Built.TheVariants.{Whole}
-use Rattle.zk_runs.specs.declared.builder.Halt.{Halt}
+use Rattle.zk_talk.specs.{declared.limits.Limits.Limits, Said.SpeakerState}
+use Rattle.zk_runs.specs.{declared.built.Built.Built, declared.built.Built.TheVariants.Whole, declared.builder.Halt.Halt}
 use Rattle.zk_runs.specs.declared.builder.Halt.TheVariants.{Refused, Fails}
-use Rattle.zk_listings.specs.declared.listing.RunFault.TheVariants.{Memory}
-use Rattle.zk_runs.specs.Building.{head}
-use Rattle.zk_listings.specs.Outcome.{HasGrownIn}
-use Rattle.zk_runs.specs.Building.{AreLines, StandFirst, fed_in, all_of, Covers, HasBuilt, HasBuiltSoFar, HasBegunBuilding, recording_of}
+use Rattle.zk_listings.specs.{declared.listing.RunFault.TheVariants.Memory, Outcome.HasGrownIn}
+use Rattle.zk_runs.specs.Building.{head, AreLines, StandFirst, fed_in, all_of, Covers, HasBuilt, HasBuiltSoFar, HasBegunBuilding, recording_of}
 use Rattle.zk_runs.specs.Accepting.{HasTaken, IsRefused, HaltsIn, BeginsIn, BuildsAll, BeginsAll, StandIn, some, all, answer_of}
-use Rattle.zk_listings.proofs.Bytes.{Consumes-none, Consumes-then}
-use Rattle.zk_runs.proofs.Accepted.{built-good, nothing-accepted}
-use Rattle.zk_listings.proofs.Feeding.{grown-whole}
-use Rattle.zk_runs.proofs.Taken.{begins-here, begins-of}
+use Rattle.zk_listings.proofs.{Bytes.Consumes-none, Bytes.Consumes-then, Feeding.grown-whole}
+use Rattle.zk_runs.proofs.{Accepted.built-good, Accepted.nothing-accepted, Taken.begins-here, Taken.begins-of}
 
 covers-first : (built : Built) (x : List ℕ) (unread : Option (List ℕ)) (lines : List (List ℕ)) → IsRefused built → StandFirst x unread lines → Covers built x unread lines
 covers-first Whole x unread lines is stand = absurd is

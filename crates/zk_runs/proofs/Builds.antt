@@ -1,22 +1,16 @@
 -- What a run writes is fixed by the bytes that it may read.
 use Rattle.std.proofs.Common.{◌≡◌, ℕ, List, [], ◌∷◌, ◌++◌, map, Option, Some, None, refl, sym, ap, ◌∙◌, append_assoc, append-nil, subst}
-use Rattle.std.proofs.lemmas.List.Concat.{flat_map-append}
-use Rattle.std.proofs.lemmas.List.{map-append}
+use Rattle.std.proofs.{lemmas.List.Concat.flat_map-append, lemmas.List.map-append}
 use Rattle.std.specs.List.{flat_map}
 use Rattle.std.specs.Io.KnownBytes.{Consumes, IsAtEnd, Appends}
-use Rattle.zk_talk.specs.declared.limits.Limits.{Limits}
-use Rattle.zk_talk.specs.Held.{Message}
+use Rattle.zk_talk.specs.{declared.limits.Limits.Limits, Held.Message}
 use Rattle.zk_lines.specs.Lines.{line}
-use Rattle.zk_runs.specs.declared.built.Built.{Built}
-use Rattle.zk_runs.specs.declared.built.Built.TheVariants.{Whole}
-use Rattle.zk_runs.specs.Building.{head, built_bytes}
+use Rattle.zk_runs.specs.{declared.built.Built.Built, declared.built.Built.TheVariants.Whole}
+use Rattle.zk_runs.specs.Building.{head, built_bytes, AreLines, StandFirst, recording_of, piece_of, AreAccepted, IsNextLine, IsBuilt, without_ending, with_ending, behind_ending, other_ending, no_message, not_said, Covers}
 use Rattle.zk_recordings.specs.Recording.{First, InPieces, front}
 use Rattle.zk_listings.specs.Outcome.{HasGrownIn}
-use Rattle.zk_runs.specs.Building.{AreLines, StandFirst, recording_of, piece_of, AreAccepted, IsNextLine, IsBuilt, without_ending, with_ending, behind_ending, other_ending, no_message, not_said, Covers}
 use Rattle.zk_runs.specs.Rebuilding.{AreBuilt, BuildsAlike, BuildsWithin, Stopped}
-use Rattle.zk_runs.proofs.Known.{grown_less}
-use Rattle.zk_runs.proofs.Splits.{lines_once, first_lines}
-use Rattle.zk_runs.proofs.Verdicts.{messages_once, alike_once, accepted_first}
+use Rattle.zk_runs.proofs.{Known.grown_less, Splits.lines_once, Splits.first_lines, Verdicts.messages_once, Verdicts.alike_once, Verdicts.accepted_first}
 
 -- ---- more lines
 

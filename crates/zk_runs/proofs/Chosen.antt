@@ -1,9 +1,7 @@
 -- What a run of words does, whether they are a command line or not.
 use Rattle.std.proofs.Common.{◌≡◌, ◌<◌, ◌⊎◌, inl, inr, ℕ, List, Option, Result, Ok, Err, IfOk, IfErr, arith}
-use Rattle.zk_runs.specs.declared.options.Settings.{Settings}
-use Rattle.zk_runs.specs.declared.options.UsageFault.{UsageFault}
+use Rattle.zk_runs.specs.{declared.options.Settings.Settings, declared.options.UsageFault.UsageFault, Exits.refusal_of}
 use Rattle.zk_runs.specs.declared.options.UsageFault.TheVariants.{Words, Memory}
-use Rattle.zk_runs.specs.Exits.{refusal_of}
 use Rattle.zk_runs.specs.Commands.{IsInRange, Answers, Stops, IsDoneBySome, IsFailedBySome}
 
 two-or-more : (fault : UsageFault) (exit : ℕ) → exit ≡ refusal_of fault → exit < 2 → ⊥

@@ -5,10 +5,7 @@ use Rattle.std.proofs.lemmas.List.{take_at, drop_at, drop-drop, take-take, take-
 use Rattle.std.proofs.lemmas.Slice.{take-put_mid, drop-put_mid}
 use borrow.Rule.Slice.PartMut.{put_mid}
 use Rattle.zk_frames.specs.Framing.{frame}
-use Rattle.zk_talk.specs.declared.limits.Limits.{Limits}
-use Rattle.zk_talk.specs.Held.{Message}
-use Rattle.zk_talk.specs.declared.message.Side.{Side}
-use Rattle.zk_talk.specs.Said.{MaySay, payload_of, side_of}
+use Rattle.zk_talk.specs.{declared.limits.Limits.Limits, Held.Message, declared.message.Side.Side, Said.MaySay, Said.payload_of, Said.side_of}
 use Rattle.zk_recordings.specs.Recording.{side_byte}
 use Rattle.zk_runs.specs.Building.{built_bytes, piece_of, untimed}
 use Rattle.zk_runs.proofs.Accepted.{short-frame}

@@ -1,20 +1,12 @@
 -- What is written of a block whose pieces were gathered: all, or a front if the write fails.
 use Rattle.std.proofs.Common.{◌≡◌, ℕ, List, [], ◌++◌, Option, subst, Result, Ok, Err, OnOk, IfErr, Bool}
 use Rattle.std.specs.Io.KnownBytes.{Appends, append_known}
-use Rattle.zk_talk.specs.declared.limits.Limits.{Limits}
-use Rattle.zk_talk.specs.Said.{SpeakerState}
-use Rattle.zk_runs.specs.declared.built.Built.TheVariants.{Whole}
-use Rattle.zk_runs.specs.declared.builder.Builder.{Builder}
-use Rattle.zk_runs.specs.declared.builder.Halt.{Halt}
+use Rattle.zk_talk.specs.{declared.limits.Limits.Limits, Said.SpeakerState}
+use Rattle.zk_runs.specs.{declared.built.Built.TheVariants.Whole, declared.builder.Builder.Builder, declared.builder.Halt.Halt, Building.recording_of, Stepping.GathersIn, Stepping.StopsGathering, Stepping.TakesIn, Stepping.HaltsWithin}
 use Rattle.zk_runs.specs.declared.builder.Halt.TheVariants.{Refused, Fails}
-use Rattle.zk_listings.specs.declared.listing.RunFault.TheVariants.{Memory}
-use Rattle.zk_listings.specs.Outcome.{HasGrownIn}
-use Rattle.zk_runs.specs.Building.{recording_of}
+use Rattle.zk_listings.specs.{declared.listing.RunFault.TheVariants.Memory, Outcome.HasGrownIn}
 use Rattle.zk_runs.specs.Accepting.{Took, HasTaken, BeginsIn, HaltsIn}
-use Rattle.zk_runs.specs.Stepping.{GathersIn, StopsGathering, TakesIn, HaltsWithin}
-use Rattle.zk_runs.proofs.Known.{known-none, known-whole, known-part, known-front}
-use Rattle.zk_runs.proofs.Accepted.{built-good, took-written}
-use Rattle.zk_runs.proofs.Taken.{begins-of}
+use Rattle.zk_runs.proofs.{Known.known-none, Known.known-whole, Known.known-part, Known.known-front, Accepted.built-good, Accepted.took-written, Taken.begins-of}
 
 -- nothing is due
 pub taken-unput : (limits : Limits) (x : List ℕ) (before was : Option (List ℕ)) (due : List ℕ) → due ≡ [] → (begun : List ℕ) (count : ℕ) (ended : Bool) (speaker : SpeakerState) →

@@ -1,7 +1,6 @@
 -- What a writer holds once what is due is written, and what it holds if the write fails.
 use Rattle.std.proofs.Common.{◌≡◌, ◌≢◌, ◌<◌, ℕ, List, [], ◌++◌, Option, None, Some, take, drop, length, min, get_or, refl, sym, ap, ◌∙◌, subst, append_assoc, append-nil, arith, eq-eqb, length-take}
-use Rattle.std.specs.Io.KnownBytes.{Appends, append_known}
-use Rattle.std.specs.List.{All}
+use Rattle.std.specs.{Io.KnownBytes.Appends, Io.KnownBytes.append_known, List.All}
 use Rattle.std.proofs.lemmas.List.{append_cancel_left, get_or-take, take-append-le, take_min, take-append-drop}
 use Rattle.std.proofs.lemmas.List.Elements.{All-from_get_or}
 use Rattle.memchr.specs.Find.{Nowhere, Passes, is_byte}

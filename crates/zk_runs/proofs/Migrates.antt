@@ -1,28 +1,18 @@
 -- What a recording of the first format is migrated to is listed as it is.
 use Rattle.std.proofs.Common.{◌≡◌, ℕ, ◌<◌, List, [], ◌∷◌, length, None, Some, true, refl, sym, ap, ◌∙◌, subst, append-nil, arith}
-use Rattle.std.specs.List.{All}
-use Rattle.std.specs.Option.{option_map}
-use Rattle.std.specs.Int.{w32, to_be_bytes}
+use Rattle.std.specs.{List.All, Option.option_map, Int.w32, Int.to_be_bytes}
 use Rattle.zk_talk.specs.declared.limits.Limits.{Limits}
-use Rattle.zk_records.specs.declared.profile.Profile.{Profile as ProfileType}
+use Rattle.zk_records.specs.{declared.profile.Profile.Profile as ProfileType, Codes.profile_number}
 use Rattle.zk_records.specs.declared.profile.Profile.TheVariants.{V34, V35}
-use Rattle.zk_records.specs.Codes.{profile_number}
-use Rattle.zk_recordings.specs.declared.parts.Damage.{Damage}
-use Rattle.zk_recordings.specs.declared.parts.Damage.TheVariants.{Short}
-use Rattle.zk_recordings.specs.declared.parts.Format.{Format}
-use Rattle.zk_recordings.specs.declared.parts.Format.TheVariants.{Zkr1, Zkr2}
-use Rattle.zk_recordings.specs.declared.parts.Part.{Part}
+use Rattle.zk_recordings.specs.{declared.parts.Damage.Damage, declared.parts.Damage.TheVariants.Short, declared.parts.Format.Format, declared.parts.Format.TheVariants.Zkr1, declared.parts.Format.TheVariants.Zkr2, declared.parts.Part.Part}
 use Rattle.zk_recordings.specs.declared.parts.Part.TheVariants.{SideByte, Time, Size}
-use Rattle.zk_recordings.specs.Parts.{number, long_number, is_within, is_good, damage_cut, piece_parts}
-use Rattle.zk_recordings.specs.HeadLimits.{profile_by}
+use Rattle.zk_recordings.specs.{Parts.number, Parts.long_number, Parts.is_within, Parts.is_good, Parts.damage_cut, Parts.piece_parts, HeadLimits.profile_by}
 use Rattle.zk_recordings.specs.Recording.{End, Cut, Bad, IsBreakIn, Head, First, Second, IsHead, Piece, IsPiece, no_time, InPieces, AreIn, Recording, Breaks, Ends, IsRecording, bytes_of, Spells, place_of, front, behind, damage_at, end_damage, history_of, limits_of, damage_of, nothing}
 use Rattle.zk_listings.specs.Outcome.{IsOutcome}
 use Rattle.zk_listings.proofs.Lasting.{same-outcome}
 use Rattle.zk_runs.specs.Migrating.{head_of, migrated, ListsAs, IsOf, IsWhole}
-use Rattle.zk_recordings.proofs.Accepts.{limits-some}
-use Rattle.zk_runs.proofs.Moves.{break_with}
-use Rattle.zk_recordings.proofs.Once.{spells-once}
-use Rattle.zk_runs.proofs.Rebuilds.{number_of, number_good}
+use Rattle.zk_recordings.proofs.{Accepts.limits-some, Once.spells-once}
+use Rattle.zk_runs.proofs.{Moves.break_with, Rebuilds.number_of, Rebuilds.number_good}
 
 -- ---- the head of some limits
 

@@ -2,28 +2,17 @@
 use Rattle.std.proofs.Common.{◌≡◌, ℕ, ◌+◌, ◌-◌, ◌<◌, ◌≤◌, zero, suc, List, [], ◌∷◌, ◌++◌, length, take, drop, Bool, true, false, cond, nat_lt, Option, None, Some, refl, sym, ap, ◌∙◌, subst, append_assoc, append-nil, arith, length-append, length-take, length-drop}
 use Rattle.std.specs.Prelude.{MatchOption}
 use Rattle.std.specs.List.{All, flat_map}
-use Rattle.std.proofs.Math.Seq.{take-add, take-length, drop-length}
-use Rattle.std.proofs.lemmas.List.{take-append-le, drop-append-le, take-append-drop}
-use Rattle.std.proofs.lemmas.Grind.{flat_map-append}
+use Rattle.std.proofs.{Math.Seq.take-add, Math.Seq.take-length, Math.Seq.drop-length, lemmas.List.take-append-le, lemmas.List.drop-append-le, lemmas.List.take-append-drop, lemmas.Grind.flat_map-append}
 use Rattle.std.proofs.lemmas.List.Elements.{All-head, All-tail}
-use Rattle.zk_talk.specs.declared.limits.Limits.{Limits}
-use Rattle.zk_talk.specs.declared.message.Side.{Side}
-use Rattle.zk_recordings.specs.declared.parts.Format.{Format}
-use Rattle.zk_recordings.specs.declared.parts.Format.TheVariants.{Zkr1, Zkr2}
-use Rattle.zk_recordings.specs.declared.parts.Part.{Part}
-use Rattle.zk_recordings.specs.declared.parts.Part.TheVariants.{SideByte}
-use Rattle.zk_recordings.specs.Reader.{ReaderState}
-use Rattle.zk_recordings.specs.Parts.{number, piece_parts}
-use Rattle.zk_recordings.specs.Pieces.{ReadsPiece}
+use Rattle.zk_talk.specs.{declared.limits.Limits.Limits, declared.message.Side.Side}
+use Rattle.zk_recordings.specs.{declared.parts.Format.Format, declared.parts.Format.TheVariants.Zkr1, declared.parts.Format.TheVariants.Zkr2, declared.parts.Part.Part, declared.parts.Part.TheVariants.SideByte, Reader.ReaderState}
+use Rattle.zk_recordings.specs.{Parts.number, Parts.piece_parts, Pieces.ReadsPiece}
 use Rattle.zk_recordings.specs.Recording.{no_time, spelled, End, Cut, Bad, end_bytes, Break, IsBreakIn, Head, First, Second, format_of, head_bytes, Piece, IsPiece, piece_bytes, Place, AtLetters, InHead, InPieces, IsPlace, front, Recording, Breaks, Ends, IsRecording, Spells, place_of, begun_of, nothing}
 use Rattle.zk_recordings.specs.Reading.{IsAt, IsHeaded, IsBetween, IsBetweenOf, IsNeverBetween, GoesOn, in_head, within, ends, ReadsOn, format_at}
 use Rattle.zk_listings.specs.Outcome.{HasGrownIn}
 use Rattle.zk_runs.specs.Migrating.{head_of, second, migrated_at, migrated, timed, taken, sent, kept_at, kept, IsHeadedIf, HasMoved}
-use Rattle.zk_recordings.proofs.Walks.{Walk, Walked, Broke, walk}
-use Rattle.zk_recordings.proofs.Once.{with_content, piece_with, choose, parse, piece-some, spells-once, recorded}
-use Rattle.zk_recordings.proofs.Any.{any, goes}
-use Rattle.zk_listings.proofs.Feeding.{grown-whole}
-use Rattle.zk_listings.proofs.Stopped.{grown-in}
+use Rattle.zk_recordings.proofs.{Walks.Walk, Walks.Walked, Walks.Broke, Walks.walk, Once.with_content, Once.piece_with, Once.choose, Once.parse, Once.piece-some, Once.spells-once, Once.recorded, Any.any, Any.goes}
+use Rattle.zk_listings.proofs.{Feeding.grown-whole, Stopped.grown-in}
 
 -- ---- where nothing is begun
 

@@ -3,15 +3,10 @@ use Rattle.std.proofs.Common.{◌≡◌, ℕ, List, [], ◌++◌, take, drop, Bo
 use Rattle.std.specs.Io.KnownBytes.{Appends, Consumes, IsAtEnd}
 use Rattle.zk_talk.specs.declared.limits.Limits.{Limits}
 use Rattle.zk_runs.specs.declared.migrate.Migrated.{Migrated}
-use Rattle.zk_recordings.specs.declared.parts.DamageAt.{DamageAt}
-use Rattle.zk_recordings.specs.Reader.{ReaderState}
-use Rattle.zk_recordings.specs.Recording.{Recording, Spells, damage_of}
-use Rattle.zk_recordings.specs.Reading.{IsAt}
+use Rattle.zk_recordings.specs.{declared.parts.DamageAt.DamageAt, Reader.ReaderState, Recording.Recording, Recording.Spells, Recording.damage_of, Reading.IsAt}
 use Rattle.zk_listings.specs.Outcome.{IsBroken, HasGrownIn}
 use Rattle.zk_runs.specs.Migrating.{migrated, HasMoved, HasMovedTo, HasMovedBy, HasMigrated, HasMigratedSoFar, HasBegunMigrating, answered}
-use Rattle.zk_listings.proofs.Bytes.{Appends-then}
-use Rattle.zk_listings.proofs.Found.{reads as reads-by, grown-further}
-use Rattle.zk_listings.proofs.Feeding.{grown-whole}
+use Rattle.zk_listings.proofs.{Bytes.Appends-then, Found.reads as reads-by, Found.grown-further, Feeding.grown-whole}
 use Rattle.zk_runs.proofs.Moves.{HasMovedIn, moved-further, moved-before}
 
 -- ---- what is due is written

@@ -1,41 +1,20 @@
 -- What is built of the listing of a whole conversation.
-use Rattle.std.proofs.Common.{◌≡◌, ℕ, ◌<◌, ◌≤◌, ◌^◌, List, [], ◌∷◌, ◌++◌, length, map, refl, sym, ap, ◌∙◌, append-nil, arith, subst, true}
-use Rattle.std.proofs.Common.{w32}
-use Rattle.std.proofs.lemmas.Bool.Decides.{nat_tests}
-use Rattle.std.proofs.lemmas.Nat.{from_be_bytes-to_be_bytes_4}
-use Rattle.std.proofs.lemmas.List.Concat.{flat_map-append}
-use Rattle.std.proofs.lemmas.List.Folds.{flat_map-map}
-use Rattle.std.proofs.lemmas.List.Elements.{All-map, All-from_recursion}
-use Rattle.std.specs.Int.{to_be_bytes}
-use Rattle.std.specs.List.{All, AllByRecursion, flat_map}
+use Rattle.std.proofs.Common.{◌≡◌, ℕ, ◌<◌, ◌≤◌, ◌^◌, List, [], ◌∷◌, ◌++◌, length, map, refl, sym, ap, ◌∙◌, append-nil, arith, subst, true, w32}
+use Rattle.std.proofs.{lemmas.Bool.Decides.nat_tests, lemmas.Nat.from_be_bytes-to_be_bytes_4, lemmas.List.Concat.flat_map-append, lemmas.List.Folds.flat_map-map, lemmas.List.Elements.All-map, lemmas.List.Elements.All-from_recursion}
+use Rattle.std.specs.{Int.to_be_bytes, List.All, List.AllByRecursion, List.flat_map}
 use Rattle.zk_frames.specs.Framing.{frame}
 use Rattle.zk_frames.proofs.Cuts.{AllByRecursion-push, length-frame}
-use Rattle.zk_talk.specs.declared.limits.Limits.{Limits}
+use Rattle.zk_talk.specs.{declared.limits.Limits.Limits, Held.Message, declared.message.Ending.TheVariants.Whole as whole, History.side_bytes, History.HaveSameBytes, Good.Good, Good.IsOrder, Ending.unanswered}
 use Rattle.zk_talk.specs.declared.message.Side.TheVariants.{Client, Server}
-use Rattle.zk_talk.specs.Held.{Message}
 use Rattle.zk_talk.specs.declared.message.MessageOf.TheVariants.{Client as FromClient, Server as FromServer}
-use Rattle.zk_talk.specs.declared.message.Ending.TheVariants.{Whole as whole}
-use Rattle.zk_talk.specs.History.{side_bytes, HaveSameBytes}
-use Rattle.zk_talk.specs.Good.{Good, IsOrder}
-use Rattle.zk_talk.specs.Ending.{unanswered}
 use Rattle.zk_talk.specs.Said.{AreSaid, AreSized, MaySay, said, side_of, payload_of, conversation_of}
-use Rattle.zk_talk.proofs.Small.{small_limits}
-use Rattle.zk_talk.proofs.Headline.{same_good}
-use Rattle.zk_talk.proofs.Replays.{order_said}
-use Rattle.zk_talk.proofs.Spoken.{spoken}
+use Rattle.zk_talk.proofs.{Small.small_limits, Headline.same_good, Replays.order_said, Spoken.spoken}
 use Rattle.zk_lines.specs.Lines.{line, Fits}
-use Rattle.zk_lines.proofs.LawsHeld.{said_held}
-use Rattle.zk_lines.proofs.LawsShown.{line_printed}
-use Rattle.zk_lines.proofs.LawsEndings.{ending_printed}
-use Rattle.zk_lines.proofs.LawsPrinted.{unbroken}
-use Rattle.zk_runs.specs.declared.built.Built.{Built}
-use Rattle.zk_runs.specs.declared.built.Built.TheVariants.{Whole}
-use Rattle.zk_listings.specs.declared.summary.Summary.TheVariants.{Ended}
-use Rattle.zk_recordings.specs.declared.parts.Format.TheVariants.{Zkr1}
-use Rattle.zk_recordings.specs.declared.parts.Part.TheVariants.{SideByte}
-use Rattle.zk_recordings.specs.Parts.{number, is_good, is_within}
+use Rattle.zk_lines.proofs.{LawsHeld.said_held, LawsShown.line_printed, LawsEndings.ending_printed, LawsPrinted.unbroken}
+use Rattle.zk_runs.specs.{declared.built.Built.Built, declared.built.Built.TheVariants.Whole}
+use Rattle.zk_listings.specs.{declared.summary.Summary.TheVariants.Ended, Outcome.IsOutcome}
+use Rattle.zk_recordings.specs.{declared.parts.Format.TheVariants.Zkr1, declared.parts.Part.TheVariants.SideByte, Parts.number, Parts.is_good, Parts.is_within}
 use Rattle.zk_recordings.specs.Recording.{IsPiece, side_byte, piece_history, Spells, history_of}
-use Rattle.zk_listings.specs.Outcome.{IsOutcome}
 use Rattle.zk_runs.specs.Building.{IsLine, with_feed, fed, AreLines, all_fed, recording_of, piece_of, due_ending, IsBuilt, with_ending}
 use Rattle.zk_runs.specs.Rebuilding.{WholeConversation, whole_listing, listing_of, one_a_piece, AreAlike, AreBuilt, BuildsJust}
 use Rattle.zk_runs.proofs.Builds.{run_once}

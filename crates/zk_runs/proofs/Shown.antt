@@ -1,20 +1,14 @@
 -- What is shown of the recording that was built.
 use Rattle.std.proofs.Common.{ℕ, ◌⊎◌, inl, inr, List, [], ◌++◌, Option, refl, sym, ap, ◌∙◌, append-nil, subst}
 use Rattle.std.specs.Io.KnownBytes.{IsAtEnd, Appends}
-use Rattle.zk_talk.specs.declared.message.Ending.TheVariants.{Whole as whole}
-use Rattle.zk_talk.specs.Good.{IsGood}
-use Rattle.zk_listings.specs.declared.listing.Listing.{Listing}
-use Rattle.zk_listings.specs.declared.summary.Summary.TheVariants.{Ended}
+use Rattle.zk_talk.specs.{declared.message.Ending.TheVariants.Whole as whole, Good.IsGood}
+use Rattle.zk_listings.specs.{declared.listing.Listing.Listing, declared.summary.Summary.TheVariants.Ended, Lines.text_of, Lines.last_line, Lines.status_of, Outcome.IsOutcome, Outcome.IsDecided}
 use Rattle.zk_recordings.specs.Recording.{Recording, Spells, history_of, limits_of}
-use Rattle.zk_listings.specs.Lines.{text_of, last_line, status_of}
-use Rattle.zk_listings.specs.Outcome.{IsOutcome, IsDecided}
 use Rattle.zk_runs.specs.Building.{recording_of}
 use Rattle.zk_runs.specs.Rebuilding.{WholeConversation, one_a_piece, listed_by, ListsJust}
 use Rattle.zk_recordings.proofs.Once.{spells-once}
-use Rattle.zk_listings.proofs.Outcomes.{outcome-once}
-use Rattle.zk_listings.proofs.Decided.{undecided}
-use Rattle.zk_runs.proofs.Builds.{Leaves, leaves}
-use Rattle.zk_runs.proofs.Rebuilds.{built_spelled, comes_again}
+use Rattle.zk_listings.proofs.{Outcomes.outcome-once, Decided.undecided}
+use Rattle.zk_runs.proofs.{Builds.Leaves, Builds.leaves, Rebuilds.built_spelled, Rebuilds.comes_again}
 
 -- ---- a run over what was built
 

@@ -1,9 +1,8 @@
 -- Where a run that builds halts by no failed read or write, neither has failed.
 use Rattle.std.proofs.Common.{Result, Ok, Err, IfOk, IfErr}
-use Rattle.zk_runs.specs.declared.builder.Halt.{Halt}
+use Rattle.zk_runs.specs.{declared.builder.Halt.Halt, Accepting.answer_of, Accepting.IfSpared}
 use Rattle.zk_runs.specs.declared.builder.Halt.TheVariants.{Refused, Fails}
 use Rattle.zk_listings.specs.declared.listing.RunFault.TheVariants.{Read, Write}
-use Rattle.zk_runs.specs.Accepting.{answer_of, IfSpared}
 
 pub spared-halt : (halt : Halt) (P : Type 0) → P → IfSpared halt P
 spared-halt (Fails Read) P p = tt

@@ -1,8 +1,7 @@
 -- Bytes are lines in one way.
 use Rattle.std.proofs.Common.{◌≡◌, ◌≢◌, ℕ, List, [], ◌∷◌, ◌++◌, Option, false, ◌==◌, cond, refl, sym, ap, ◌∙◌, append_assoc, append-nil, arith, subst}
 use Rattle.std.proofs.lemmas.Bool.Decides.{nat_tests}
-use Rattle.std.specs.List.{AllByRecursion}
-use Rattle.std.specs.Io.KnownBytes.{IsAtEnd}
+use Rattle.std.specs.{List.AllByRecursion, Io.KnownBytes.IsAtEnd}
 use Rattle.zk_runs.specs.Building.{IsLine, AreLines, all_fed, last_unfed, StandFirst, fed_in, all_of, fed}
 
 -- a byte more in front of the first line

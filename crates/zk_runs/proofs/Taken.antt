@@ -1,29 +1,17 @@
 -- Lines in the bytes that were read.
 use Rattle.std.proofs.Common.{◌≡◌, ◌≢◌, ℕ, ◌+◌, ◌<◌, List, [], ◌∷◌, ◌++◌, length, take, drop, get_or, Option, refl, sym, ap, ◌∙◌, subst, append_assoc, append-nil, true, false, Bool, IfOk, OnErr}
-use Rattle.std.specs.List.{All, AllByRecursion}
-use Rattle.std.specs.Io.KnownBytes.{append_known}
-use Rattle.std.proofs.lemmas.List.{take_more, take-append-drop, same_from_push}
-use Rattle.std.proofs.lemmas.List.Concat.{flat_map-append}
-use Rattle.std.proofs.Math.Seq.{take-add}
-use Rattle.std.proofs.lemmas.List.Elements.{recursion_from_All}
-use Rattle.zk_talk.specs.declared.limits.Limits.{Limits}
-use Rattle.zk_talk.specs.Held.{Message}
-use Rattle.zk_talk.specs.Said.{SpeakerState}
+use Rattle.std.specs.{List.All, List.AllByRecursion, Io.KnownBytes.append_known}
+use Rattle.std.proofs.{lemmas.List.take_more, lemmas.List.take-append-drop, lemmas.List.same_from_push, lemmas.List.Concat.flat_map-append, Math.Seq.take-add, lemmas.List.Elements.recursion_from_All}
+use Rattle.zk_talk.specs.{declared.limits.Limits.Limits, Held.Message, Said.SpeakerState}
 use Rattle.zk_lines.specs.Lines.{line}
-use Rattle.zk_runs.specs.declared.built.Built.{Built}
-use Rattle.zk_runs.specs.declared.built.Built.TheVariants.{Whole}
-use Rattle.zk_runs.specs.declared.builder.Halt.{Halt}
+use Rattle.zk_runs.specs.{declared.built.Built.Built, declared.built.Built.TheVariants.Whole, declared.builder.Halt.Halt}
 use Rattle.zk_runs.specs.declared.builder.Halt.TheVariants.{Refused, Fails}
-use Rattle.zk_listings.specs.declared.listing.RunFault.TheVariants.{Memory}
-use Rattle.zk_listings.specs.Outcome.{HasGrownIn}
-use Rattle.zk_runs.specs.Building.{IsLine, with_feed, fed, AreLines, last_unfed, AreAccepted, AreEnded, due_ending, recording_of}
-use Rattle.zk_runs.specs.Building.{IsBuilt, without_ending, with_ending, behind_ending, other_ending, no_message, not_said}
+use Rattle.zk_listings.specs.{declared.listing.RunFault.TheVariants.Memory, Outcome.HasGrownIn}
+use Rattle.zk_runs.specs.Building.{IsLine, with_feed, fed, AreLines, last_unfed, AreAccepted, AreEnded, due_ending, recording_of, IsBuilt, without_ending, with_ending, behind_ending, other_ending, no_message, not_said}
 use Rattle.zk_runs.specs.Accepting.{Took, HasTaken, StopsAfter, HaltsAt, BeginsIn, StopsIn, HaltsIn, BuildsAll, BeginsAll, some, all, answer_of}
-use Rattle.zk_listings.proofs.Feeding.{grown-whole}
-use Rattle.zk_runs.proofs.Known.{known-part}
+use Rattle.zk_listings.proofs.{Feeding.grown-whole, Comings.all-append}
+use Rattle.zk_runs.proofs.{Known.known-part, Accepted.built-good}
 use Rattle.zk_frames.proofs.Cuts.{AllByRecursion-left, AllByRecursion-push}
-use Rattle.zk_listings.proofs.Comings.{all-append}
-use Rattle.zk_runs.proofs.Accepted.{built-good}
 use Rattle.zk_recordings.proofs.Lists.{flat_map-snoc}
 
 fed-more : (lines : List (List ℕ)) (next : List ℕ) → fed (lines ++ next ∷ []) ≡ fed lines ++ with_feed next

@@ -1,10 +1,8 @@
 -- The turns of a run that reads once in each.
 use Rattle.std.proofs.Common.{◌≡◌, ℕ, ◌+◌, ◌-◌, ◌^◌, ◌<◌, ◌≤◌, ◌||◌, inl, inr, List, [], ◌++◌, length, min, Option, Bool, true, false, Err, ap, ◌∙◌, subst, append-nil, arith}
 use Rattle.std.specs.Io.KnownBytes.{Consumes}
-use Rattle.zk_listings.specs.declared.listing.RunFault.TheVariants.{Read}
-use Rattle.zk_listings.specs.Running.{LeavesDevices}
-use Rattle.zk_listings.proofs.Bytes.{Consumes-then}
-use Rattle.zk_listings.proofs.Exits.{left-by-read}
+use Rattle.zk_listings.specs.{declared.listing.RunFault.TheVariants.Read, Running.LeavesDevices}
+use Rattle.zk_listings.proofs.{Bytes.Consumes-then, Exits.left-by-read}
 
 -- before a turn: the buffer is a block, and no device has failed
 pub record IsAtTurn (turn reads reads_now : ℕ) (reader_failed writer_failed : Bool) (buf : List ℕ) : Type 0 where

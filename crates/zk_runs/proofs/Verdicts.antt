@@ -1,22 +1,14 @@
 -- Lines come to one thing.
 use Rattle.std.proofs.Common.{◌≡◌, ◌≢◌, ℕ, ◌+◌, ◌⊎◌, inl, inr, List, [], ◌∷◌, ◌++◌, length, map, refl, sym, ap, ◌∙◌, append_assoc, append-nil, subst}
 use Rattle.std.specs.List.{AllByRecursion}
-use Rattle.zk_talk.specs.declared.limits.Limits.{Limits}
-use Rattle.zk_talk.specs.Held.{Message}
-use Rattle.zk_talk.specs.declared.message.Ending.TheVariants.{Whole as whole}
-use Rattle.zk_talk.specs.declared.say.SayFault.{SayFault}
-use Rattle.zk_talk.specs.Ending.{unanswered}
-use Rattle.zk_talk.specs.Said.{AreSaid, MaySay, IsSayFault, conversation_of}
+use Rattle.zk_talk.specs.{declared.limits.Limits.Limits, Held.Message, declared.message.Ending.TheVariants.Whole as whole, declared.say.SayFault.SayFault, Ending.unanswered, Said.AreSaid, Said.MaySay, Said.IsSayFault, Said.conversation_of}
 use Rattle.zk_talk.proofs.Exclusions.{may_or_not, refused_once}
 use Rattle.zk_items.specs.declared.fault.LineFault.{LineFault}
 use Rattle.zk_lines.specs.Lines.{line, Fits}
-use Rattle.zk_lines.proofs.Lines.{line_apart}
-use Rattle.zk_lines.proofs.LawsShown.{line_lettered}
-use Rattle.zk_lines.proofs.LawsEndings.{ending_dotted}
-use Rattle.zk_runs.specs.declared.built.Built.{Built}
+use Rattle.zk_lines.proofs.{Lines.line_apart, LawsShown.line_lettered, LawsEndings.ending_dotted}
+use Rattle.zk_runs.specs.{declared.built.Built.Built, Rebuilding.AreAlike, Rebuilding.IsForeign}
 use Rattle.zk_runs.specs.declared.built.Built.TheVariants.{Whole, LineRefused, SayRefused}
 use Rattle.zk_runs.specs.Building.{due_ending, ending_fault, IsDotted, AreAccepted, IsNextLine, IsBuilt, without_ending, with_ending, behind_ending, other_ending, no_message, not_said}
-use Rattle.zk_runs.specs.Rebuilding.{AreAlike, IsForeign}
 
 -- ---- two fronts of one list
 

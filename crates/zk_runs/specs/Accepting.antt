@@ -1,22 +1,13 @@
 -- How far lines were taken, and what was written of their messages.
 use Rattle.std.specs.Prelude.{◌≡◌, ℕ, Bool, true, false, List, [], ◌∷◌, ◌++◌, length, Option, Result, Ok, Err}
-use Rattle.std.specs.List.{AllByRecursion}
-use Rattle.std.specs.Io.KnownBytes.{Appends}
-use Rattle.zk_talk.specs.declared.limits.Limits.{Limits}
-use Rattle.zk_talk.specs.Held.{Message}
-use Rattle.zk_talk.specs.declared.say.SayFault.{SayFault}
-use Rattle.zk_talk.specs.declared.say.SayFault.TheVariants.{NoMemory as no_memory}
-use Rattle.zk_talk.specs.Said.{SpeakerState, Says}
-use Rattle.zk_items.specs.declared.fault.LineFault.{LineFault}
-use Rattle.zk_items.specs.declared.fault.LineReason.{LineReason}
-use Rattle.zk_items.specs.declared.fault.LineReason.TheVariants.{NoMemory}
-use Rattle.zk_runs.specs.declared.built.Built.{Built}
+use Rattle.std.specs.{List.AllByRecursion, Io.KnownBytes.Appends}
+use Rattle.zk_talk.specs.{declared.limits.Limits.Limits, Held.Message, declared.say.SayFault.SayFault, declared.say.SayFault.TheVariants.NoMemory as no_memory, Said.SpeakerState, Said.Says}
+use Rattle.zk_items.specs.{declared.fault.LineFault.LineFault, declared.fault.LineReason.LineReason, declared.fault.LineReason.TheVariants.NoMemory}
+use Rattle.zk_runs.specs.{declared.built.Built.Built, declared.builder.Halt.Halt}
 use Rattle.zk_runs.specs.declared.built.Built.TheVariants.{Whole, LineRefused, SayRefused}
-use Rattle.zk_runs.specs.declared.builder.Halt.{Halt}
 use Rattle.zk_runs.specs.declared.builder.Halt.TheVariants.{Refused, Fails}
-use Rattle.zk_listings.specs.declared.listing.RunFault.{RunFault}
+use Rattle.zk_listings.specs.{declared.listing.RunFault.RunFault, Outcome.HasGrownIn}
 use Rattle.zk_listings.specs.declared.listing.RunFault.TheVariants.{Read, Write, Memory}
-use Rattle.zk_listings.specs.Outcome.{HasGrownIn}
 use Rattle.zk_runs.specs.Building.{IsLine, fed, AreLines, AreAccepted, AreEnded, IsBuilt, recording_of}
 
 -- no line was refused, and where the ending line came it was the last

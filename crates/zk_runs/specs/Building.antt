@@ -1,24 +1,16 @@
 -- What `build` makes of lines: the recording of their messages, up to the first line that is refused.
 use Rattle.std.specs.Prelude.{◌≡◌, ◌≢◌, ℕ, ◌+◌, ◌^◌, ◌<◌, List, [], ◌∷◌, ◌++◌, length, map, Option}
-use Rattle.std.specs.List.{flat_map, AllByRecursion}
-use Rattle.std.specs.Int.{w32, to_be_bytes}
+use Rattle.std.specs.{List.flat_map, List.AllByRecursion, Int.w32, Int.to_be_bytes}
 use Rattle.std.specs.Io.KnownBytes.{Consumes, IsAtEnd, Appends}
 use Rattle.zk_frames.specs.Framing.{frame}
-use Rattle.zk_talk.specs.declared.limits.Limits.{Limits}
-use Rattle.zk_talk.specs.Held.{Message}
-use Rattle.zk_talk.specs.declared.message.Side.{Side}
-use Rattle.zk_talk.specs.declared.message.Ending.TheVariants.{Whole as whole}
-use Rattle.zk_talk.specs.declared.say.SayFault.{SayFault}
-use Rattle.zk_talk.specs.Ending.{unanswered}
+use Rattle.zk_talk.specs.{declared.limits.Limits.Limits, Held.Message, declared.message.Side.Side, declared.message.Ending.TheVariants.Whole as whole, declared.say.SayFault.SayFault, Ending.unanswered}
 use Rattle.zk_talk.specs.Said.{AreSaid, IsSayFault, conversation_of, payload_of, side_of}
 use Rattle.zk_items.specs.declared.fault.LineFault.{LineFault}
 use Rattle.zk_items.specs.declared.fault.LineReason.TheVariants.{Ending, NoMemory}
-use Rattle.zk_lines.specs.Lines.{line, Fits}
-use Rattle.zk_lines.specs.Endings.{ending_text}
+use Rattle.zk_lines.specs.{Lines.line, Lines.Fits, Endings.ending_text}
 use Rattle.zk_runs.specs.declared.built.Built.{Built}
 use Rattle.zk_runs.specs.declared.built.Built.TheVariants.{Whole, LineRefused, SayRefused}
-use Rattle.zk_recordings.specs.declared.parts.Format.TheVariants.{Zkr1}
-use Rattle.zk_recordings.specs.Parts.{letters}
+use Rattle.zk_recordings.specs.{declared.parts.Format.TheVariants.Zkr1, Parts.letters}
 use Rattle.zk_recordings.specs.Recording.{First, Piece, piece_bytes, no_time, InPieces, front}
 use Rattle.zk_listings.specs.Outcome.{HasGrownIn}
 

@@ -1,19 +1,11 @@
 -- What each command has read and written when it returns.
 use Rattle.std.specs.Prelude.{◌≡◌, ◌≤◌, ◌<◌, ◌⊎◌, ℕ, Bool, true, false, List, Option}
-use Rattle.zk_talk.specs.declared.limits.Limits.{Limits}
-use Rattle.zk_talk.specs.Ranges.{AreLimits}
-use Rattle.zk_runs.specs.declared.built.Built.{Built}
+use Rattle.zk_talk.specs.{declared.limits.Limits.Limits, Ranges.AreLimits}
+use Rattle.zk_runs.specs.{declared.built.Built.Built, declared.migrate.Migrated.Migrated, declared.options.Command.Command, declared.options.Settings.Settings, Building.HasBuilt, Building.HasBegunBuilding}
 use Rattle.zk_listings.specs.declared.listing.Listing.TheVariants.{All, Last}
-use Rattle.zk_runs.specs.declared.migrate.Migrated.{Migrated}
-use Rattle.zk_runs.specs.declared.options.Command.{Command}
-use Rattle.zk_runs.specs.declared.options.Settings.{Settings}
 use Rattle.zk_runs.specs.declared.options.Command.TheVariants.{Show, Check, Build, Migrate}
-use Rattle.zk_listings.specs.declared.summary.Status.{Status}
-use Rattle.zk_listings.specs.Running.{HasListed, HasStopped}
-use Rattle.zk_listings.specs.Earliest.{HasToldEarliest, HasStoppedEarliest}
-use Rattle.zk_runs.specs.Building.{HasBuilt, HasBegunBuilding}
-use Rattle.zk_runs.specs.Migrating.{HasMigrated, HasBegunMigrating}
-use Rattle.zk_runs.specs.Exits.{exit_of, exit_of_built, exit_of_migrated}
+use Rattle.zk_listings.specs.{declared.summary.Status.Status, Running.HasListed, Running.HasStopped, Earliest.HasToldEarliest, Earliest.HasStoppedEarliest}
+use Rattle.zk_runs.specs.{Migrating.HasMigrated, Migrating.HasBegunMigrating, Exits.exit_of, Exits.exit_of_built, Exits.exit_of_migrated}
 
 -- a command that came to its end, with this exit status; a check writes the line of the first impossible byte if that is asked
 abbrev pub HasDone : Command → Bool → Limits → Option (List ℕ) → Option (List ℕ) → Option (List ℕ) → Option (List ℕ) → ℕ → Type 0

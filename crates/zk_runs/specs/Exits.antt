@@ -1,12 +1,8 @@
 -- The statuses of the program, and why the words of a command line are refused.
 use Rattle.std.specs.Prelude.{◌≡◌, ℕ, ◌+◌, ◌<◌, ◌≤◌, Bool, false}
-use Rattle.clap.specs.declared.error.kind.ErrorKind.{ErrorKind}
-use Rattle.clap.specs.declared.error.kind.ErrorKind.TheVariants.{OutOfMemory}
-use Rattle.zk_runs.specs.declared.built.Built.{Built}
-use Rattle.zk_runs.specs.declared.built.Built.TheVariants.{Whole}
-use Rattle.zk_runs.specs.declared.migrate.Migrated.{Migrated}
+use Rattle.clap.specs.{declared.error.kind.ErrorKind.ErrorKind, declared.error.kind.ErrorKind.TheVariants.OutOfMemory}
+use Rattle.zk_runs.specs.{declared.built.Built.Built, declared.built.Built.TheVariants.Whole, declared.migrate.Migrated.Migrated, declared.options.UsageFault.UsageFault}
 use Rattle.zk_runs.specs.declared.migrate.Migrated.TheVariants.{Whole as migrated_whole, Damaged}
-use Rattle.zk_runs.specs.declared.options.UsageFault.{UsageFault}
 use Rattle.zk_runs.specs.declared.options.UsageFault.TheVariants.{Words, Memory}
 use Rattle.zk_listings.specs.declared.summary.Status.{Status}
 use Rattle.zk_listings.specs.declared.summary.Status.TheVariants.{Good, Bad}

@@ -1,24 +1,14 @@
 -- What `migrate` makes of a recording: the ZKR2 recording of its whole pieces.
 use Rattle.std.specs.Prelude.{◌≡◌, ℕ, ◌⊎◌, List, [], ◌∷◌, ◌++◌, take, drop, Bool, true, false, Option, None, Some}
-use Rattle.std.specs.Int.{w32, to_be_bytes}
-use Rattle.std.specs.Io.KnownBytes.{IsAtEnd, Appends}
+use Rattle.std.specs.{Int.w32, Int.to_be_bytes, Io.KnownBytes.IsAtEnd, Io.KnownBytes.Appends}
 use Rattle.zk_records.specs.Codes.{profile_number}
-use Rattle.zk_talk.specs.declared.limits.Limits.{Limits}
-use Rattle.zk_talk.specs.Held.{Message}
-use Rattle.zk_listings.specs.declared.listing.Listing.{Listing}
-use Rattle.zk_runs.specs.declared.migrate.Migrated.{Migrated}
-use Rattle.zk_runs.specs.declared.migrate.Migrator.{Migrator}
+use Rattle.zk_talk.specs.{declared.limits.Limits.Limits, Held.Message}
+use Rattle.zk_listings.specs.{declared.listing.Listing.Listing, declared.summary.Summary.Summary, Lines.text_of, Lines.last_line, Outcome.Reads, Outcome.IsOutcome, Outcome.IsBroken, Outcome.HasGrownIn}
+use Rattle.zk_runs.specs.{declared.migrate.Migrated.Migrated, declared.migrate.Migrator.Migrator}
 use Rattle.zk_runs.specs.declared.migrate.Migrated.TheVariants.{Whole, Damaged}
-use Rattle.zk_recordings.specs.declared.parts.DamageAt.{DamageAt}
-use Rattle.zk_recordings.specs.declared.parts.Format.{Format}
-use Rattle.zk_recordings.specs.declared.parts.Format.TheVariants.{Zkr1, Zkr2}
-use Rattle.zk_recordings.specs.Reader.{ReaderState}
-use Rattle.zk_listings.specs.declared.summary.Summary.{Summary}
-use Rattle.zk_recordings.specs.Recording.{Head, First, Second, format_of, head_bytes, no_time, Place}
-use Rattle.zk_recordings.specs.Recording.{InPieces, front, Recording, Spells, place_of, begun_of, damage_of}
+use Rattle.zk_recordings.specs.{declared.parts.DamageAt.DamageAt, declared.parts.Format.Format, declared.parts.Format.TheVariants.Zkr1, declared.parts.Format.TheVariants.Zkr2, Reader.ReaderState}
+use Rattle.zk_recordings.specs.Recording.{Head, First, Second, format_of, head_bytes, no_time, Place, InPieces, front, Recording, Spells, place_of, begun_of, damage_of}
 use Rattle.zk_recordings.specs.Reading.{IsAt, IsDecidedBy, IsHeaded}
-use Rattle.zk_listings.specs.Lines.{text_of, last_line}
-use Rattle.zk_listings.specs.Outcome.{Reads, IsOutcome, IsBroken, HasGrownIn}
 
 -- the head of the second format that has these limits
 abbrev pub head_of : Limits → Head

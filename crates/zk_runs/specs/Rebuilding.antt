@@ -1,25 +1,13 @@
 -- The recording that is built of a listing, and what two results of the same lines have in common.
 use Rattle.std.specs.Prelude.{◌≡◌, ◌≢◌, ℕ, List, [], ◌++◌, map, Option, Some}
 use Rattle.std.specs.Io.KnownBytes.{Appends}
-use Rattle.zk_talk.specs.declared.limits.Limits.{Limits}
-use Rattle.zk_talk.specs.Held.{Message}
-use Rattle.zk_talk.specs.declared.message.Ending.TheVariants.{Whole as whole}
-use Rattle.zk_talk.specs.History.{History}
-use Rattle.zk_talk.specs.Conversation.{Conversation}
-use Rattle.zk_talk.specs.Good.{Good, IsOrder}
-use Rattle.zk_talk.specs.Ending.{IsEnding}
+use Rattle.zk_talk.specs.{declared.limits.Limits.Limits, Held.Message, declared.message.Ending.TheVariants.Whole as whole, History.History, Conversation.Conversation, Good.Good, Good.IsOrder, Ending.IsEnding}
 use Rattle.zk_lines.specs.Lines.{line, Fits}
 use Rattle.zk_runs.specs.declared.built.Built.{Built}
 use Rattle.zk_runs.specs.declared.built.Built.TheVariants.{Whole, LineRefused, SayRefused}
-use Rattle.zk_listings.specs.declared.listing.Listing.{Listing}
-use Rattle.zk_listings.specs.declared.listing.Listing.TheVariants.{All}
-use Rattle.zk_listings.specs.declared.summary.Status.{Status}
-use Rattle.zk_listings.specs.declared.summary.Status.TheVariants.{Good as good_end}
-use Rattle.zk_listings.specs.declared.summary.Summary.TheVariants.{Ended}
+use Rattle.zk_listings.specs.{declared.listing.Listing.Listing, declared.listing.Listing.TheVariants.All, declared.summary.Status.Status, declared.summary.Status.TheVariants.Good as good_end, declared.summary.Summary.TheVariants.Ended}
 use Rattle.zk_recordings.specs.Recording.{First, InPieces, Recording, Breaks, nothing}
-use Rattle.zk_listings.specs.Lines.{text_of, last_line}
-use Rattle.zk_listings.specs.Outcome.{HasGrownIn}
-use Rattle.zk_listings.specs.Running.{HasListed}
+use Rattle.zk_listings.specs.{Lines.text_of, Lines.last_line, Outcome.HasGrownIn, Running.HasListed}
 use Rattle.zk_runs.specs.Building.{AreLines, IsBuilt, HasBuilt, HasBegunBuilding, recording_of, piece_of, IsNextLine, IsDotted}
 
 -- the listing of a conversation that ends whole, with `unanswered` requests without a reply

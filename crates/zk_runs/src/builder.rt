@@ -1,15 +1,11 @@
 //! `Builder`: lines that are read block by block, and the pieces of their messages.
 ghost use Rattle.std.specs.Prelude.{◌≡◌, ◌≢◌, ◌+◌, ◌^◌, ◌<◌, ◌≤◌, ◌++◌, ℕ, List, [], true, false, IfOk, IfErr, IsErrOf, Err, OnOk, OnErr, IsTrue, ◌↔◌, length, take, slice_index};
-ghost use Rattle.std.specs.List.{All};
-ghost use Rattle.std.specs.Int.{to_be_bytes};
-ghost use Rattle.zk_talk.specs.declared.limits.Limits.{Limits};
-ghost use Rattle.zk_talk.specs.Held.{Message};
+ghost use Rattle.std.specs.{List.All, Int.to_be_bytes};
+ghost use Rattle.zk_talk.specs.{declared.limits.Limits.Limits, Held.Message};
 ghost use Rattle.zk_talk.specs.Said as said;
 ghost use Rattle.zk_lines.specs.Lines.{Fits, line};
-ghost use Rattle.zk_runs.specs.declared.builder.Halt.TheVariants.{Fails};
+ghost use Rattle.zk_runs.specs.{declared.builder.Halt.TheVariants.Fails, Building.IsDotted, Accepting.IfSpared};
 ghost use Rattle.zk_listings.specs.declared.listing.RunFault.TheVariants.{Read, Write, Memory};
-ghost use Rattle.zk_runs.specs.Building.{IsDotted};
-ghost use Rattle.zk_runs.specs.Accepting.{IfSpared};
 ghost use Rattle.zk_runs.specs.Stepping.{IsBegun, TakesLine, HaltsOn, GathersIn, StopsGathering, TakesIn, HaltsWithin, IsAnswered, HasWrittenFirst};
 
 use crate::built::Built;

@@ -1,21 +1,10 @@
 //! The laws of building, listing and migrating, as contracts of functions that do nothing.
 ghost use Rattle.std.specs.Prelude.{◌≡◌, ◌⊎◌, ℕ, List};
-ghost use Rattle.zk_talk.specs.declared.limits.Limits.{Limits};
-ghost use Rattle.zk_talk.specs.Held.{Message};
-ghost use Rattle.zk_talk.specs.declared.message.Ending.TheVariants.{Whole as whole};
-ghost use Rattle.zk_talk.specs.History.{HaveSameBytes};
-ghost use Rattle.zk_talk.specs.Said.{said};
-ghost use Rattle.zk_runs.specs.declared.built.Built.{Built};
-ghost use Rattle.zk_runs.specs.declared.built.Built.TheVariants.{Whole};
-ghost use Rattle.zk_listings.specs.declared.listing.Listing.{Listing};
-ghost use Rattle.zk_listings.specs.declared.summary.Summary.TheVariants.{Ended};
-ghost use Rattle.zk_recordings.specs.Recording.{Recording, Spells, history_of};
-ghost use Rattle.zk_recordings.specs.declared.parts.Format.TheVariants.{Zkr1, Zkr2};
-ghost use Rattle.zk_listings.specs.Outcome.{IsOutcome, HasGrownIn};
-ghost use Rattle.zk_runs.specs.Migrating.{IsWhole, ListsAs, migrated};
-ghost use Rattle.zk_runs.specs.Building.{AreLines, recording_of};
-ghost use Rattle.zk_runs.specs.Rebuilding.{WholeConversation, listing_of, listed_by, one_a_piece, AreAlike, IsForeign};
-ghost use Rattle.zk_runs.specs.Rebuilding.{AreBuilt, BuildsJust, BuildsAlike, BuildsWithin, ListsJust, BuiltTwice, Stopped};
+ghost use Rattle.zk_talk.specs.{declared.limits.Limits.Limits, Held.Message, declared.message.Ending.TheVariants.Whole as whole, History.HaveSameBytes, Said.said};
+ghost use Rattle.zk_runs.specs.{declared.built.Built.Built, declared.built.Built.TheVariants.Whole, Migrating.IsWhole, Migrating.ListsAs, Migrating.migrated, Building.AreLines, Building.recording_of};
+ghost use Rattle.zk_listings.specs.{declared.listing.Listing.Listing, declared.summary.Summary.TheVariants.Ended, Outcome.IsOutcome, Outcome.HasGrownIn};
+ghost use Rattle.zk_recordings.specs.{Recording.Recording, Recording.Spells, Recording.history_of, declared.parts.Format.TheVariants.Zkr1, declared.parts.Format.TheVariants.Zkr2};
+ghost use Rattle.zk_runs.specs.Rebuilding.{WholeConversation, listing_of, listed_by, one_a_piece, AreAlike, IsForeign, AreBuilt, BuildsJust, BuildsAlike, BuildsWithin, ListsJust, BuiltTwice, Stopped};
 
 /// The listing of a conversation that ends whole is built into its recording of one frame a piece.
 pub fn listing_is_built()

@@ -3,8 +3,7 @@ ghost use Rattle.std.specs.Prelude.{◌≡◌, ◌+◌, ◌^◌, ◌<◌, ◌≤
 ghost use Rattle.zk_talk.specs.declared.limits.Limits.{Limits};
 ghost use Rattle.zk_runs.specs.Migrating as migrating;
 ghost use Rattle.zk_runs.specs.Migrating.{HasBegunMigrating, HasMigrated, HasMigratedSoFar, HasMigratedTo, MovesOn, MovesBy};
-ghost use Rattle.zk_recordings.specs.Reading.{IsAt, IsUndamaged, place_in};
-ghost use Rattle.zk_recordings.specs.Recording.{Recording, damage_of, head_bytes};
+ghost use Rattle.zk_recordings.specs.{Reading.IsAt, Reading.IsUndamaged, Reading.place_in, Recording.Recording, Recording.damage_of, Recording.head_bytes};
 ghost use Rattle.zk_listings.specs.Running.{AreReady, LeavesDevices, OnRead};
 
 use std::alloc::{AllocError, Global};

@@ -1,9 +1,7 @@
 //! `settings`: the words of a command line, read as settings.
 ghost use Rattle.std.specs.Prelude.{◌≡◌, ◌≢◌, IfOk, MatchOption};
 ghost use Rattle.zk_records.specs.declared.profile.Profile.{Profile};
-ghost use Rattle.zk_runs.specs.declared.options.Command.{Command as command};
-ghost use Rattle.zk_runs.specs.Commands.{IsInRange};
-ghost use Rattle.zk_runs.specs.Names.{command_name, profile_name};
+ghost use Rattle.zk_runs.specs.{declared.options.Command.Command as command, Commands.IsInRange, Names.command_name, Names.profile_name};
 
 use crate::options::{Command, Settings, UsageFault};
 use clap::{Arg, ArgAction, value_parser};

@@ -2,14 +2,10 @@
 use Rattle.std.proofs.Common.{◌≡◌, ℕ, ◌+◌, ◌-◌, ◌<◌, ◌≤◌, ◌^◌, List, [], ◌++◌, length, take, refl, sym, ap, ◌∙◌, subst, arith, true, false, length-append}
 use Rattle.std.proofs.lemmas.List.{append-nil, take_all, length-take-le}
 use Rattle.zk_jute.specs.declared.fault.Reason.TheVariants.{StreamEnd, LengthRange as OutOfRange}
-use Rattle.zk_frames.specs.declared.frames.Took.{Took}
-use Rattle.zk_frames.specs.declared.frames.FrameFault.{FrameFault}
-use Rattle.zk_frames.specs.declared.frames.FrameFault.TheVariants.{LengthRange}
-use Rattle.zk_frames.specs.Framing.{frame, IsBeginning, IsFrame, IsBadLength}
+use Rattle.zk_frames.specs.{declared.frames.Took.Took, declared.frames.FrameFault.FrameFault, declared.frames.FrameFault.TheVariants.LengthRange, Framing.frame, Framing.IsBeginning, Framing.IsFrame, Framing.IsBadLength}
 use Rattle.zk_frames.specs.Held.{IsTaken, EndsWell, IsRefusal, IsFront}
 use Rattle.zk_frames.proofs.Cuts.{take-frame}
-use Rattle.zk_talk.specs.Advance.{IsStop}
-use Rattle.zk_talk.specs.Advance.IsStop.{too_many, out_of_range}
+use Rattle.zk_talk.specs.{Advance.IsStop, Advance.IsStop.too_many, Advance.IsStop.out_of_range}
 use Rattle.zk_talk.proofs.Lists.{front_again}
 
 -- a frame is refused for its length alone

@@ -3,22 +3,15 @@ use Rattle.std.proofs.Common.{◌≡◌, ℕ, ℤ, negsuc, List, [], ◌∷◌, 
 use Rattle.std.proofs.lemmas.List.{append-nil}
 use Rattle.zk_jute.specs.Item.{Item, bytes_of, HaveBytes}
 use Rattle.zk_jute.proofs.Layouts.{bytes_only, bytes_both, have_parts}
-use Rattle.zk_records.specs.declared.header.MultiHeader.{MultiHeader}
-use Rattle.zk_records.specs.declared.header.ReplyHeader.{ReplyHeader}
-use Rattle.zk_records.specs.declared.op.Op.{Op}
-use Rattle.zk_records.specs.declared.op.PartOp.{PartOp}
-use Rattle.zk_records.specs.Codes.{op_number}
+use Rattle.zk_records.specs.{declared.header.MultiHeader.MultiHeader, declared.header.ReplyHeader.ReplyHeader, declared.op.Op.Op, declared.op.PartOp.PartOp, Codes.op_number}
 use Rattle.zk_records.specs.Records.{request_header, multi_header, reply_header}
 use Rattle.zk_records.proofs.Numbers.{op_number_apart}
-use Rattle.zk_asks.specs.Held.{Ask as Asked, ClientFrame}
+use Rattle.zk_asks.specs.{Held.Ask as Asked, Held.ClientFrame, Codes.IsAllowed, Forms.header_items, Parts.end_header, Parts.marked}
 use Rattle.zk_asks.specs.declared.frame.ClientFrameOf.TheVariants.{Connect, Ask}
-use Rattle.zk_asks.specs.Codes.{IsAllowed}
-use Rattle.zk_asks.specs.Forms.{header_items}
-use Rattle.zk_asks.specs.Parts.{end_header, marked}
 use Rattle.zk_asks.specs.Rows as asked
 use Rattle.zk_asks.specs.Frames as asks
-use Rattle.zk_asks.proofs.Later.{header_is, header_same}
-use Rattle.zk_answers.specs.Held.{PartDone, Body, Outcome, Reply, ServerFrame}
+use Rattle.zk_asks.proofs.{Later.header_is, Later.header_same, Later.ask_injective, Parted.end_mark, Parted.mark_same, Parts.mark_is, First.first_injective}
+use Rattle.zk_answers.specs.{Held.PartDone, Held.Body, Held.Outcome, Held.Reply, Held.ServerFrame, Rows.op_of_body, Rows.body_items}
 use Rattle.zk_answers.specs.declared.frame.PartDoneOf.TheVariants as done
 use Rattle.zk_answers.specs.declared.frame.BodyOf.TheVariants as body
 use Rattle.zk_answers.specs.declared.frame.OutcomeOf.TheVariants as outcome
@@ -26,23 +19,11 @@ use Rattle.zk_answers.specs.declared.frame.ServerFrameOf.TheVariants.{Connected,
 use Rattle.zk_answers.specs.Frames.{Fits, OutcomeFits, BodyFits, IsOutcome, err_of, header_of, op_of_outcome, op_of_reply, rest_items, reply_items}
 use Rattle.zk_answers.specs.Frames as answers
 use Rattle.zk_answers.specs.Results.{Answers, AnswerAll, done_items, multi_items, mark_before, result_of}
-use Rattle.zk_answers.specs.Rows.{op_of_body, body_items}
-use Rattle.zk_asks.proofs.Parted.{end_mark, mark_same}
-use Rattle.zk_asks.proofs.Parts.{mark_is}
-use Rattle.zk_answers.proofs.Dones.{multi_more, split_items}
-use Rattle.zk_answers.proofs.Lying.{items_are, own_of, own_kind, own_answers, not_end}
-use Rattle.zk_answers.proofs.Heads.{head_unique, stands_head}
-use Rattle.zk_answers.proofs.Results.{done_only}
-use Rattle.zk_talk.specs.Payloads.{client_payload, server_payload}
+use Rattle.zk_answers.proofs.{Dones.multi_more, Dones.split_items, Lying.items_are, Lying.own_of, Lying.own_kind, Lying.own_answers, Lying.not_end, Heads.head_unique, Heads.stands_head, Results.done_only, Connected.connected_injective}
+use Rattle.zk_talk.specs.{Payloads.client_payload, Payloads.server_payload, declared.message.Kind.Kind, Written.IsWritten, Written.kind_of}
 use Rattle.zk_talk.specs.declared.message.MessageOf.TheVariants.{Client as FromClient, Server as FromServer}
-use Rattle.zk_talk.specs.declared.message.Kind.{Kind}
 use Rattle.zk_talk.specs.declared.message.Kind.TheVariants as kinds
-use Rattle.zk_talk.specs.Written.{IsWritten, kind_of}
-use Rattle.zk_asks.proofs.First.{first_injective}
-use Rattle.zk_asks.proofs.Later.{ask_injective}
-use Rattle.zk_answers.proofs.Connected.{connected_injective}
-use Rattle.zk_answers.proofs.Replies.{reply_injective}
-use Rattle.zk_answers.proofs.Events.{event_injective}
+use Rattle.zk_answers.proofs.{Replies.reply_injective, Events.event_injective}
 use Rattle.zk_talk.proofs.Payloads.{asks_alike, answers_alike}
 
 -- ---- the client's

@@ -1,26 +1,14 @@
 -- What a talk answers for a piece, by what its side became.
 use Rattle.std.proofs.Common.{◌≡◌, ◌≢◌, true, ℕ, ◌+◌, ◌⊎◌, inl, inr, List, [], ◌∷◌, ◌++◌, length, take, drop, Option, Some, Ok, refl, sym, ap, ◌∙◌, subst}
 use Rattle.std.proofs.lemmas.List.{length-take-le}
-use Rattle.zk_jute.specs.declared.fault.ItemFault.{ItemFault}
-use Rattle.zk_jute.specs.declared.fault.Reason.{Reason}
+use Rattle.zk_jute.specs.{declared.fault.ItemFault.ItemFault, declared.fault.Reason.Reason}
 use Rattle.zk_jute.specs.declared.fault.Reason.TheVariants.{NoMemory, LengthRange, StreamEnd}
 use Rattle.zk_waiting.specs.Waiting.{Lanes}
-use Rattle.zk_talk.specs.declared.message.Fault.{Fault}
-use Rattle.zk_talk.specs.declared.message.Side.{Side}
+use Rattle.zk_talk.specs.{declared.message.Fault.Fault, declared.message.Side.Side, declared.stream.Advance.Advance, declared.replied.Replied.Replied, Numbers.IsNewest, Held.Message, History.History}
 use Rattle.zk_talk.specs.declared.message.Side.TheVariants.{Client, Server}
-use Rattle.zk_talk.specs.declared.stream.Advance.{Advance}
 use Rattle.zk_talk.specs.declared.stream.Advance.TheVariants.{Within, Whole, Refused}
-use Rattle.zk_talk.specs.declared.replied.Replied.{Replied}
-use Rattle.zk_talk.specs.Numbers.{IsNewest}
-use Rattle.zk_talk.specs.Held.{Message}
-use Rattle.zk_talk.specs.History.{History}
-use Rattle.zk_talk.specs.Streams.{StreamState, passed, kept_now}
-use Rattle.zk_talk.specs.Fault.{fault_of, side_limit}
+use Rattle.zk_talk.specs.{Streams.StreamState, Streams.passed, Streams.kept_now, Fault.fault_of, Fault.side_limit, Advance.IsAdvance, Advance.IsStop, Advance.IsStop.too_many, Advance.IsStop.out_of_range, Viewed.Shows, Receiving.IsReceived}
 use Rattle.zk_talk.specs.Stands.{TalkState, Stands, held_on, kept_on, frames_on, size_on}
-use Rattle.zk_talk.specs.Advance.{IsAdvance, IsStop}
-use Rattle.zk_talk.specs.Advance.IsStop.{too_many, out_of_range}
-use Rattle.zk_talk.specs.Viewed.{Shows}
-use Rattle.zk_talk.specs.Receiving.{IsReceived}
 use Rattle.zk_talk.specs.Taking.{GoesOn, Steps, IsRefused, Fails, given_up}
 use Rattle.zk_talk.proofs.Talks.{set_on, put_on, refusing}
 use Rattle.zk_talk.proofs.Sides.{TellsOn, IsNextOn, IsToldOn, told_nothing, goes_within, stopped, goes_whole, judged}

@@ -2,41 +2,22 @@
 use Rattle.std.proofs.Common.{◌≡◌, ℕ, List, [], ◌∷◌, length, take, drop, ◌-◌, Some, None, Ok, refl, sym, ap, subst, ◌∙◌, arith}
 use Rattle.std.specs.Prelude.{ℤ, pos, ◌≢◌, slice_get, filter}
 use Rattle.std.proofs.lemmas.List.{length-drop, drop_at, take_rest}
-use Rattle.zk_jute.specs.Item.{Int, AnInt, bytes_of, HaveBytes}
-use Rattle.zk_jute.specs.Layout.{Layout, End, One}
-use Rattle.zk_jute.specs.Faults.{Opens}
-use Rattle.zk_jute.specs.Reading.{Tells}
+use Rattle.zk_jute.specs.{Item.Int, Item.AnInt, Item.bytes_of, Item.HaveBytes, Layout.Layout, Layout.End, Layout.One, Faults.Opens, Reading.Tells, declared.fault.Reason.Reason}
 use Rattle.zk_jute.specs.Reading as reading
-use Rattle.zk_jute.proofs.Steps.{IsBytes}
-use Rattle.zk_jute.proofs.Fields.{int_gives}
-use Rattle.zk_jute.proofs.Chains.{then_read_one}
-use Rattle.zk_jute.proofs.Theorems.{found}
-use Rattle.zk_records.specs.declared.header.RequestHeader.{RequestHeader}
-use Rattle.zk_records.specs.declared.op.Op.{Op}
-use Rattle.zk_records.specs.Records.{request_header, reply_header}
-use Rattle.zk_records.specs.Codes.{op_number}
-use Rattle.zk_answers.specs.declared.layout.Layout.{Layout as Kind}
+use Rattle.zk_jute.proofs.{Steps.IsBytes, Fields.int_gives, Chains.then_read_one, Theorems.found}
+use Rattle.zk_records.specs.{declared.header.RequestHeader.RequestHeader, declared.op.Op.Op, Records.request_header, Records.reply_header, Codes.op_number, declared.header.ReplyHeader.ReplyHeader}
+use Rattle.zk_answers.specs.{declared.layout.Layout.Layout as Kind, Faults.IsHead, Faults.IsHeadFault}
 use Rattle.zk_answers.specs.declared.layout.Layout.TheVariants as layouts
-use Rattle.zk_records.specs.declared.header.ReplyHeader.{ReplyHeader}
 use Rattle.zk_records.specs.declared.op.Op.TheVariants as ops
-use Rattle.zk_asks.specs.Codes.{event_xid}
-use Rattle.zk_asks.specs.Rows.{op_of_ask}
-use Rattle.zk_answers.specs.Faults.{IsHead, IsHeadFault}
+use Rattle.zk_asks.specs.{Codes.event_xid, Rows.op_of_ask}
 use Rattle.zk_answers.proofs.Heads.{head_unique, head_excludes}
-use Rattle.zk_waiting.specs.declared.lane.Lane.{Lane}
-use Rattle.zk_waiting.specs.Lane.{lane_of}
-use Rattle.zk_waiting.specs.Waiting.{Request, Lanes, queue_on}
-use Rattle.zk_jute.specs.declared.fault.Reason.{Reason}
+use Rattle.zk_waiting.specs.{declared.lane.Lane.Lane, Lane.lane_of, Waiting.Request, Waiting.Lanes, Waiting.queue_on}
 use Rattle.zk_frames.specs.Framing.{frame}
 use Rattle.zk_frames.proofs.Cuts.{drop-frame}
 use Rattle.zk_talk.specs.declared.message.Side.TheVariants.{Client, Server}
-use Rattle.zk_talk.specs.Conversation.{Conversation, is_ask_on, replies_on}
-use Rattle.zk_talk.specs.Describes.{Describes}
-use Rattle.zk_talk.specs.Fault.{IsNext}
+use Rattle.zk_talk.specs.{Conversation.Conversation, Conversation.is_ask_on, Conversation.replies_on, Describes.Describes, Fault.IsNext}
 use Rattle.zk_talk.specs.Refused.{HasBody, AnswersOp, AnswersNone, request, event, reply}
-use Rattle.zk_talk.proofs.Queues.{requests-length}
-use Rattle.zk_talk.proofs.Judging.{front_none, next_waits}
-use Rattle.zk_talk.proofs.FaultOnce.{next_once, next_exists}
+use Rattle.zk_talk.proofs.{Queues.requests-length, Judging.front_none, Judging.next_waits, FaultOnce.next_once, FaultOnce.next_exists}
 
 abbrev Number : Layout
 Number = One Int End

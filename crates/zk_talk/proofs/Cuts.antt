@@ -4,8 +4,7 @@ use Rattle.std.specs.List.{AllByRecursion}
 use Rattle.std.proofs.lemmas.List.{append-nil, same_from_push}
 use Rattle.zk_frames.specs.Framing.{frame, frames, IsBeginning, IsCut, IsBadLength}
 use Rattle.zk_talk.proofs.Lists.{by_last, IsPushed, not_empty}
-use Rattle.zk_frames.proofs.Cuts.{length-frame, AllByRecursion-left, AllByRecursion-right, bad_length, whole_frame}
-use Rattle.zk_frames.proofs.Taking.{beginning_front, frame_front, frames_push, goes_on, goes_whole}
+use Rattle.zk_frames.proofs.{Cuts.length-frame, Cuts.AllByRecursion-left, Cuts.AllByRecursion-right, Cuts.bad_length, Cuts.whole_frame, Taking.beginning_front, Taking.frame_front, Taking.frames_push, Taking.goes_on, Taking.goes_whole}
 
 module _ (limit : ℕ) (X : List ℕ) (x : ℕ) where
   pub cut_more : (P : List (List ℕ)) (b : List ℕ) → IsCut limit X P b → IsBeginning limit (b ++ x ∷ []) → IsCut limit (X ++ x ∷ []) P (b ++ x ∷ [])

@@ -2,55 +2,34 @@
 use Rattle.std.proofs.Common.{◌≡◌, ℕ, zero, suc, ◌+◌, ◌<◌, ◌≤◌, ◌^◌, ◌⊎◌, inl, inr, List, [], ◌∷◌, ◌++◌, length, drop, Option, Some, None, refl, sym, subst, ◌∙◌, append_assoc, arith}
 use Rattle.std.specs.Prelude.{◌≢◌, slice_get}
 use Rattle.std.specs.List.{AllByRecursion}
-use Rattle.std.proofs.lemmas.Bool.{cases_lt, cases_eq}
-use Rattle.std.proofs.lemmas.List.{append-nil}
-use Rattle.zk_jute.specs.declared.fault.ItemFault.{ItemFault}
-use Rattle.zk_jute.specs.declared.fault.Reason.{Reason}
+use Rattle.std.proofs.{lemmas.Bool.cases_lt, lemmas.Bool.cases_eq, lemmas.List.append-nil}
+use Rattle.zk_jute.specs.{declared.fault.ItemFault.ItemFault, declared.fault.Reason.Reason, Reading.told_place}
 use Rattle.zk_jute.specs.declared.fault.Reason.TheVariants.{StreamEnd, LengthRange, QueueFull, Unasked, XidOrder}
-use Rattle.zk_jute.specs.Reading.{told_place}
 use Rattle.zk_jute.proofs.Steps.{IsBytes, IsBytes-drop}
 use Rattle.zk_records.specs.declared.profile.Profile.{Profile}
-use Rattle.zk_asks.specs.Held.{ClientFrame}
+use Rattle.zk_asks.specs.{Held.ClientFrame, Codes.event_xid, Frames.IsFirst, Frames.IsLater, Frames.IsOfProfile, Frames.ops_of_ask, Rows.op_of_ask, Faults.IsAskFault}
 use Rattle.zk_asks.specs.declared.frame.ClientFrameOf.TheVariants.{Connect, Ask}
-use Rattle.zk_asks.specs.Codes.{event_xid}
-use Rattle.zk_asks.specs.Frames.{IsFirst, IsLater, IsOfProfile, ops_of_ask}
 use Rattle.zk_asks.specs.Frames as asks
-use Rattle.zk_asks.specs.Rows.{op_of_ask}
-use Rattle.zk_asks.specs.Faults.{IsAskFault}
-use Rattle.zk_asks.proofs.Choices.{int_decided}
-use Rattle.zk_asks.proofs.Deciding.{first_decided, ask_decided, FirstIs, LaterIs}
+use Rattle.zk_asks.proofs.{Choices.int_decided, Deciding.first_decided, Deciding.ask_decided, Deciding.FirstIs, Deciding.LaterIs}
 use Rattle.zk_answers.specs.Held.{ServerFrame}
 use Rattle.zk_answers.specs.declared.frame.ServerFrameOf.TheVariants.{Connected, Answered, Event}
 use Rattle.zk_answers.specs.Frames as answers
 use Rattle.zk_answers.proofs.Deciding.{connected_decided, head_decided, Heads, event_decided, reply_decided}
 use Rattle.zk_frames.specs.Framing.{IsBeginning, IsFrame, IsBadLength}
 use Rattle.zk_frames.proofs.Extending.{extended}
-use Rattle.zk_waiting.specs.declared.lane.Lane.{Lane}
+use Rattle.zk_waiting.specs.{declared.lane.Lane.Lane, Lane.lane_of}
 use Rattle.zk_waiting.specs.declared.lane.Lane.TheVariants as lanes
-use Rattle.zk_waiting.specs.Lane.{lane_of}
 use Rattle.zk_waiting.specs.Waiting.{Lanes, Request, queue_on, weight_of, IsPut, IsDropped}
-use Rattle.zk_talk.specs.declared.limits.Limits.{Limits}
-use Rattle.zk_talk.specs.declared.message.Side.{Side}
+use Rattle.zk_talk.specs.{declared.limits.Limits.Limits, declared.message.Side.Side, declared.message.Fault.Fault, Held.Message, Payloads.client_payload, Payloads.server_payload, History.History, History.on, Conversation.weight}
 use Rattle.zk_talk.specs.declared.message.Side.TheVariants.{Client, Server}
-use Rattle.zk_talk.specs.declared.message.Fault.{Fault}
 use Rattle.zk_talk.specs.declared.message.Ending.TheVariants as ending
 use Rattle.zk_talk.specs.declared.message.MessageOf.TheVariants.{Client as FromClient, Server as FromServer}
-use Rattle.zk_talk.specs.Held.{Message}
-use Rattle.zk_talk.specs.Payloads.{client_payload, server_payload}
-use Rattle.zk_talk.specs.History.{History, on}
-use Rattle.zk_talk.specs.Conversation.{weight}
-use Rattle.zk_talk.specs.Good.{IsGood}
-use Rattle.zk_talk.specs.Fault.{IsFaultOf, fault_of, side_limit}
-use Rattle.zk_talk.specs.Answer.{AreMessages}
+use Rattle.zk_talk.specs.{Good.IsGood, Fault.IsFaultOf, Fault.fault_of, Fault.side_limit, Answer.AreMessages, Judged.IsNextClient, Judged.IsNextServer, Judged.IsNumbered, Judged.IsForgotten, Judged.HasRoomFor}
 use Rattle.zk_talk.specs.Stands.{TalkState, Stands, Refuses, held_on, frames_on, size_on}
-use Rattle.zk_talk.specs.Judged.{IsNextClient, IsNextServer, IsNumbered, IsForgotten, HasRoomFor}
 use Rattle.zk_talk.specs.Advance.IsStop.{too_many, out_of_range}
-use Rattle.zk_talk.proofs.Small.{small_limits}
-use Rattle.zk_talk.proofs.Start.{start_state, start}
-use Rattle.zk_talk.proofs.Talks.{grown, counted, refusing}
+use Rattle.zk_talk.proofs.{Small.small_limits, Start.start_state, Start.start, Talks.grown, Talks.counted, Talks.refusing, Headline.messages_more}
 use Rattle.zk_talk.proofs.Sides.{IsNextOn, TellsOn, told_nothing, goes_within, stopped, goes_whole, judged}
 use Rattle.zk_talk.proofs.Judging.{later_may, first_refused, ask_refused, full, too_early, connected_refused, connected_may, head_refused, event_refused, event_may, nothing_waits, wrong, reply_refused, reply_may, reply_due, due_waits, connected_due, event_due}
-use Rattle.zk_talk.proofs.Headline.{messages_more}
 
 abbrev pub AreBytes : History → Type 0
 AreBytes h = AllByRecursion (λ (x : Side × ℕ). x.1 < 256) h

@@ -2,13 +2,8 @@
 use Rattle.std.proofs.Common.{◌≡◌, ℕ, ◌+◌, ◌<◌, List, [], ◌∷◌, length, refl, subst, arith}
 use Rattle.zk_asks.specs.Held.{ClientFrame}
 use Rattle.zk_answers.specs.Held.{ServerFrame}
-use Rattle.zk_talk.specs.History.{History}
-use Rattle.zk_talk.specs.Conversation.{Conversation}
-use Rattle.zk_talk.specs.Good.{Good}
-use Rattle.zk_talk.specs.Held.{Message}
-use Rattle.zk_talk.specs.Stands.{TalkState, Stands}
+use Rattle.zk_talk.specs.{History.History, Conversation.Conversation, Good.Good, Held.Message, Stands.TalkState, Stands.Stands, Ending.unwelcomed, Ending.unanswered}
 use Rattle.zk_waiting.specs.Waiting.{count_of}
-use Rattle.zk_talk.specs.Ending.{unwelcomed, unanswered}
 use Rattle.zk_talk.proofs.Queues.{count_is_waiting}
 
 one_unwelcomed : (C : List ClientFrame) (S : List ServerFrame) → 0 < length C → length S ≡ 0 → unwelcomed C S ≡ 1

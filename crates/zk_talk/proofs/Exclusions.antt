@@ -3,35 +3,22 @@ use Rattle.std.proofs.Common.{◌≡◌, ◌≢◌, ◌≤◌, ◌⊎◌, inl, i
 use Rattle.std.specs.Prelude.{negsuc}
 use Rattle.std.proofs.lemmas.List.{append-nil}
 use Rattle.zk_jute.specs.Item.{Fit}
-use Rattle.zk_asks.specs.Held.{Ask as Asked}
-use Rattle.zk_asks.specs.Held.{ClientFrame}
+use Rattle.zk_asks.specs.{Held.Ask as Asked, Held.ClientFrame, Frames.IsFirst, Frames.IsLater, Frames.IsOfProfile, Frames.ops_of_ask, Rows.op_of_ask}
 use Rattle.zk_asks.specs.declared.frame.ClientFrameOf.TheVariants.{Connect, Ask}
 use Rattle.zk_records.specs.declared.profile.Profile.{Profile}
-use Rattle.zk_asks.specs.Frames.{IsFirst, IsLater, IsOfProfile, ops_of_ask}
-use Rattle.zk_asks.specs.Rows.{op_of_ask}
 use Rattle.zk_asks.specs.Frames as asks
-use Rattle.zk_answers.specs.Held.{Reply, ServerFrame}
+use Rattle.zk_answers.specs.{Held.Reply, Held.ServerFrame, Frames.IsConnected, Frames.IsEvent, Frames.Fits}
 use Rattle.zk_answers.specs.declared.frame.ServerFrameOf.TheVariants.{Connected, Answered, Event}
-use Rattle.zk_answers.specs.Frames.{IsConnected, IsEvent, Fits}
 use Rattle.zk_answers.specs.Frames as answers
 use Rattle.zk_waiting.specs.Lane.{lane_of}
-use Rattle.zk_talk.specs.declared.limits.Limits.{Limits}
-use Rattle.zk_talk.specs.Held.{Message}
+use Rattle.zk_talk.specs.{declared.limits.Limits.Limits, Held.Message, declared.say.SayFault.SayFault, Payloads.client_payload, Payloads.server_payload, Splits.EachAfter, Fault.IsNext}
 use Rattle.zk_talk.specs.declared.message.MessageOf.TheVariants.{Client as FromClient, Server as FromServer}
-use Rattle.zk_talk.specs.declared.say.SayFault.{SayFault}
 use Rattle.zk_talk.specs.declared.say.SayFault.TheVariants.{NotFirst, Unasked, XidOrder, Misfit, TooLong, QueueFull, NoMemory}
-use Rattle.zk_talk.specs.Payloads.{client_payload, server_payload}
-use Rattle.zk_talk.specs.Splits.{EachAfter}
 use Rattle.zk_talk.specs.Conversation.{Conversation, IsConversation, asks_on, replies_on, ClientMay, ServerMay, IsAnswered}
-use Rattle.zk_talk.specs.Fault.{IsNext}
 use Rattle.zk_talk.specs.Said.{SpeakerState, Says, AreSaid, MayAsk, MaySay, IsSayFault, IsSaidClient, IsSaidServer, IsClientRefusal, IsServerRefusal, conversation_of}
 use Rattle.zk_talk.specs.Said.IsClientRefusal.{not_allowed, too_long, queue_full, second_connect, before_connect}
 use Rattle.zk_talk.specs.Said.IsServerRefusal.{no_connect, long_connected, long_event, event_xid, unasked, xid_order, misfit, long_reply, second_connected, before_connected}
-use Rattle.zk_talk.proofs.Lists.{EachAfter-nil}
-use Rattle.zk_talk.proofs.Loads.{load_ask}
-use Rattle.zk_talk.proofs.Steps.{conversation_client, conversation_server}
-use Rattle.zk_talk.proofs.Refusals.{may_first, may_later, sent_first}
-use Rattle.zk_talk.proofs.FaultOnce.{next_once, next_exists}
+use Rattle.zk_talk.proofs.{Lists.EachAfter-nil, Loads.load_ask, Steps.conversation_client, Steps.conversation_server, Refusals.may_first, Refusals.may_later, Refusals.sent_first, FaultOnce.next_once, FaultOnce.next_exists}
 use Rattle.zk_talk.proofs.Speaking.{one_client, one_server}
 
 -- ---- Messages that were said are a conversation.

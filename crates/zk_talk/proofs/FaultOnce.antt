@@ -1,52 +1,26 @@
 -- A history has one fault.
-use Rattle.std.proofs.Common.{◌≡◌, ◌≢◌, ℕ, ◌+◌, ◌<◌, ◌≤◌, ◌^◌, ◌⊎◌, inl, inr, List, [], ◌∷◌, ◌++◌, length, refl, sym, ap, ◌∙◌, subst, arith, append_assoc}
-use Rattle.std.proofs.lemmas.List.{append-nil}
-use Rattle.zk_asks.specs.declared.frame.ClientFrameOf.TheVariants.{Ask}
-use Rattle.zk_talk.specs.declared.message.Side.{Side}
+use Rattle.std.proofs.Common.{◌≡◌, ◌≢◌, ℕ, ◌+◌, ◌<◌, ◌≤◌, ◌^◌, ◌⊎◌, inl, inr, List, [], ◌∷◌, ◌++◌, length, refl, sym, ap, ◌∙◌, subst, arith, append_assoc, ℤ}
+use Rattle.std.proofs.{lemmas.List.append-nil, lemmas.List.append_cancel_left, lemmas.Bool.cases_order}
+use Rattle.zk_asks.specs.{declared.frame.ClientFrameOf.TheVariants.Ask, Held.Ask as Asked, Codes.event_xid, Rows.op_of_ask, Frames.ops_of_ask}
+use Rattle.zk_talk.specs.{declared.message.Side.Side, declared.limits.Limits.Limits, History.History, History.side_bytes, Good.Good, Good.IsGood, declared.message.Fault.Fault}
 use Rattle.zk_talk.specs.declared.message.Side.TheVariants.{Client, Server}
-use Rattle.zk_talk.specs.declared.limits.Limits.{Limits}
-use Rattle.zk_talk.specs.History.{History, side_bytes}
 use Rattle.zk_frames.specs.Framing.{frame}
-use Rattle.zk_waiting.specs.Lane.{lane_of}
-use Rattle.zk_talk.specs.Conversation.{asks_on, replies_on, Conversation}
-use Rattle.zk_talk.specs.Good.{Good, IsGood}
-use Rattle.zk_talk.proofs.Small.{AreSmall}
-use Rattle.zk_jute.specs.declared.fault.Reason.{Reason}
-use Rattle.zk_jute.specs.Reading.{told_place}
-use Rattle.zk_talk.specs.declared.message.Fault.{Fault}
-use Rattle.zk_waiting.specs.declared.lane.Lane.{Lane}
-use Rattle.zk_talk.specs.Fault.{IsCause, IsFaultOf, IsPayloadFault}
-use Rattle.zk_talk.specs.Fault.IsCause.{stream_end, length_range, payload_fault}
-use Rattle.zk_talk.specs.declared.message.Ending.{Ending}
+use Rattle.zk_waiting.specs.{Lane.lane_of, Lane.same_lane, declared.lane.Lane.Lane}
+use Rattle.zk_talk.specs.Conversation.{asks_on, replies_on, Conversation, is_ask_on}
+use Rattle.zk_talk.proofs.{Small.AreSmall, GoodFronts.good_front, Turns.count_split, Turns.nth_passing, Turns.same_lane-itself, Headline.same_good, Headline.fault_is_bad, Advancing.never_both}
+use Rattle.zk_jute.specs.{declared.fault.Reason.Reason, Reading.told_place}
+use Rattle.zk_talk.specs.Fault.{IsCause, IsFaultOf, IsPayloadFault, IsNext, IsClientFault, IsServerFault, side_limit, frame_count, rest_on}
+use Rattle.zk_talk.specs.{Fault.IsCause.stream_end, Fault.IsCause.length_range, Fault.IsCause.payload_fault, declared.message.Ending.Ending, Ending.IsEnding}
 use Rattle.zk_talk.specs.declared.message.Ending.TheVariants.{Whole, Cut, Refused}
-use Rattle.zk_talk.specs.Ending.{IsEnding}
-use Rattle.zk_talk.proofs.GoodFronts.{good_front}
-use Rattle.std.proofs.lemmas.Bool.{cases_order}
-use Rattle.std.proofs.lemmas.List.{append_cancel_left}
-use Rattle.zk_frames.proofs.Cuts.{same_fronts}
-use Rattle.std.proofs.Common.{ℤ}
+use Rattle.zk_frames.proofs.Cuts.{same_fronts, same_frame}
 use Rattle.zk_records.specs.declared.header.ReplyHeader.{ReplyHeader}
-use Rattle.zk_asks.specs.Held.{Ask as Asked}
-use Rattle.zk_asks.specs.Codes.{event_xid}
-use Rattle.zk_asks.specs.Rows.{op_of_ask}
-use Rattle.zk_asks.specs.Frames.{ops_of_ask}
 use Rattle.zk_answers.specs.Faults.{IsConnectedFault, IsHead, IsHeadFault, IsReplyFault, IsEventFault}
 use Rattle.zk_jute.specs.declared.fault.Reason.TheVariants.{Unasked, XidOrder}
-use Rattle.zk_asks.proofs.First.{first_unique}
-use Rattle.zk_asks.proofs.Later.{ask_unique}
-use Rattle.zk_answers.proofs.Connected.{connected_unique}
-use Rattle.zk_answers.proofs.Replies.{reply_unique}
-use Rattle.zk_answers.proofs.Events.{event_unique}
+use Rattle.zk_asks.proofs.{First.first_unique, Later.ask_unique}
+use Rattle.zk_answers.proofs.{Connected.connected_unique, Replies.reply_unique, Events.event_unique}
 use Rattle.zk_talk.proofs.Payloads.{Same, ask_excluded, head_excluded, same_head, head_once}
-use Rattle.zk_waiting.specs.Lane.{same_lane}
-use Rattle.zk_talk.specs.Conversation.{is_ask_on}
-use Rattle.zk_talk.specs.Fault.{IsNext, IsClientFault, IsServerFault, side_limit, frame_count, rest_on}
 use Rattle.zk_talk.specs.Fault.IsClientFault.{connect_fault, ask_fault, queue_full}
 use Rattle.zk_talk.specs.Fault.IsServerFault.{no_connect, connected_fault, head_fault, event_fault, unasked, wrong_xid, reply_fault}
-use Rattle.zk_talk.proofs.Turns.{count_split, nth_passing, same_lane-itself}
-use Rattle.zk_frames.proofs.Cuts.{same_frame}
-use Rattle.zk_talk.proofs.Headline.{same_good, fault_is_bad}
-use Rattle.zk_talk.proofs.Advancing.{never_both}
 
 -- of two fronts of a list one is a front of the other
 pub fronts_nested : {X : Type 0} (a b c d : List X) → a ++ b ≡ c ++ d → length a < length c → (x : X) × (more : List X) × (c ≡ a ++ x ∷ more)

@@ -1,19 +1,8 @@
 -- A piece that is taken bit by bit.
-use Rattle.std.proofs.Common.{◌≡◌, ℕ, ◌+◌, inl, inr, List, ◌++◌, drop, sym, ap, ◌∙◌, subst, append_assoc}
-use Rattle.std.proofs.lemmas.List.{map-append}
-use Rattle.zk_talk.specs.declared.message.Side.{Side}
-use Rattle.zk_talk.specs.History.{History}
-use Rattle.std.proofs.Common.{Some, take}
-use Rattle.zk_talk.specs.declared.message.Fault.{Fault}
-use Rattle.zk_talk.specs.Held.{Message}
-use Rattle.zk_talk.specs.History.{on}
-use Rattle.zk_talk.specs.Stands.{TalkState, Stands, Refuses}
-use Rattle.std.proofs.Common.{drop}
-use Rattle.std.proofs.lemmas.List.{take-append-drop}
-use Rattle.std.proofs.Math.Seq.{take-add}
+use Rattle.std.proofs.Common.{◌≡◌, ℕ, ◌+◌, inl, inr, List, ◌++◌, drop, sym, ap, ◌∙◌, subst, append_assoc, Some, take}
+use Rattle.std.proofs.{lemmas.List.map-append, lemmas.List.take-append-drop, Math.Seq.take-add}
+use Rattle.zk_talk.specs.{declared.message.Side.Side, History.History, History.on, declared.message.Fault.Fault, Held.Message, Stands.TalkState, Stands.Stands, Stands.Refuses, Taking.GoesOn, Taking.Fails, Answer.TakesAll}
 use Rattle.zk_jute.specs.declared.fault.Reason.TheVariants.{NoMemory}
-use Rattle.zk_talk.specs.Taking.{GoesOn, Fails}
-use Rattle.zk_talk.specs.Answer.{TakesAll}
 
 on-append : (side : Side) (a b : List ℕ) → on side (a ++ b) ≡ on side a ++ on side b
 on-append side a b = map-append (λ (z : ℕ). (side, z)) a b

@@ -1,30 +1,14 @@
 -- The messages of a good front stand first among those of its history.
 use Rattle.std.proofs.Common.{◌≡◌, ℕ, ◌<◌, ◌⊎◌, inl, inr, List, [], ◌∷◌, ◌++◌, length, refl, sym, ap, ◌∙◌, subst, append_assoc}
-use Rattle.std.proofs.lemmas.Bool.{cases_order}
-use Rattle.std.proofs.lemmas.List.{append-nil, append_cancel_left}
-use Rattle.zk_asks.specs.Held.{ClientFrame}
-use Rattle.zk_asks.specs.declared.frame.ClientFrameOf.TheVariants.{Ask}
+use Rattle.std.proofs.{lemmas.Bool.cases_order, lemmas.List.append-nil, lemmas.List.append_cancel_left}
+use Rattle.zk_asks.specs.{Held.ClientFrame, declared.frame.ClientFrameOf.TheVariants.Ask}
 use Rattle.zk_answers.specs.Held.{ServerFrame}
 use Rattle.zk_answers.specs.declared.frame.ServerFrameOf.TheVariants.{Connected, Answered, Event}
 use Rattle.zk_frames.proofs.Cuts.{same_fronts}
-use Rattle.zk_talk.specs.declared.limits.Limits.{Limits}
-use Rattle.zk_talk.specs.Held.{Message}
-use Rattle.zk_talk.specs.declared.message.Fault.{Fault}
-use Rattle.zk_talk.specs.declared.message.Ending.{Ending}
+use Rattle.zk_talk.specs.{declared.limits.Limits.Limits, Held.Message, declared.message.Fault.Fault, declared.message.Ending.Ending, Splits.EachAfter, History.History}
 use Rattle.zk_talk.specs.declared.message.Ending.TheVariants.{Whole, Cut, Refused}
-use Rattle.zk_talk.specs.Splits.{EachAfter}
-use Rattle.zk_talk.specs.History.{History}
-use Rattle.zk_talk.specs.Conversation.{ClientMay, ServerMay, Conversation}
-use Rattle.zk_talk.specs.Good.{Good, IsGood, IsOrder, AreWholeIn, clients, servers}
-use Rattle.zk_talk.specs.Fault.{IsFaultOf}
-use Rattle.zk_talk.specs.Answer.{AreMessages}
-use Rattle.zk_talk.proofs.Small.{AreSmall, small_limits}
-use Rattle.zk_talk.proofs.Lists.{EachAfter-left}
-use Rattle.zk_talk.proofs.Turns.{same_clients, same_servers}
-use Rattle.zk_talk.proofs.Steps.{same_whole}
-use Rattle.zk_talk.proofs.Standing.{clients-append, servers-append}
-use Rattle.zk_talk.proofs.GoodFronts.{good_front}
-use Rattle.zk_talk.proofs.FaultOnce.{fronts_nested}
+use Rattle.zk_talk.specs.{Conversation.ClientMay, Conversation.ServerMay, Conversation.Conversation, Good.Good, Good.IsGood, Good.IsOrder, Good.AreWholeIn, Good.clients, Good.servers, Fault.IsFaultOf, Answer.AreMessages}
+use Rattle.zk_talk.proofs.{Small.AreSmall, Small.small_limits, Lists.EachAfter-left, Turns.same_clients, Turns.same_servers, Steps.same_whole, Standing.clients-append, Standing.servers-append, GoodFronts.good_front, FaultOnce.fronts_nested}
 use Rattle.zk_talk.proofs.OrderOnce.{same_first, order_whole}
 
 -- What the server may send, it may send where the client has sent more.

@@ -1,7 +1,6 @@
 -- The frame of a payload, as it is written.
 use Rattle.std.proofs.Common.{◌≡◌, ◌≤◌, ◌+◌, ◌-◌, ℕ, List, ◌++◌, length, take, drop, pos, sym, ap, ◌∙◌, arith, append_assoc}
-use Rattle.std.proofs.lemmas.List.{length-drop, take-append-drop}
-use Rattle.std.proofs.lemmas.Slice.{take-put_mid, drop-put_mid}
+use Rattle.std.proofs.{lemmas.List.length-drop, lemmas.List.take-append-drop, lemmas.Slice.take-put_mid, lemmas.Slice.drop-put_mid}
 use borrow.Rule.Slice.PartMut.{put_mid}
 use Rattle.zk_jute.specs.Item as jute
 use Rattle.zk_asks.specs.Held.{ClientFrame}

@@ -6,24 +6,14 @@ use Rattle.zk_asks.specs.Held.{ClientFrame}
 use Rattle.zk_asks.specs.declared.frame.ClientFrameOf.TheVariants.{Connect, Ask}
 use Rattle.zk_answers.specs.Held.{ServerFrame}
 use Rattle.zk_answers.specs.declared.frame.ServerFrameOf.TheVariants.{Connected, Answered, Event}
-use Rattle.zk_talk.specs.Payloads.{client_payload, server_payload}
-use Rattle.zk_talk.specs.declared.message.Side.{Side}
+use Rattle.zk_talk.specs.{Payloads.client_payload, Payloads.server_payload, declared.message.Side.Side, declared.limits.Limits.Limits, Splits.EachAfter, History.History, History.side_bytes}
 use Rattle.zk_talk.specs.declared.message.Side.TheVariants.{Client, Server}
-use Rattle.zk_talk.specs.declared.limits.Limits.{Limits}
-use Rattle.zk_talk.specs.Splits.{EachAfter}
-use Rattle.zk_talk.specs.History.{History, side_bytes}
 use Rattle.zk_frames.specs.Framing.{IsCut}
 use Rattle.zk_waiting.specs.Lane.{lane_of}
 use Rattle.zk_talk.specs.Conversation.{asks_on, ClientMay, ServerMay, IsAnswered, Answers, Conversation, IsConversation}
 use Rattle.zk_talk.specs.Good.{client_payloads, server_payloads, client_bytes, IsWhole, IsCausal, IsBounded, Good, IsGood}
-use Rattle.zk_talk.proofs.Lists.{EachAfter-left, EachAfter-at, map_pushed}
-use Rattle.zk_talk.proofs.Cuts.{cut_front, Shorter}
-use Rattle.zk_talk.proofs.Cuts.Shorter.{within_frame, frame_end}
-use Rattle.zk_talk.proofs.Histories.{side_bytes-same, other-bytes, front-length}
-use Rattle.zk_talk.proofs.Steps.{client_within, server_within}
-use Rattle.zk_talk.proofs.Lists.{InPushed, in_pushed}
-use Rattle.zk_talk.proofs.Lists.InPushed.{at_end, inside}
-use Rattle.zk_talk.proofs.Steps.{bytes_front}
+use Rattle.zk_talk.proofs.{Lists.EachAfter-left, Lists.EachAfter-at, Lists.map_pushed, Lists.InPushed, Lists.in_pushed, Cuts.cut_front, Cuts.Shorter, Cuts.Shorter.within_frame, Cuts.Shorter.frame_end}
+use Rattle.zk_talk.proofs.{Histories.side_bytes-same, Histories.other-bytes, Histories.front-length, Steps.client_within, Steps.server_within, Steps.bytes_front, Lists.InPushed.at_end, Lists.InPushed.inside}
 
 -- What the server may send where the client's last frame is not answered, it may send without it.
 may_without : (profile : Profile) (C : List ClientFrame) (f : ClientFrame) (before : List ServerFrame) (s : ServerFrame) → ClientMay profile C f → (Answers before s C f → ⊥) → ServerMay (C ++ f ∷ []) before s → ServerMay C before s

@@ -3,21 +3,13 @@ use Rattle.std.proofs.Common.{◌≡◌, ℕ, ◌+◌, ◌<◌, ◌≤◌, ◌^�
 use Rattle.std.proofs.lemmas.List.{append-nil, map-append, length_push}
 use Rattle.zk_asks.specs.Held.{ClientFrame}
 use Rattle.zk_answers.specs.Held.{ServerFrame}
-use Rattle.zk_talk.specs.Payloads.{client_payload, server_payload}
-use Rattle.zk_talk.specs.declared.message.Side.{Side}
+use Rattle.zk_talk.specs.{Payloads.client_payload, Payloads.server_payload, declared.message.Side.Side, Fault.side_limit, Fault.rest_on, declared.limits.Limits.Limits, Splits.EachAfter, History.History, History.side_bytes}
 use Rattle.zk_talk.specs.declared.message.Side.TheVariants.{Client, Server}
-use Rattle.zk_talk.specs.Fault.{side_limit, rest_on}
-use Rattle.zk_talk.specs.declared.limits.Limits.{Limits}
-use Rattle.zk_talk.specs.Splits.{EachAfter}
-use Rattle.zk_talk.specs.History.{History, side_bytes}
 use Rattle.zk_frames.specs.Framing.{frame, IsCut, IsBeginning, IsBadLength}
 use Rattle.zk_talk.specs.Conversation.{with_client, with_server, ClientMay, ServerMay, Conversation, IsConversation, load}
 use Rattle.zk_talk.specs.Good.{client_payloads, server_payloads, IsCausal, IsBounded, IsWhole, Good, IsGood}
-use Rattle.zk_talk.proofs.Small.{AreSmall}
-use Rattle.zk_talk.proofs.Lists.{EachAfter-left, EachAfter-at, map_pushed}
+use Rattle.zk_talk.proofs.{Small.AreSmall, Lists.EachAfter-left, Lists.EachAfter-at, Lists.map_pushed, Cuts.cut_more, Cuts.cut_whole, Cuts.cut_bad, Cuts.cut_only, Turns.same_clients, Turns.same_servers}
 use Rattle.zk_frames.proofs.Cuts.{same_cut}
-use Rattle.zk_talk.proofs.Cuts.{cut_more, cut_whole, cut_bad, cut_only}
-use Rattle.zk_talk.proofs.Turns.{same_clients, same_servers}
 use Rattle.zk_talk.proofs.Histories.{side_bytes-same, other-bytes}
 use Rattle.zk_talk.proofs.Steps.{causal_lift, bounded_lift, each_still, conversation_client, conversation_server, causal_client, bounded_client, causal_server, bounded_server, load_reply}
 

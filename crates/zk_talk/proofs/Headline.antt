@@ -1,33 +1,14 @@
 -- A whole history.
-use Rattle.std.proofs.Common.{◌≡◌, ℕ, ◌+◌, ◌<◌, ◌≤◌, List, [], ◌∷◌, ◌++◌, length, drop, refl, sym, ap, ◌∙◌, subst, append_assoc}
-use Rattle.std.proofs.lemmas.List.{append-nil}
+use Rattle.std.proofs.Common.{◌≡◌, ℕ, ◌+◌, ◌<◌, ◌≤◌, List, [], ◌∷◌, ◌++◌, length, drop, refl, sym, ap, ◌∙◌, subst, append_assoc, Option, Some, None, take, get_or}
+use Rattle.std.proofs.lemmas.List.{append-nil, take-append-drop, take_more, take_all}
 use Rattle.zk_talk.specs.declared.message.Side.TheVariants.{Client, Server}
-use Rattle.zk_talk.specs.declared.limits.Limits.{Limits}
-use Rattle.zk_talk.specs.Splits.{EachAfter}
-use Rattle.zk_talk.specs.History.{History}
-use Rattle.zk_talk.specs.Conversation.{ServerMay, Conversation}
-use Rattle.zk_talk.specs.Good.{Good, IsGood}
-use Rattle.zk_talk.proofs.Small.{AreSmall, small_limits}
-use Rattle.zk_talk.proofs.Turns.{same_clients, same_servers}
-use Rattle.zk_talk.proofs.Steps.{same_whole}
-use Rattle.std.proofs.Common.{Option, Some, None, take}
-use Rattle.zk_talk.specs.declared.message.Fault.{Fault}
-use Rattle.zk_talk.specs.Held.{Message}
-use Rattle.zk_talk.specs.History.{on}
-use Rattle.zk_talk.specs.Good.{IsOrder}
-use Rattle.zk_talk.specs.Fault.{IsFaultOf}
-use Rattle.zk_talk.specs.Numbers.{IsNewest}
-use Rattle.zk_talk.specs.Stands.{TalkState, Stands, Refuses, held_on}
-use Rattle.std.proofs.Common.{drop, get_or}
-use Rattle.std.proofs.lemmas.List.{take-append-drop, take_more, take_all}
+use Rattle.zk_talk.specs.{declared.limits.Limits.Limits, Splits.EachAfter, History.History, History.on, Conversation.ServerMay, Conversation.Conversation, Good.Good, Good.IsGood, Good.IsOrder, declared.message.Fault.Fault, Held.Message}
+use Rattle.zk_talk.proofs.{Small.AreSmall, Small.small_limits, Turns.same_clients, Turns.same_servers, Steps.same_whole, GoodFronts.good_front}
+use Rattle.zk_talk.specs.{Fault.IsFaultOf, Numbers.IsNewest, Stands.TalkState, Stands.Stands, Stands.Refuses, Stands.held_on, declared.message.Side.Side, declared.message.Ending.Ending, Ending.IsEnding, Ending.unanswered}
 use Rattle.std.specs.Borrow.{Bor}
-use Rattle.zk_talk.specs.declared.message.Side.{Side}
-use Rattle.zk_talk.specs.declared.message.Ending.{Ending}
 use Rattle.zk_talk.specs.declared.message.Ending.TheVariants.{Whole, Cut, Refused}
-use Rattle.zk_talk.specs.Ending.{IsEnding, unanswered}
 use Rattle.zk_talk.specs.Answer.{history_of, AreMessages, TakesAll}
 use Rattle.std.proofs.lemmas.List.Concat.{flat_map-append}
-use Rattle.zk_talk.proofs.GoodFronts.{good_front}
 
 -- Only one conversation is spelled.
 pub same_good : (limits : Limits) → AreSmall limits → (h : History) (v w : Conversation) (cb sb db tb : List ℕ) → Good limits h v cb sb → Good limits h w db tb → (v ≡ w) × (cb ≡ db) × (sb ≡ tb)

@@ -1,12 +1,9 @@
 -- Whether a side has spoken, and how many frames it has.
 use Rattle.std.proofs.Common.{◌≡◌, ℕ, List, [], ◌∷◌, length, refl, ap, ◌∙◌, arith, Bool, true, false, MatchBool}
-use Rattle.zk_answers.specs.Held.{ServerFrame}
+use Rattle.zk_answers.specs.{Held.ServerFrame, Frames.IsConnected, Frames.IsEvent}
 use Rattle.zk_answers.specs.declared.frame.ServerFrameOf.TheVariants.{Connected, Answered, Event}
-use Rattle.zk_answers.specs.Frames.{IsConnected, IsEvent}
 use Rattle.zk_waiting.specs.Waiting.{Lanes}
-use Rattle.zk_talk.specs.Conversation.{Conversation}
-use Rattle.zk_talk.specs.Describes.{Describes}
-use Rattle.zk_talk.specs.Said.{Heard, HasSpoken}
+use Rattle.zk_talk.specs.{Conversation.Conversation, Describes.Describes, Said.Heard, Said.HasSpoken}
 
 pub described : (asked welcomed : Bool) (w : Lanes) (v : Conversation) → Heard asked welcomed w v → Describes (length v.client) (length v.server) w v
 described asked welcomed w v heard = record { client = refl; server = refl; may = heard.may; queues = heard.queues }

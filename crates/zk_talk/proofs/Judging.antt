@@ -1,42 +1,23 @@
 -- What is judged, over plain values.
 use Rattle.std.proofs.Common.{◌≡◌, ◌≢◌, ℕ, ◌+◌, ◌<◌, ◌≤◌, ◌⊎◌, inl, inr, List, [], ◌∷◌, ◌++◌, length, drop, filter, refl, sym, ap, ◌∙◌, subst, arith, Some, None, length-drop}
 use Rattle.std.specs.Prelude.{slice_get, true}
-use Rattle.zk_jute.specs.declared.fault.Reason.{Reason}
+use Rattle.zk_jute.specs.{declared.fault.Reason.Reason, declared.fault.ItemFault.ItemFault}
 use Rattle.zk_jute.specs.declared.fault.Reason.TheVariants.{QueueFull, Unasked, XidOrder}
-use Rattle.zk_records.specs.declared.header.ReplyHeader.{ReplyHeader}
-use Rattle.zk_records.specs.declared.profile.Profile.{Profile}
-use Rattle.zk_asks.specs.Held.{Ask as Asked}
-use Rattle.zk_asks.specs.Held.{ClientFrame}
+use Rattle.zk_records.specs.{declared.header.ReplyHeader.ReplyHeader, declared.profile.Profile.Profile}
+use Rattle.zk_asks.specs.{Held.Ask as Asked, Held.ClientFrame, Codes.event_xid, Frames.IsFirst, Frames.IsLater, Frames.IsOfProfile, Frames.ops_of_ask, Rows.op_of_ask, Faults.IsFirstFault, Faults.IsAskFault}
 use Rattle.zk_asks.specs.declared.frame.ClientFrameOf.TheVariants.{Connect, Ask}
-use Rattle.zk_asks.specs.Codes.{event_xid}
-use Rattle.zk_asks.specs.Frames.{IsFirst, IsLater, IsOfProfile, ops_of_ask}
-use Rattle.zk_asks.specs.Rows.{op_of_ask}
 use Rattle.zk_asks.specs.Frames as asks
-use Rattle.zk_asks.specs.Faults.{IsFirstFault, IsAskFault}
-use Rattle.zk_answers.specs.Held.{ServerFrame}
+use Rattle.zk_answers.specs.{Held.ServerFrame, Frames.IsConnected, Frames.IsEvent, Frames.IsReplyTo, Frames.Fits, Faults.IsHead, Faults.IsConnectedFault, Faults.IsHeadFault, Faults.IsReplyFault, Faults.IsEventFault}
 use Rattle.zk_answers.specs.declared.frame.ServerFrameOf.TheVariants.{Connected, Answered, Event}
-use Rattle.zk_answers.specs.Frames.{IsConnected, IsEvent, IsReplyTo, Fits}
 use Rattle.zk_answers.specs.Frames as answers
-use Rattle.zk_answers.specs.Faults.{IsHead, IsConnectedFault, IsHeadFault, IsReplyFault, IsEventFault}
-use Rattle.zk_waiting.specs.declared.lane.Lane.{Lane}
-use Rattle.zk_waiting.specs.Lane.{lane_of}
-use Rattle.zk_waiting.specs.Waiting.{Request, Lanes, queue_on, weight_of}
-use Rattle.zk_talk.specs.declared.limits.Limits.{Limits}
-use Rattle.zk_talk.specs.Payloads.{client_payload, server_payload}
+use Rattle.zk_waiting.specs.{declared.lane.Lane.Lane, Lane.lane_of, Waiting.Request, Waiting.Lanes, Waiting.queue_on, Waiting.weight_of}
+use Rattle.zk_talk.specs.{declared.limits.Limits.Limits, Payloads.client_payload, Payloads.server_payload, Fault.IsNext, Fault.IsClientFault, Fault.IsServerFault, Queues.IsRequest, Queues.AreRequests, Describes.Describes}
 use Rattle.zk_talk.specs.Conversation.{Conversation, is_ask_on, asks_on, replies_on, ClientMay, ServerMay, IsAnswered, load, weight}
-use Rattle.zk_talk.specs.Fault.{IsNext, IsClientFault, IsServerFault}
 use Rattle.zk_talk.specs.Fault.IsClientFault.{connect_fault, ask_fault, queue_full}
 use Rattle.zk_talk.specs.Fault.IsServerFault.{no_connect, connected_fault, head_fault, event_fault, unasked, wrong_xid, reply_fault}
-use Rattle.zk_talk.specs.Queues.{IsRequest, AreRequests}
-use Rattle.zk_talk.specs.Describes.{Describes}
 use Rattle.std.proofs.lemmas.Bool.{cases_order}
-use Rattle.zk_jute.specs.declared.fault.ItemFault.{ItemFault}
 use Rattle.zk_talk.specs.Judged.{Tells, IsInTurn, IsNumbered, HasRoomFor, IsDue, HasAsk}
-use Rattle.zk_talk.proofs.Turns.{first_left}
-use Rattle.zk_talk.proofs.Loads.{load_ask, lanes_same}
-use Rattle.zk_talk.proofs.Queues.{weight_is_load, requests-head, requests-length}
-use Rattle.zk_talk.proofs.Lanes.{front_some}
-use Rattle.zk_talk.proofs.Payloads.{reply_head_is, same_head}
+use Rattle.zk_talk.proofs.{Turns.first_left, Loads.load_ask, Loads.lanes_same, Queues.weight_is_load, Queues.requests-head, Queues.requests-length, Lanes.front_some, Payloads.reply_head_is, Payloads.same_head}
 
 some_of : {X : Type 0} (n : ℕ) (xs : List X) → n ≡ length xs → (n ≡ 0 → ⊥) → xs ≢ []
 some_of n xs e h z = h (e ∙ ap length z)

@@ -1,22 +1,15 @@
 -- The lanes after a frame more.
 use Rattle.std.proofs.Common.{◌≡◌, ℕ, List, [], ◌∷◌, ◌++◌, drop, refl, sym, ap, ◌∙◌, subst, Bool, true, false, cond, Some}
 use Rattle.std.specs.Prelude.{slice_get}
-use Rattle.zk_asks.specs.Held.{ClientFrame}
+use Rattle.zk_asks.specs.{Held.ClientFrame, Rows.op_of_ask, Frames.ops_of_ask}
 use Rattle.zk_asks.specs.declared.frame.ClientFrameOf.TheVariants.{Connect, Ask}
-use Rattle.zk_asks.specs.Rows.{op_of_ask}
-use Rattle.zk_asks.specs.Frames.{ops_of_ask}
 use Rattle.zk_answers.specs.Held.{ServerFrame}
 use Rattle.zk_answers.specs.declared.frame.ServerFrameOf.TheVariants.{Connected, Answered, Event}
-use Rattle.zk_waiting.specs.declared.lane.Lane.{Lane}
+use Rattle.zk_waiting.specs.{declared.lane.Lane.Lane, Lane.lane_of, Lane.same_lane}
 use Rattle.zk_waiting.specs.declared.lane.Lane.TheVariants.{Ping, Auth, Watches, Plain}
-use Rattle.zk_waiting.specs.Lane.{lane_of, same_lane}
 use Rattle.zk_waiting.specs.Waiting.{Request, Lanes, queue_on, IsPut, IsDropped}
-use Rattle.zk_talk.specs.Conversation.{Conversation, with_client, with_server}
-use Rattle.zk_talk.specs.Queues.{IsQueue}
-use Rattle.zk_talk.specs.Describes.{Describes}
-use Rattle.zk_talk.specs.Judged.{HasRoomFor, IsNumbered, HasAsk, IsForgotten}
-use Rattle.zk_talk.proofs.Loads.{lanes_same}
-use Rattle.zk_talk.proofs.Queues.{queue_ask, queue_skip, queue_keep, queue_pop}
+use Rattle.zk_talk.specs.{Conversation.Conversation, Conversation.with_client, Conversation.with_server, Queues.IsQueue, Describes.Describes, Judged.HasRoomFor, Judged.IsNumbered, Judged.HasAsk, Judged.IsForgotten}
+use Rattle.zk_talk.proofs.{Loads.lanes_same, Queues.queue_ask, Queues.queue_skip, Queues.queue_keep, Queues.queue_pop}
 
 pub put_on : (l k : Lane) (r : Request) (w x : Lanes) → IsPut l r w x → queue_on k x ≡ cond (same_lane k l) (queue_on k w ++ r ∷ []) (queue_on k w)
 put_on Ping Ping r w x e = ap (queue_on Ping) e

@@ -3,25 +3,15 @@ use Rattle.std.proofs.Common.{◌≡◌, ℕ, suc, ◌+◌, ◌≤◌, List, [],
 use Rattle.std.specs.Prelude.{slice_get}
 use Rattle.std.proofs.lemmas.List.{append-nil, drop-append-le, drop-drop, map-append, same_from_push, length_push}
 use Rattle.zk_records.specs.declared.profile.Profile.{Profile}
-use Rattle.zk_asks.specs.Held.{ClientFrame}
+use Rattle.zk_asks.specs.{Held.ClientFrame, Rows.op_of_ask, Frames.ops_of_ask}
 use Rattle.zk_asks.specs.declared.frame.ClientFrameOf.TheVariants.{Connect, Ask}
-use Rattle.zk_asks.specs.Rows.{op_of_ask}
-use Rattle.zk_asks.specs.Frames.{ops_of_ask}
-use Rattle.zk_answers.specs.Held.{Reply, ServerFrame}
+use Rattle.zk_answers.specs.{Held.Reply, Held.ServerFrame, Frames.IsEvent}
 use Rattle.zk_answers.specs.declared.frame.ServerFrameOf.TheVariants.{Connected, Answered, Event}
-use Rattle.zk_answers.specs.Frames.{IsEvent}
-use Rattle.zk_waiting.specs.declared.lane.Lane.{Lane}
-use Rattle.zk_waiting.specs.Lane.{lane_of}
-use Rattle.zk_waiting.specs.Waiting.{Request, Lanes, queue_on}
-use Rattle.zk_talk.specs.declared.replied.Replied.{Replied}
-use Rattle.zk_talk.specs.Splits.{EachAfter}
+use Rattle.zk_waiting.specs.{declared.lane.Lane.Lane, Lane.lane_of, Waiting.Request, Waiting.Lanes, Waiting.queue_on}
+use Rattle.zk_talk.specs.{declared.replied.Replied.Replied, Splits.EachAfter, Judged.IsNumbered, Judged.HasAsk, Judged.IsForgotten, Judged.TellsReplied}
 use Rattle.zk_talk.specs.Conversation.{Conversation, ServerMay, IsConversation, IsAnswered, with_client, with_server, is_ask_on, is_reply_on, asks_on, replies_on}
 use Rattle.zk_talk.specs.Numbers.{numbers_from, HaveNumbers, AreNumbered, AnswersFrame, IsNewest}
-use Rattle.zk_talk.specs.Judged.{IsNumbered, HasAsk, IsForgotten, TellsReplied}
-use Rattle.zk_talk.proofs.Turns.{count_cons, same_lane-itself}
-use Rattle.zk_talk.proofs.Loads.{replies_in_asks}
-use Rattle.zk_talk.proofs.Lanes.{with_put, with_drop, front_some}
-use Rattle.zk_talk.proofs.Queues.{filter-skip, filter-keep}
+use Rattle.zk_talk.proofs.{Turns.count_cons, Turns.same_lane-itself, Loads.replies_in_asks, Lanes.with_put, Lanes.with_drop, Lanes.front_some, Queues.filter-skip, Queues.filter-keep}
 
 -- ---- the numbers of a lane's asks
 

@@ -1,28 +1,15 @@
 -- The messages of a history stand in one order.
 use Rattle.std.proofs.Common.{◌≡◌, ℕ, ◌+◌, ◌<◌, ◌^◌, ◌⊎◌, inl, inr, map, List, [], ◌∷◌, ◌++◌, length, refl, sym, ap, ◌∙◌, subst, arith, append_assoc, length-append}
-use Rattle.std.proofs.lemmas.List.{append-nil, length-map, length_push, nil_from_length}
+use Rattle.std.proofs.lemmas.List.{append-nil, length-map, length_push, nil_from_length, append_cancel_left}
 use Rattle.zk_asks.specs.Held.{ClientFrame}
 use Rattle.zk_answers.specs.Held.{ServerFrame}
-use Rattle.zk_talk.specs.Payloads.{client_payload, server_payload}
-use Rattle.zk_talk.specs.declared.message.Side.{Side}
+use Rattle.zk_talk.specs.{Payloads.client_payload, Payloads.server_payload, declared.message.Side.Side, declared.limits.Limits.Limits, History.History, History.side_bytes, Conversation.Conversation, Held.Message}
 use Rattle.zk_talk.specs.declared.message.Side.TheVariants.{Client, Server}
-use Rattle.zk_talk.specs.declared.limits.Limits.{Limits}
-use Rattle.zk_talk.specs.History.{History, side_bytes}
 use Rattle.zk_frames.specs.Framing.{frame, frames, IsCut}
-use Rattle.zk_talk.specs.Conversation.{Conversation}
-use Rattle.zk_talk.specs.Good.{client_payloads, server_payloads, IsWhole, AreWholeIn}
-use Rattle.zk_talk.proofs.Small.{AreSmall}
-use Rattle.zk_frames.proofs.Cuts.{length-frame, same_cut}
-use Rattle.zk_talk.proofs.Cuts.{cut_front, Shorter}
-use Rattle.zk_talk.proofs.Cuts.Shorter.{within_frame, frame_end}
-use Rattle.zk_talk.proofs.Histories.{no_bytes, side_bytes-same, other-bytes}
-use Rattle.zk_talk.proofs.Steps.{same_whole}
-use Rattle.zk_talk.specs.Held.{Message}
+use Rattle.zk_talk.specs.Good.{client_payloads, server_payloads, IsWhole, AreWholeIn, clients, servers, IsOrder}
+use Rattle.zk_talk.proofs.{Small.AreSmall, Cuts.cut_front, Cuts.Shorter, Cuts.Shorter.within_frame, Cuts.Shorter.frame_end, Histories.no_bytes, Histories.side_bytes-same, Histories.other-bytes, Steps.same_whole, FaultOnce.fronts_nested}
+use Rattle.zk_frames.proofs.Cuts.{length-frame, same_cut, same_fronts}
 use Rattle.zk_talk.specs.declared.message.MessageOf.TheVariants.{Client as FromClient, Server as FromServer}
-use Rattle.zk_talk.specs.Good.{clients, servers, IsOrder}
-use Rattle.std.proofs.lemmas.List.{append_cancel_left}
-use Rattle.zk_frames.proofs.Cuts.{same_fronts}
-use Rattle.zk_talk.proofs.FaultOnce.{fronts_nested}
 use Rattle.zk_talk.proofs.Standing.{clients-append, servers-append}
 
 record WholeFront (limits : Limits) (M : List Message) (g : History) : Type 0 where

@@ -1,34 +1,17 @@
 -- What the payload crates prove of their forms, as it is used here.
 use Rattle.std.proofs.Common.{◌≡◌, ◌≢◌, ℕ, ◌≤◌, List, length, ℤ, refl, sym, subst}
-use Rattle.zk_jute.specs.Item.{bytes_of}
+use Rattle.zk_jute.specs.{Item.bytes_of, declared.fault.Reason.Reason}
 use Rattle.zk_jute.proofs.Decided.{one_fault}
-use Rattle.zk_records.specs.Records.{reply_header, watcher_event}
-use Rattle.zk_asks.proofs.First.{first_excludes}
-use Rattle.zk_asks.proofs.Later.{ask_excludes}
-use Rattle.zk_answers.specs.Frames.{header_of, rest_items, event_header}
-use Rattle.zk_answers.proofs.Connected.{connected_excludes}
-use Rattle.zk_answers.proofs.Heads.{head_unique, head_excludes}
-use Rattle.zk_answers.proofs.Replies.{reply_excludes, reply_heads}
-use Rattle.zk_answers.proofs.Events.{event_excludes, event_head}
-use Rattle.zk_jute.specs.declared.fault.Reason.{Reason}
-use Rattle.zk_records.specs.declared.header.ReplyHeader.{ReplyHeader}
-use Rattle.zk_records.specs.declared.op.Op.{Op}
-use Rattle.zk_records.specs.declared.profile.Profile.{Profile}
-use Rattle.zk_records.specs.declared.op.PartOp.{PartOp}
-use Rattle.zk_asks.specs.Held.{Ask as Asked}
-use Rattle.zk_asks.specs.Held.{ClientFrame}
-use Rattle.zk_asks.specs.declared.frame.ClientFrameOf.TheVariants.{Ask}
-use Rattle.zk_asks.specs.Codes.{event_xid}
-use Rattle.zk_asks.specs.Frames.{IsFirst, IsLater, IsOfProfile, ops_of_ask}
+use Rattle.zk_records.specs.{Records.reply_header, Records.watcher_event, declared.header.ReplyHeader.ReplyHeader, declared.op.Op.Op, declared.profile.Profile.Profile, declared.op.PartOp.PartOp}
+use Rattle.zk_asks.proofs.{First.first_excludes, Later.ask_excludes, Counted.few_parts as parts_few}
+use Rattle.zk_answers.specs.Frames.{header_of, rest_items, event_header, IsConnected, IsEvent, Fits}
+use Rattle.zk_answers.proofs.{Connected.connected_excludes, Heads.head_unique, Heads.head_excludes, Replies.reply_excludes, Replies.reply_heads, Events.event_excludes, Events.event_head}
+use Rattle.zk_asks.specs.{Held.Ask as Asked, Held.ClientFrame, declared.frame.ClientFrameOf.TheVariants.Ask, Codes.event_xid, Frames.IsFirst, Frames.IsLater, Frames.IsOfProfile, Frames.ops_of_ask, Faults.IsFirstFault, Faults.IsAskFault}
 use Rattle.zk_asks.specs.Frames as asks
-use Rattle.zk_asks.specs.Faults.{IsFirstFault, IsAskFault}
-use Rattle.zk_answers.specs.Held.{Reply, ServerFrame}
+use Rattle.zk_answers.specs.{Held.Reply, Held.ServerFrame, Faults.IsConnectedFault, Faults.IsHead, Faults.IsHeadFault, Faults.IsReplyFault, Faults.IsEventFault}
 use Rattle.zk_answers.specs.declared.frame.ServerFrameOf.TheVariants.{Connected, Answered, Event}
-use Rattle.zk_answers.specs.Frames.{IsConnected, IsEvent, Fits}
 use Rattle.zk_answers.specs.Frames as answers
-use Rattle.zk_answers.specs.Faults.{IsConnectedFault, IsHead, IsHeadFault, IsReplyFault, IsEventFault}
 use Rattle.zk_talk.specs.Payloads.{client_payload, server_payload}
-use Rattle.zk_asks.proofs.Counted.{few_parts as parts_few}
 
 abbrev pub Same : ℕ → ℕ → Reason → Reason → Type 0
 Same m n r s = (m ≡ n) × (r ≡ s)

@@ -1,28 +1,15 @@
 -- What a talk does with a piece, over plain values.
 use Rattle.std.proofs.Common.{◌≡◌, ℕ, ◌+◌, ◌<◌, ◌≤◌, ◌^◌, inl, List, [], ◌∷◌, ◌++◌, length, drop, refl, sym, ap, ◌∙◌, subst, arith, append_assoc, take, get_or, Option}
 use Rattle.std.proofs.lemmas.List.{append-nil, length_push, take-append-drop, drop_more, length-take-le}
-use Rattle.zk_jute.specs.declared.fault.Reason.{Reason}
+use Rattle.zk_jute.specs.{declared.fault.Reason.Reason, Reading.told_place}
 use Rattle.zk_jute.specs.declared.fault.Reason.TheVariants.{StreamEnd, LengthRange}
-use Rattle.zk_jute.specs.Reading.{told_place}
 use Rattle.zk_frames.specs.Framing.{frame, IsBeginning, IsBadLength}
-use Rattle.zk_waiting.specs.declared.lane.Lane.{Lane}
-use Rattle.zk_waiting.specs.Waiting.{Lanes, queue_on}
-use Rattle.zk_talk.specs.declared.message.Side.{Side}
-use Rattle.zk_talk.specs.declared.message.Side.TheVariants.{Server}
-use Rattle.zk_talk.specs.Held.{Message}
-use Rattle.zk_talk.specs.History.{History, on}
-use Rattle.zk_talk.specs.declared.replied.Replied.{Replied}
-use Rattle.zk_talk.specs.Conversation.{Conversation, IsConversation, load}
-use Rattle.zk_talk.specs.Fault.{IsCause, IsOfItems, IsPayloadFault, fault_of, side_limit}
-use Rattle.zk_talk.specs.Fault.IsCause.{stream_end, length_range, payload_fault}
-use Rattle.zk_talk.specs.Queues.{IsQueue}
+use Rattle.zk_waiting.specs.{declared.lane.Lane.Lane, Waiting.Lanes, Waiting.queue_on}
+use Rattle.zk_talk.specs.{declared.message.Side.Side, declared.message.Side.TheVariants.Server, Held.Message, History.History, History.on, declared.replied.Replied.Replied}
+use Rattle.zk_talk.specs.{Conversation.Conversation, Conversation.IsConversation, Conversation.load, Fault.IsCause, Fault.IsOfItems, Fault.IsPayloadFault, Fault.fault_of, Fault.side_limit}
+use Rattle.zk_talk.specs.{Fault.IsCause.stream_end, Fault.IsCause.length_range, Fault.IsCause.payload_fault, Queues.IsQueue, Describes.Describes, Taking.GoesOn, Said.payload_of}
 use Rattle.zk_talk.specs.Stands.{TalkState, Stands, Refuses, held_on, frames_on, size_on}
-use Rattle.zk_talk.specs.Describes.{Describes}
-use Rattle.zk_talk.specs.Taking.{GoesOn}
-use Rattle.zk_talk.proofs.GoodSteps.{load_here}
-use Rattle.zk_talk.proofs.Lists.{IsPushed, last_of}
-use Rattle.zk_talk.specs.Said.{payload_of}
-use Rattle.zk_talk.proofs.Standing.{frame_front, with_message, MayOn}
+use Rattle.zk_talk.proofs.{GoodSteps.load_here, Lists.IsPushed, Lists.last_of, Standing.frame_front, Standing.with_message, Standing.MayOn}
 use Rattle.zk_talk.proofs.Talks.{grown, refusing, counted, IsKnownAfter, more, whole, refuse}
 
 pub described : (t : TalkState) (h : History) (M : List Message) (st : Stands t h M) → Describes t.client_frames t.server_frames t.waiting st.conversation

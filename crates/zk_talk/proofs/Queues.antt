@@ -1,21 +1,15 @@
 -- The lanes hold the asks that wait.
 use Rattle.std.proofs.Common.{◌≡◌, ℕ, zero, suc, ◌+◌, ◌-◌, List, [], ◌∷◌, ◌++◌, length, drop, refl, sym, ap, ◌∙◌, subst, arith, length-append, Bool, true, false, filter, cond, leb}
-use Rattle.std.proofs.lemmas.List.{append-nil, drop-append-le, drop-drop}
-use Rattle.std.proofs.lemmas.List.Elements.{filter-append}
-use Rattle.std.proofs.lemmas.List.Sums.{sum_by-cons}
-use Rattle.std.proofs.lemmas.Bool.{leb-true, leb-false}
+use Rattle.std.proofs.{lemmas.List.append-nil, lemmas.List.drop-append-le, lemmas.List.drop-drop, lemmas.List.Elements.filter-append, lemmas.List.Sums.sum_by-cons, lemmas.Bool.leb-true, lemmas.Bool.leb-false}
 use Rattle.zk_asks.specs.Held.{ClientFrame}
 use Rattle.zk_asks.specs.declared.frame.ClientFrameOf.TheVariants.{Connect, Ask}
 use Rattle.zk_answers.specs.Held.{ServerFrame}
-use Rattle.zk_waiting.specs.declared.lane.Lane.{Lane}
+use Rattle.zk_waiting.specs.{declared.lane.Lane.Lane, Lane.lane_of, Lane.same_lane}
 use Rattle.zk_waiting.specs.declared.lane.Lane.TheVariants.{Ping, Auth, Watches, Plain}
-use Rattle.zk_waiting.specs.Lane.{lane_of, same_lane}
 use Rattle.zk_waiting.specs.Waiting.{Request, Lanes, queue_on, request_weight, queue_weight, weight_of, count_of}
-use Rattle.zk_talk.specs.Splits.{EachAfter}
+use Rattle.zk_talk.specs.{Splits.EachAfter, Queues.IsRequest, Queues.AreRequests, Queues.IsQueue}
 use Rattle.zk_talk.specs.Conversation.{is_ask_on, is_reply_on, asks_on, replies_on, ServerMay, Conversation, with_client, with_server, load, sum_waiting, weight}
-use Rattle.zk_talk.specs.Queues.{IsRequest, AreRequests, IsQueue}
-use Rattle.zk_talk.proofs.Turns.{count_cons}
-use Rattle.zk_talk.proofs.Loads.{replies_in_asks}
+use Rattle.zk_talk.proofs.{Turns.count_cons, Loads.replies_in_asks}
 
 -- ---- requests and the asks that they stand for
 

@@ -1,42 +1,23 @@
 -- Why a history is not good with one more frame.
-use Rattle.std.proofs.Common.{◌≡◌, ◌≢◌, ℕ, ◌≤◌, List, [], ◌∷◌, ◌++◌, length, refl, sym, ap, ◌∙◌, subst, arith}
-use Rattle.zk_asks.specs.Held.{ClientFrame}
-use Rattle.zk_asks.specs.declared.frame.ClientFrameOf.TheVariants.{Ask}
-use Rattle.zk_answers.specs.Held.{ServerFrame, Reply}
+use Rattle.std.proofs.Common.{◌≡◌, ◌≢◌, ℕ, ◌≤◌, List, [], ◌∷◌, ◌++◌, length, refl, sym, ap, ◌∙◌, subst, arith, ℤ}
+use Rattle.zk_asks.specs.{Held.ClientFrame, Held.Ask as Asked, declared.frame.ClientFrameOf.TheVariants.Ask, Codes.event_xid, Frames.IsFirst, Frames.IsLater, Frames.IsOfProfile, Frames.ops_of_ask, Rows.op_of_ask}
+use Rattle.zk_answers.specs.{Held.ServerFrame, Held.Reply, Frames.IsConnected, Frames.IsEvent, Frames.Fits, Faults.IsHead}
 use Rattle.zk_answers.specs.declared.frame.ServerFrameOf.TheVariants.{Connected, Answered, Event}
-use Rattle.zk_talk.specs.Payloads.{client_payload, server_payload}
-use Rattle.zk_talk.specs.declared.message.Side.{Side}
+use Rattle.zk_talk.specs.{Payloads.client_payload, Payloads.server_payload, declared.message.Side.Side, declared.limits.Limits.Limits, Splits.EachAfter, History.History, Good.Good, Good.IsGood}
 use Rattle.zk_talk.specs.declared.message.Side.TheVariants.{Client, Server}
-use Rattle.zk_talk.specs.declared.limits.Limits.{Limits}
-use Rattle.zk_talk.specs.Splits.{EachAfter}
-use Rattle.zk_talk.specs.History.{History}
 use Rattle.zk_frames.specs.Framing.{frame}
-use Rattle.zk_waiting.specs.Lane.{lane_of}
-use Rattle.zk_talk.specs.Conversation.{asks_on, replies_on, ClientMay, ServerMay, IsAnswered, Conversation, load}
-use Rattle.zk_talk.specs.Good.{Good, IsGood}
-use Rattle.zk_talk.proofs.Small.{AreSmall}
-use Rattle.std.proofs.Common.{ℤ}
+use Rattle.zk_waiting.specs.Lane.{lane_of, same_lane}
+use Rattle.zk_talk.specs.Conversation.{asks_on, replies_on, ClientMay, ServerMay, IsAnswered, Conversation, load, is_ask_on}
+use Rattle.zk_talk.proofs.{Small.AreSmall, Turns.count_split, Turns.nth_passing, Turns.same_lane-itself, Loads.load_ask, GoodSteps.found_client, GoodSteps.found_server}
 use Rattle.zk_jute.specs.declared.fault.Reason.{Reason}
-use Rattle.zk_records.specs.declared.header.ReplyHeader.{ReplyHeader}
-use Rattle.zk_records.specs.declared.profile.Profile.{Profile}
-use Rattle.zk_asks.specs.Held.{Ask as Asked}
-use Rattle.zk_asks.specs.Codes.{event_xid}
-use Rattle.zk_asks.specs.Frames.{IsFirst, IsLater, IsOfProfile, ops_of_ask}
-use Rattle.zk_asks.specs.Rows.{op_of_ask}
+use Rattle.zk_records.specs.{declared.header.ReplyHeader.ReplyHeader, declared.profile.Profile.Profile}
 use Rattle.zk_asks.specs.Frames as asks
-use Rattle.zk_answers.specs.Frames.{IsConnected, IsEvent, Fits}
 use Rattle.zk_answers.specs.Frames as answers
-use Rattle.zk_answers.specs.Faults.{IsHead}
 use Rattle.zk_asks.proofs.Later.{ask_injective}
 use Rattle.zk_talk.proofs.Payloads.{HasHead, first_excluded, connected_excluded, ask_excluded, asks_alike, head_excluded, reply_excluded, event_excluded, same_head, reply_head_is, reply_no_event, event_head_is}
-use Rattle.zk_waiting.specs.Lane.{same_lane}
-use Rattle.zk_talk.specs.Conversation.{is_ask_on}
 use Rattle.zk_talk.specs.Fault.{IsNext, IsClientFault, IsServerFault, IsPayloadFault, side_limit, rest_on}
 use Rattle.zk_talk.specs.Fault.IsClientFault.{connect_fault, ask_fault, queue_full}
 use Rattle.zk_talk.specs.Fault.IsServerFault.{no_connect, connected_fault, head_fault, event_fault, unasked, wrong_xid, reply_fault}
-use Rattle.zk_talk.proofs.Turns.{count_split, nth_passing, same_lane-itself}
-use Rattle.zk_talk.proofs.Loads.{load_ask}
-use Rattle.zk_talk.proofs.GoodSteps.{found_client, found_server}
 
 -- what may stand after no frame, and after some
 pub may_first : (profile : Profile) (C : List ClientFrame) (f : ClientFrame) → C ≡ [] → ClientMay profile C f → IsFirst f × asks.IsSent f

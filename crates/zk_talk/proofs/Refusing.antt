@@ -2,14 +2,8 @@
 use Rattle.std.proofs.Common.{◌≡◌, ℕ, List, length, refl, sym, ap, subst, ◌∙◌, Option, Some, None, Bor, MatchOption}
 use Rattle.zk_answers.specs.declared.layout.Layout.{Layout}
 use Rattle.zk_frames.specs.Framing.{frame}
-use Rattle.zk_talk.specs.declared.message.Fault.{Fault}
-use Rattle.zk_talk.specs.declared.message.Side.{Side}
-use Rattle.zk_talk.specs.Held.{Message}
-use Rattle.zk_talk.specs.History.{History}
-use Rattle.zk_talk.specs.Conversation.{Conversation}
-use Rattle.zk_talk.specs.Describes.{Describes}
-use Rattle.zk_talk.specs.Refused.{HasBody, IsInBody, IsRefusedBody, TellsRefusedBody}
-use Rattle.zk_talk.specs.Stands.{TalkState, Refuses, held_on}
+use Rattle.zk_talk.specs.{declared.message.Fault.Fault, declared.message.Side.Side, Held.Message, History.History, Conversation.Conversation, Describes.Describes}
+use Rattle.zk_talk.specs.{Refused.HasBody, Refused.IsInBody, Refused.IsRefusedBody, Refused.TellsRefusedBody, Stands.TalkState, Stands.Refuses, Stands.held_on}
 use Rattle.zk_talk.proofs.Bodies.{frame_once}
 
 some_same : {X : Type 0} (o : Option X) (x y : X) → o ≡ Some x → o ≡ Some y → x ≡ y

@@ -3,29 +3,15 @@ use Rattle.std.proofs.Common.{◌≡◌, ℕ, ◌+◌, ◌<◌, ◌≤◌, ◌^�
 use Rattle.std.proofs.lemmas.List.{append-nil, length_push}
 use Rattle.zk_frames.specs.Framing.{frame, IsCut, IsBeginning}
 use Rattle.zk_frames.proofs.Cuts.{same_cut}
-use Rattle.zk_talk.specs.declared.limits.Limits.{Limits}
-use Rattle.zk_talk.specs.declared.message.Side.{Side}
+use Rattle.zk_talk.specs.{declared.limits.Limits.Limits, declared.message.Side.Side, Held.Message, Payloads.client_payload, Payloads.server_payload, History.History, History.side_bytes, History.on, Conversation.Conversation}
 use Rattle.zk_talk.specs.declared.message.Side.TheVariants.{Client, Server}
-use Rattle.zk_talk.specs.Held.{Message}
 use Rattle.zk_talk.specs.declared.message.MessageOf.TheVariants.{Client as FromClient, Server as FromServer}
-use Rattle.zk_talk.specs.Payloads.{client_payload, server_payload}
-use Rattle.zk_talk.specs.History.{History, side_bytes, on}
-use Rattle.zk_talk.specs.Conversation.{Conversation}
-use Rattle.zk_talk.specs.Fault.{rest_on, side_limit}
+use Rattle.zk_talk.specs.{Fault.rest_on, Fault.side_limit, Said.AreSaid, Said.MaySay, Said.said, Said.conversation_of}
 use Rattle.zk_talk.specs.Good.{Good, IsGood, IsOrder, clients, servers, client_payloads, server_payloads, client_bytes, server_bytes}
-use Rattle.zk_talk.specs.Said.{AreSaid, MaySay, said, conversation_of}
-use Rattle.zk_talk.proofs.Small.{small_limits}
-use Rattle.zk_talk.proofs.Lists.{EachAfter-push, EachAfter-nil}
-use Rattle.zk_talk.proofs.Cuts.{cut_front, Shorter}
-use Rattle.zk_talk.proofs.Cuts.Shorter.{within_frame, frame_end}
-use Rattle.zk_talk.proofs.Histories.{no_bytes, side_bytes-append, side_bytes-same}
-use Rattle.zk_talk.proofs.GoodSteps.{good_more_client, good_more_server}
-use Rattle.zk_talk.proofs.GoodFronts.{good_front}
+use Rattle.zk_talk.proofs.{Small.small_limits, Lists.EachAfter-push, Lists.EachAfter-nil, Cuts.cut_front, Cuts.Shorter, Cuts.Shorter.within_frame, Cuts.Shorter.frame_end}
+use Rattle.zk_talk.proofs.{Histories.no_bytes, Histories.side_bytes-append, Histories.side_bytes-same, GoodSteps.good_more_client, GoodSteps.good_more_server, GoodFronts.good_front, Headline.same_good, OrderOnce.order_once}
 use Rattle.zk_talk.proofs.Standing.{own, Runs, runs_message, found_message, order_same, other-on}
-use Rattle.zk_talk.proofs.Headline.{same_good}
-use Rattle.zk_talk.proofs.OrderOnce.{order_once}
-use Rattle.zk_talk.proofs.Speaking.{one_message}
-use Rattle.zk_talk.proofs.Spoken.{none_spoken, may_be_said}
+use Rattle.zk_talk.proofs.{Speaking.one_message, Spoken.none_spoken, Spoken.may_be_said}
 
 -- a history whose messages may be said
 record Replay (limits : Limits) (g : History) : Type 0 where

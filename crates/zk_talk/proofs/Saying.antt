@@ -2,35 +2,22 @@
 use Rattle.std.proofs.Common.{◌≡◌, ◌≢◌, ◌+◌, ◌<◌, ◌≤◌, ◌⊎◌, inl, inr, List, [], ◌∷◌, ◌++◌, length, filter, refl, sym, ap, ◌∙◌, subst, arith, Some, ℤ, Bool, true, false, MatchBool, IsTrue, length-drop}
 use Rattle.std.specs.Prelude.{slice_get, negsuc}
 use Rattle.zk_jute.specs.Item.{Fit}
-use Rattle.zk_asks.specs.Held.{ClientFrame}
+use Rattle.zk_asks.specs.{Held.ClientFrame, Frames.IsFirst, Frames.IsLater, Frames.ops_of_ask, Rows.op_of_ask}
 use Rattle.zk_asks.specs.declared.frame.ClientFrameOf.TheVariants.{Connect, Ask}
-use Rattle.zk_asks.specs.Frames.{IsFirst, IsLater, ops_of_ask}
-use Rattle.zk_asks.specs.Rows.{op_of_ask}
 use Rattle.zk_asks.specs.Frames as asks
-use Rattle.zk_answers.specs.Held.{Reply, ServerFrame}
+use Rattle.zk_answers.specs.{Held.Reply, Held.ServerFrame, Frames.IsConnected, Frames.Fits}
 use Rattle.zk_answers.specs.declared.frame.ServerFrameOf.TheVariants.{Connected, Answered, Event}
-use Rattle.zk_answers.specs.Frames.{IsConnected, Fits}
 use Rattle.zk_answers.specs.Frames as answers
-use Rattle.zk_waiting.specs.declared.lane.Lane.{Lane}
-use Rattle.zk_waiting.specs.Lane.{lane_of}
+use Rattle.zk_waiting.specs.{declared.lane.Lane.Lane, Lane.lane_of}
 use Rattle.zk_waiting.specs.Waiting.{Lanes, Request, queue_on, weight_of, asked_parts}
-use Rattle.zk_talk.specs.declared.limits.Limits.{Limits}
-use Rattle.zk_talk.specs.declared.say.SayFault.{SayFault}
+use Rattle.zk_talk.specs.{declared.limits.Limits.Limits, declared.say.SayFault.SayFault, Payloads.client_payload, Payloads.server_payload, Describes.Describes, Judged.IsRemembered, Judged.IsForgotten, Judged.HasAsk, Fault.IsNext}
 use Rattle.zk_talk.specs.declared.say.SayFault.TheVariants.{XidOrder, Misfit, NoMemory}
-use Rattle.zk_talk.specs.Payloads.{client_payload, server_payload}
 use Rattle.zk_talk.specs.Conversation.{Conversation, with_client, with_server, is_ask_on, replies_on, ClientMay, ServerMay, IsAnswered, load, weight}
-use Rattle.zk_talk.specs.Describes.{Describes}
-use Rattle.zk_talk.specs.Judged.{IsRemembered, IsForgotten, HasAsk}
-use Rattle.zk_talk.specs.Fault.{IsNext}
 use Rattle.zk_talk.specs.Said.{Heard, HasSpoken, MayAsk, ClientMayStand, IsSaidClient, IsSaidServer, IsClientRefusal, IsServerRefusal, IsUnwritten, IsUnput, IsUnfit, MayAnswer, CannotAnswer}
 use Rattle.zk_talk.specs.Said.IsClientRefusal.{queue_full}
 use Rattle.zk_talk.specs.Said.IsServerRefusal.{no_connect, long_connected, long_event, event_xid, unasked, xid_order, misfit, long_reply}
 use Rattle.zk_talk.specs.Said.IsUnfit.{not_a_reply, none_waits, other_waits, unlike}
-use Rattle.zk_talk.proofs.Lists.{not_empty, EachAfter-push}
-use Rattle.zk_talk.proofs.Steps.{each_still}
-use Rattle.zk_talk.proofs.Queues.{weight_is_load, requests-length}
-use Rattle.zk_talk.proofs.Lanes.{remembered, forgotten}
-use Rattle.zk_talk.proofs.Loads.{load_ask}
+use Rattle.zk_talk.proofs.{Lists.not_empty, Lists.EachAfter-push, Steps.each_still, Queues.weight_is_load, Queues.requests-length, Lanes.remembered, Lanes.forgotten, Loads.load_ask}
 use mathlib.Core.Bool.{beq}
 use Rattle.zk_talk.proofs.Judging.{first_may, later_may, heavier, connected_may, event_may, next_waits, front_none}
 

@@ -1,45 +1,29 @@
 -- What a speaker knows of a payload that it says or refuses.
 use Rattle.std.proofs.Common.{◌≡◌, ◌≢◌, ℕ, ◌≤◌, ◌<◌, ◌⊎◌, inl, inr, List, [], ◌∷◌, length, refl, sym, ◌∙◌, subst, arith, Bool, true, false, MatchBool, IsTrue}
 use Rattle.std.specs.Int.{from_bool}
-use Rattle.zk_jute.specs.declared.fault.ItemFault.{ItemFault}
-use Rattle.zk_jute.specs.Item.{Fit}
+use Rattle.zk_jute.specs.{declared.fault.ItemFault.ItemFault, Item.Fit}
 use Rattle.zk_records.specs.declared.profile.Profile.{Profile}
-use Rattle.zk_asks.specs.Held.{ClientFrame}
+use Rattle.zk_asks.specs.{Held.ClientFrame, Frames.IsFirst, Frames.IsLater, Frames.IsOfProfile}
 use Rattle.zk_asks.specs.declared.frame.ClientFrameOf.TheVariants.{Connect, Ask}
-use Rattle.zk_asks.specs.Frames.{IsFirst, IsLater, IsOfProfile}
 use Rattle.zk_asks.specs.Frames as asks
 use Rattle.zk_answers.specs.Held.{ServerFrame}
 use Rattle.zk_answers.specs.declared.frame.ServerFrameOf.TheVariants.{Connected, Answered, Event}
 use Rattle.zk_answers.specs.Frames as answers
 use Rattle.zk_waiting.specs.Waiting.{Lanes}
-use Rattle.zk_talk.specs.declared.limits.Limits.{Limits}
-use Rattle.zk_talk.specs.declared.message.Side.{Side}
+use Rattle.zk_talk.specs.{declared.limits.Limits.Limits, declared.message.Side.Side, Held.Message, declared.payload.PayloadFault.PayloadFault, Payloads.client_payload, Payloads.server_payload, Splits.EachAfter}
 use Rattle.zk_talk.specs.declared.message.Side.TheVariants.{Client, Server}
-use Rattle.zk_talk.specs.Held.{Message}
 use Rattle.zk_talk.specs.declared.message.MessageOf.TheVariants.{Client as FromClient, Server as FromServer}
 use Rattle.zk_talk.specs.declared.say.SayFault.TheVariants.{TooLong, QueueFull, NoMemory}
-use Rattle.zk_talk.specs.declared.payload.PayloadFault.{PayloadFault}
 use Rattle.zk_talk.specs.declared.payload.PayloadFault.TheVariants.{Item, Say}
-use Rattle.zk_talk.specs.Payloads.{client_payload, server_payload}
-use Rattle.zk_talk.specs.Splits.{EachAfter}
 use Rattle.zk_talk.specs.Conversation.{Conversation, ClientMay, ServerMay, IsAnswered}
-use Rattle.zk_talk.specs.Fault.IsClientFault.{connect_fault, ask_fault}
-use Rattle.zk_talk.specs.Describes.{Describes}
+use Rattle.zk_talk.specs.{Fault.IsClientFault.connect_fault, Fault.IsClientFault.ask_fault, Describes.Describes, Said.IsClientRefusal.too_long, Said.IsClientRefusal.queue_full}
 use Rattle.zk_talk.specs.Judged.{IsInTurn, IsTurnFault, HasRoomFor, IsRemembered, HasAsk, IsForgotten}
 use Rattle.zk_talk.specs.Said.{SpeakerState, Heard, HasSpoken, MayAsk, MaySay, SaysClient, SaysServer, IsClientRefusal, IsServerRefusal, conversation_of}
-use Rattle.zk_talk.specs.Said.IsClientRefusal.{too_long, queue_full}
 use Rattle.zk_talk.specs.Said.IsServerRefusal.{long_connected, long_event, long_reply}
 use Rattle.zk_talk.specs.SaidPayload.{HasPayload, IsClientPayloadRefusal, IsPayloadRefusal, SaysPayload, RefusesPayload, StandsPayload, CannotSay, HearsFault, SaysClientPayload, RefusesClientPayload, StandsClientPayload, SaysServerPayload, RefusesServerPayload, StandsServerPayload}
-use Rattle.zk_talk.proofs.Hearing.{described, none_spoken, some_spoken}
-use Rattle.zk_talk.proofs.Lists.{not_empty, EachAfter-push}
-use Rattle.zk_talk.proofs.Payloads.{first_excluded, ask_excluded}
-use Rattle.zk_talk.proofs.Turns.{client_inj, server_inj}
-use Rattle.zk_talk.proofs.Queues.{weight_is_load}
-use Rattle.zk_talk.proofs.Lanes.{forgotten}
-use Rattle.zk_talk.proofs.Judging.{first_may, later_may, no_room}
-use Rattle.zk_talk.proofs.Refusals.{may_first, may_later, server_alone}
+use Rattle.zk_talk.proofs.{Hearing.described, Hearing.none_spoken, Hearing.some_spoken, Lists.not_empty, Lists.EachAfter-push, Payloads.first_excluded, Payloads.ask_excluded, Turns.client_inj, Turns.server_inj, Queues.weight_is_load}
+use Rattle.zk_talk.proofs.{Lanes.forgotten, Judging.first_may, Judging.later_may, Judging.no_room, Refusals.may_first, Refusals.may_later, Refusals.server_alone, Saying.client_stands, Saying.client_said}
 use Rattle.zk_talk.proofs.Exclusions.{first_or_later, client_apart, server_apart, answered_next}
-use Rattle.zk_talk.proofs.Saying.{client_stands, client_said}
 use Rattle.zk_talk.proofs.Speaking.{ok_client, ok_server}
 
 -- ---- the client's payloads

@@ -7,24 +7,14 @@ use Rattle.zk_asks.specs.declared.frame.ClientFrameOf.TheVariants.{Connect, Ask}
 use Rattle.zk_answers.specs.Held.{ServerFrame}
 use Rattle.zk_answers.specs.declared.frame.ServerFrameOf.TheVariants.{Connected, Answered, Event}
 use Rattle.zk_answers.specs.Frames as answers
-use Rattle.zk_waiting.specs.declared.lane.Lane.{Lane}
-use Rattle.zk_waiting.specs.Waiting.{Lanes}
-use Rattle.zk_talk.specs.declared.limits.Limits.{Limits}
+use Rattle.zk_waiting.specs.{declared.lane.Lane.Lane, Waiting.Lanes}
+use Rattle.zk_talk.specs.{declared.limits.Limits.Limits, declared.message.Kind.Kind, Held.Message, Payloads.server_payload, Judged.IsInTurn, Judged.IsDue, Judged.IsForgotten, declared.replied.Replied.Replied}
 use Rattle.zk_talk.specs.declared.message.Side.TheVariants.{Client, Server}
 use Rattle.zk_talk.specs.declared.message.MessageOf.TheVariants.{Client as FromClient, Server as FromServer}
-use Rattle.zk_talk.specs.declared.message.Kind.{Kind}
 use Rattle.zk_talk.specs.declared.message.Kind.TheVariants as kinds
-use Rattle.zk_talk.specs.Held.{Message}
-use Rattle.zk_talk.specs.Payloads.{server_payload}
-use Rattle.zk_talk.specs.Judged.{IsInTurn, IsDue, IsForgotten}
-use Rattle.zk_talk.specs.declared.replied.Replied.{Replied}
-use Rattle.zk_talk.specs.Settled.{IsAwaited, IsHeard}
-use Rattle.zk_talk.specs.Said.{SpeakerState, SaysClient, SaysServer, side_of}
+use Rattle.zk_talk.specs.{Settled.IsAwaited, Settled.IsHeard, Said.SpeakerState, Said.SaysClient, Said.SaysServer, Said.side_of}
 use Rattle.zk_talk.specs.Written.{IsWritten, SaysWritten, SaysClientWritten, SaysServerWritten, kind_of}
-use Rattle.zk_talk.proofs.Judging.{due_waits}
-use Rattle.zk_talk.proofs.Speaking.{ok_client, ok_server}
-use Rattle.zk_talk.proofs.SayingPayloads.{client_frame_said, server_frame_said}
-use Rattle.zk_talk.proofs.Alike.{client_known, reply_known, event_known, connected_known}
+use Rattle.zk_talk.proofs.{Judging.due_waits, Speaking.ok_client, Speaking.ok_server, SayingPayloads.client_frame_said, SayingPayloads.server_frame_said, Alike.client_known, Alike.reply_known, Alike.event_known, Alike.connected_known}
 
 -- ---- the client's
 

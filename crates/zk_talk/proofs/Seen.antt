@@ -1,7 +1,6 @@
 -- What was judged of a payload is so of the frame that carries it.
 use Rattle.std.proofs.Common.{◌≡◌, ◌≢◌, ℕ, ◌<◌, ◌^◌, List, length, drop, Option, sym, ap, subst, ◌∙◌, arith}
-use Rattle.zk_jute.specs.declared.fault.ItemFault.{ItemFault}
-use Rattle.zk_jute.specs.declared.fault.Reason.TheVariants.{NoMemory}
+use Rattle.zk_jute.specs.{declared.fault.ItemFault.ItemFault, declared.fault.Reason.TheVariants.NoMemory}
 use Rattle.zk_frames.specs.Framing.{frame}
 use Rattle.zk_frames.proofs.Cuts.{length-frame}
 use Rattle.zk_records.specs.declared.profile.Profile.{Profile}
@@ -9,18 +8,10 @@ use Rattle.zk_asks.specs.Held.{ClientFrame}
 use Rattle.zk_asks.specs.Frames as asks
 use Rattle.zk_answers.specs.Held.{ServerFrame}
 use Rattle.zk_waiting.specs.Waiting.{Lanes}
-use Rattle.zk_talk.specs.declared.limits.Limits.{Limits}
-use Rattle.zk_talk.specs.Payloads.{client_payload, server_payload}
-use Rattle.zk_talk.specs.Conversation.{Conversation, ServerMay}
-use Rattle.zk_talk.specs.Fault.{IsClientFault, IsServerFault}
-use Rattle.zk_talk.specs.Describes.{Describes}
+use Rattle.zk_talk.specs.{declared.limits.Limits.Limits, Payloads.client_payload, Payloads.server_payload, Conversation.Conversation, Conversation.ServerMay, Fault.IsClientFault, Fault.IsServerFault, Describes.Describes}
 use Rattle.zk_talk.specs.Judged.{Tells, IsInTurn, HasRoomFor, IsNumbered, IsDue, IsForgotten, IsNextClient, IsNextServer}
-use Rattle.zk_talk.specs.Settled.{IsAwaited, IsSettled}
-use Rattle.zk_talk.specs.declared.replied.Replied.{Replied}
-use Rattle.zk_talk.specs.Streams.{StreamState, IsAtFrame}
-use Rattle.zk_talk.proofs.Judging.{due_waits}
-use Rattle.zk_talk.proofs.Settling.{room_before}
-use Rattle.zk_talk.proofs.Sides.{carried}
+use Rattle.zk_talk.specs.{Settled.IsAwaited, Settled.IsSettled, declared.replied.Replied.Replied, Streams.StreamState, Streams.IsAtFrame}
+use Rattle.zk_talk.proofs.{Judging.due_waits, Settling.room_before, Sides.carried}
 
 module _ (s : StreamState) (used n : ℕ) (at' : IsAtFrame s used) (p : List ℕ) (is : s.held ≡ frame p) (count : n ≡ s.count) (w : Lanes) where
   payload_is : p ≡ drop 4 s.held

@@ -2,36 +2,22 @@
 use Rattle.std.proofs.Common.{w32, FitsSigned, ◌≡◌, ◌≢◌, ℕ, ◌<◌, ◌^◌, List, length, refl, sym, ap, ◌∙◌, subst, arith, Bool, true, false, MatchBool}
 use Rattle.std.specs.Prelude.{ℤ, ◌≤◌, ◌+◌, map, Option, Some, None, Result, Ok, Err, IsOk, OnOk, slice_get}
 use Rattle.zk_jute.specs.declared.fault.Reason.TheVariants.{NoMemory, QueueFull}
-use Rattle.zk_records.specs.declared.op.Op.{Op}
+use Rattle.zk_records.specs.{declared.op.Op.Op, declared.op.PartOp.PartOp, declared.header.ReplyHeader.ReplyHeader, declared.profile.Profile.Profile}
 use Rattle.zk_records.specs.declared.op.Op.TheVariants as ops
-use Rattle.zk_records.specs.declared.op.PartOp.{PartOp}
-use Rattle.zk_records.specs.declared.header.ReplyHeader.{ReplyHeader}
-use Rattle.zk_records.specs.declared.profile.Profile.{Profile}
 use Rattle.zk_asks.specs.Held as A
-use Rattle.zk_asks.specs.Held.{ClientFrame}
+use Rattle.zk_asks.specs.{Held.ClientFrame, declared.judge.Outline.Outline, Fronts.IsOutlined, Fronts.IsMultiOf, Fronts.asking_of, Parts.op_of_part, Rows.op_of_ask, Frames.IsFirst, Frames.ops_of_ask}
 use Rattle.zk_asks.specs.declared.frame.ClientFrameOf.TheVariants.{Connect, Ask}
-use Rattle.zk_asks.specs.declared.judge.Outline.{Outline}
-use Rattle.zk_asks.specs.Fronts.{IsOutlined, IsMultiOf, asking_of}
-use Rattle.zk_asks.specs.Parts.{op_of_part}
 use Rattle.zk_asks.proofs.Judged.{AsksFor, a_multi, judged_xid, outline_is}
-use Rattle.zk_asks.specs.Rows.{op_of_ask}
-use Rattle.zk_asks.specs.Frames.{IsFirst, ops_of_ask}
 use Rattle.zk_asks.specs.Frames as asks
-use Rattle.zk_answers.specs.Held.{Outcome, Reply, ServerFrame}
+use Rattle.zk_answers.specs.{Held.Outcome, Held.Reply, Held.ServerFrame, Faults.IsHead, Fronts.IsReplyUnder}
 use Rattle.zk_answers.specs.declared.frame.OutcomeOf.TheVariants as outcome
 use Rattle.zk_answers.specs.declared.frame.ServerFrameOf.TheVariants.{Connected, Answered, Event}
-use Rattle.zk_answers.specs.Faults.{IsHead}
 use Rattle.zk_answers.specs.Frames as answers
-use Rattle.zk_answers.specs.Fronts.{IsReplyUnder}
-use Rattle.zk_waiting.specs.declared.lane.Lane.{Lane}
-use Rattle.zk_waiting.specs.Lane.{lane_of}
+use Rattle.zk_waiting.specs.{declared.lane.Lane.Lane, Lane.lane_of, declared.waiting.PutFault.PutFault}
 use Rattle.zk_waiting.specs.Waiting.{Lanes, Request, queue_on, weight_of, IsPut, IsPutFault}
-use Rattle.zk_waiting.specs.declared.waiting.PutFault.{PutFault}
 use Rattle.zk_waiting.specs.declared.waiting.PutFault.TheVariants as put
-use Rattle.zk_talk.specs.Payloads.{client_payload}
-use Rattle.zk_talk.specs.Conversation.{ClientMay}
+use Rattle.zk_talk.specs.{Payloads.client_payload, Conversation.ClientMay, declared.replied.Replied.Replied}
 use Rattle.zk_talk.specs.Judged.{IsInTurn, TellsClient, HasRoomFor, IsNumbered, IsForgotten, TellsReplied}
-use Rattle.zk_talk.specs.declared.replied.Replied.{Replied}
 use Rattle.zk_talk.specs.Settled.{IsAsking, IsComing, IsDueReply, IsHeard, IsExpected, IsSettled, Answers, replied_of}
 use Rattle.zk_talk.proofs.Payloads.{client_is, server_is, few_parts}
 use Rattle.zk_talk.proofs.Judging as J

@@ -1,36 +1,21 @@
 -- What a piece does to a talk, by what it does to its side.
 use Rattle.std.proofs.Common.{◌≡◌, ℕ, ◌+◌, ◌≤◌, List, [], ◌∷◌, ◌++◌, length, take, drop, Option, refl, sym, ap, ◌∙◌, subst, arith}
 use Rattle.std.proofs.lemmas.List.{length-take-le, take-append-drop, take_all}
-use Rattle.zk_jute.specs.declared.fault.ItemFault.{ItemFault}
-use Rattle.zk_jute.specs.declared.fault.Reason.{Reason}
+use Rattle.zk_jute.specs.{declared.fault.ItemFault.ItemFault, declared.fault.Reason.Reason}
 use Rattle.zk_jute.specs.declared.fault.Reason.TheVariants.{StreamEnd, LengthRange}
 use Rattle.zk_frames.specs.Framing.{frame}
 use Rattle.zk_frames.proofs.Cuts.{drop-frame}
-use Rattle.zk_waiting.specs.declared.lane.Lane.{Lane}
-use Rattle.zk_waiting.specs.Waiting.{Lanes, queue_on}
-use Rattle.zk_talk.specs.declared.message.Side.{Side}
+use Rattle.zk_waiting.specs.{declared.lane.Lane.Lane, Waiting.Lanes, Waiting.queue_on}
+use Rattle.zk_talk.specs.{declared.message.Side.Side, Held.Message, History.History, History.on, declared.replied.Replied.Replied, Conversation.Conversation, Conversation.IsConversation, Conversation.load}
 use Rattle.zk_talk.specs.declared.message.Side.TheVariants.{Client, Server}
 use Rattle.zk_talk.specs.declared.message.MessageOf.TheVariants.{Client as FromClient, Server as FromServer}
 use Rattle.zk_talk.specs.declared.stream.Advance.TheVariants.{Within, Whole, Refused}
-use Rattle.zk_talk.specs.Held.{Message}
-use Rattle.zk_talk.specs.History.{History, on}
-use Rattle.zk_talk.specs.declared.replied.Replied.{Replied}
-use Rattle.zk_talk.specs.Conversation.{Conversation, IsConversation, load}
-use Rattle.zk_talk.specs.Fault.{IsPayloadFault, fault_of, side_limit}
-use Rattle.zk_talk.specs.Queues.{IsQueue}
-use Rattle.zk_talk.specs.Numbers.{IsNewest}
+use Rattle.zk_talk.specs.{Fault.IsPayloadFault, Fault.fault_of, Fault.side_limit, Queues.IsQueue, Numbers.IsNewest, Describes.Describes, Advance.IsAdvance, Advance.IsStop, Advance.IsStop.too_many, Advance.IsStop.out_of_range}
 use Rattle.zk_talk.specs.Stands.{TalkState, Stands, Refuses, held_on, frames_on, size_on}
-use Rattle.zk_talk.specs.Describes.{Describes}
 use Rattle.zk_records.specs.declared.profile.Profile.{Profile}
 use Rattle.zk_talk.specs.Judged.{Tells, TellsClient, TellsServer, IsNextClient, IsNextServer, IsNumbered, IsForgotten, TellsReplied}
-use Rattle.zk_talk.specs.Advance.{IsAdvance, IsStop}
-use Rattle.zk_talk.specs.Advance.IsStop.{too_many, out_of_range}
-use Rattle.zk_talk.specs.Taking.{GoesOn, IsRefused}
-use Rattle.zk_talk.proofs.Judging.{in_turn, next_load}
-use Rattle.zk_talk.proofs.Lanes.{remembered, forgotten}
-use Rattle.zk_talk.proofs.Numbers.{numbers_after_client, numbers_after_server, newest_still, newest_after}
-use Rattle.zk_talk.specs.Said.{payload_of}
-use Rattle.zk_talk.proofs.Standing.{with_message, MayOn}
+use Rattle.zk_talk.specs.{Taking.GoesOn, Taking.IsRefused, Said.payload_of}
+use Rattle.zk_talk.proofs.{Judging.in_turn, Judging.next_load, Lanes.remembered, Lanes.forgotten, Numbers.numbers_after_client, Numbers.numbers_after_server, Numbers.newest_still, Numbers.newest_after, Standing.with_message, Standing.MayOn}
 use Rattle.zk_talk.proofs.Talks.{grown, refusing, counted, IsKnownAfter}
 use Rattle.zk_talk.proofs.Pieces.{described, go_more, go_whole, fail_here, fail_length, fail_end}
 

@@ -6,21 +6,11 @@ use Rattle.zk_asks.specs.Held.{ClientFrame}
 use Rattle.zk_asks.specs.Frames as asks
 use Rattle.zk_answers.specs.Held.{ServerFrame}
 use Rattle.zk_waiting.specs.Waiting.{Lanes, count_of}
-use Rattle.zk_talk.specs.declared.limits.Limits.{Limits}
-use Rattle.zk_talk.specs.Held.{Message}
+use Rattle.zk_talk.specs.{declared.limits.Limits.Limits, Held.Message, declared.say.SayFault.SayFault, declared.say.SayFault.TheVariants.NoMemory, Payloads.client_payload, Good.clients, Good.servers, Ending.unanswered, Ending.unwelcomed}
 use Rattle.zk_talk.specs.declared.message.MessageOf.TheVariants.{Client as FromClient, Server as FromServer}
-use Rattle.zk_talk.specs.declared.say.SayFault.{SayFault}
-use Rattle.zk_talk.specs.declared.say.SayFault.TheVariants.{NoMemory}
-use Rattle.zk_talk.specs.Payloads.{client_payload}
 use Rattle.zk_talk.specs.Conversation.{Conversation, with_client, with_server, ServerMay}
-use Rattle.zk_talk.specs.Good.{clients, servers}
-use Rattle.zk_talk.specs.Ending.{unanswered, unwelcomed}
 use Rattle.zk_talk.specs.Said.{SpeakerState, Says, Heard, HasSpoken, MaySay, MayStand, IsSayFault, IsSaidClient, IsSaidServer, StandsClient, StandsServer, IsClientRefusal, IsServerRefusal, conversation_of}
-use Rattle.zk_talk.proofs.Lists.{EachAfter-push, EachAfter-nil}
-use Rattle.zk_talk.proofs.Standing.{with_message, clients-append, servers-append}
-use Rattle.zk_talk.proofs.Queues.{count_is_waiting}
-use Rattle.zk_talk.proofs.Start.{no_lanes, no_queue}
-use Rattle.zk_talk.proofs.Saying.{either}
+use Rattle.zk_talk.proofs.{Lists.EachAfter-push, Lists.EachAfter-nil, Standing.with_message, Standing.clients-append, Standing.servers-append, Queues.count_is_waiting, Start.no_lanes, Start.no_queue, Saying.either}
 
 pub small_payload : (limit : ℕ) (f : ClientFrame) → limit ≤ 16777216 → Fit limit (asks.frame_items f) → length (client_payload f) < 2 ^ 32
 unfolding client_payload

@@ -1,35 +1,19 @@
 -- What was said is a good history, and is read as it was said.
 use Rattle.std.proofs.Common.{Option, Some, None, ◌≡◌, ℕ, ◌+◌, ◌<◌, ◌≤◌, ◌^◌, inl, inr, List, [], ◌∷◌, ◌++◌, length, refl, sym, ap, ◌∙◌, subst, arith, append_assoc}
-use Rattle.std.proofs.lemmas.List.{append-nil, append_cancel_left, length_push}
-use Rattle.std.proofs.lemmas.List.Concat.{flat_map-append}
+use Rattle.std.proofs.{lemmas.List.append-nil, lemmas.List.append_cancel_left, lemmas.List.length_push, lemmas.List.Concat.flat_map-append}
 use Rattle.zk_frames.specs.Framing.{frame, AreWithin}
 use Rattle.zk_frames.proofs.Cuts.{length-frame}
-use Rattle.zk_talk.specs.declared.limits.Limits.{Limits}
-use Rattle.zk_talk.specs.declared.message.Side.{Side}
+use Rattle.zk_talk.specs.{declared.limits.Limits.Limits, declared.message.Side.Side, Held.Message, declared.message.Ending.Ending, declared.message.Ending.TheVariants.Whole, Payloads.client_payload, Payloads.server_payload}
 use Rattle.zk_talk.specs.declared.message.Side.TheVariants.{Client, Server}
-use Rattle.zk_talk.specs.Held.{Message}
 use Rattle.zk_talk.specs.declared.message.MessageOf.TheVariants.{Client as FromClient, Server as FromServer}
-use Rattle.zk_talk.specs.declared.message.Ending.{Ending}
-use Rattle.zk_talk.specs.declared.message.Ending.TheVariants.{Whole}
-use Rattle.zk_talk.specs.Payloads.{client_payload, server_payload}
-use Rattle.zk_talk.specs.History.{History, side_bytes, on}
-use Rattle.zk_talk.specs.Conversation.{Conversation, with_client, with_server}
-use Rattle.zk_talk.specs.Fault.{rest_on, side_limit}
+use Rattle.zk_talk.specs.{History.History, History.side_bytes, History.on, Conversation.Conversation, Conversation.with_client, Conversation.with_server, Fault.rest_on, Fault.side_limit, Ending.IsEnding, Ending.unanswered}
 use Rattle.zk_talk.specs.Good.{Good, IsGood, IsOrder, client_payloads, server_payloads, clients, servers}
-use Rattle.zk_talk.specs.Ending.{IsEnding, unanswered}
 use Rattle.zk_talk.specs.Answer.{AreMessages}
 use Rattle.zk_talk.specs.Said.{AreSaid, AreSized, AreFrames, IsWithin, MaySay, said, side_of, payload_of, conversation_of}
-use Rattle.zk_talk.proofs.Small.{small_limits}
-use Rattle.zk_talk.proofs.Lists.{by_last, IsPushed}
-use Rattle.zk_talk.proofs.Histories.{front-length}
-use Rattle.zk_talk.proofs.GoodFronts.{good_front}
-use Rattle.zk_talk.proofs.Lists.{EachAfter-push, EachAfter-nil}
+use Rattle.zk_talk.proofs.{Small.small_limits, Lists.by_last, Lists.IsPushed, Lists.EachAfter-push, Lists.EachAfter-nil, Histories.front-length, GoodFronts.good_front, Start.start, Start.no_conversation}
 use Rattle.std.specs.List.{flat_map, AllByRecursion}
 use Rattle.zk_talk.proofs.Standing.{own, own_rest, with_message, MayOn, Runs, runs_client, runs_server, runs_message, found_message, frame_front, bytes-on, last-on}
-use Rattle.zk_talk.proofs.Start.{start, no_conversation}
-use Rattle.zk_talk.proofs.Headline.{answer_whole, same_good}
-use Rattle.zk_talk.proofs.OrderOnce.{order_once}
-use Rattle.zk_talk.proofs.Speaking.{one_client, one_server}
+use Rattle.zk_talk.proofs.{Headline.answer_whole, Headline.same_good, OrderOnce.order_once, Speaking.one_client, Speaking.one_server}
 
 said-append : (M N : List Message) → said (M ++ N) ≡ said M ++ said N
 said-append M N = flat_map-append (λ m. on (side_of m) (frame (payload_of m))) M N

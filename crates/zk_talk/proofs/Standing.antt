@@ -1,30 +1,17 @@
 -- A talk goes on with its history.
 use Rattle.std.proofs.Common.{◌≡◌, ℕ, ◌+◌, ◌<◌, ◌≤◌, ◌^◌, List, [], ◌∷◌, ◌++◌, length, refl, sym, ap, ◌∙◌, subst, arith, append_assoc}
-use Rattle.std.proofs.lemmas.List.{append-nil, length_push}
-use Rattle.zk_talk.specs.declared.message.Side.{Side}
+use Rattle.std.proofs.lemmas.List.{append-nil, length_push, map_push}
+use Rattle.zk_talk.specs.{declared.message.Side.Side, declared.limits.Limits.Limits, History.History, History.side_bytes, History.on, Held.Message, Fault.IsCause, Fault.rest_on, Fault.side_limit, Said.payload_of, Viewed.other_side}
 use Rattle.zk_talk.specs.declared.message.Side.TheVariants.{Client, Server}
-use Rattle.zk_talk.specs.declared.limits.Limits.{Limits}
-use Rattle.zk_talk.specs.History.{History, side_bytes}
 use Rattle.zk_frames.specs.Framing.{frame, IsBeginning}
 use Rattle.zk_talk.specs.Conversation.{Conversation, with_client, with_server, ClientMay, ServerMay, load}
-use Rattle.zk_talk.specs.Good.{IsWhole, AreWholeIn, Good, IsGood}
-use Rattle.zk_talk.proofs.Small.{AreSmall}
-use Rattle.zk_talk.proofs.Histories.{side_bytes-same, other-bytes}
-use Rattle.std.proofs.lemmas.List.{map_push}
+use Rattle.zk_talk.specs.Good.{IsWhole, AreWholeIn, Good, IsGood, clients, servers, IsOrder}
+use Rattle.zk_talk.proofs.{Small.AreSmall, Histories.side_bytes-same, Histories.other-bytes, Lists.FrontOfPushed, Lists.front_of_pushed, Lists.FrontOfPushed.all_of_it, Lists.FrontOfPushed.front_of, Refusals.refused}
 use Rattle.zk_jute.specs.declared.fault.Reason.{Reason}
-use Rattle.zk_talk.specs.Held.{Message}
 use Rattle.zk_talk.specs.declared.message.MessageOf.TheVariants.{Client as FromClient, Server as FromServer}
-use Rattle.zk_talk.specs.History.{on}
-use Rattle.zk_talk.specs.Good.{clients, servers, IsOrder}
-use Rattle.zk_talk.specs.Fault.{IsCause, rest_on, side_limit}
-use Rattle.zk_talk.specs.Said.{payload_of}
-use Rattle.zk_talk.specs.Viewed.{other_side}
 use Rattle.zk_talk.specs.Fault.IsCause.{stream_end, length_range, payload_fault}
-use Rattle.zk_talk.proofs.Lists.{FrontOfPushed, front_of_pushed}
-use Rattle.zk_talk.proofs.Lists.FrontOfPushed.{all_of_it, front_of}
 use Rattle.zk_frames.proofs.Taking as frames
 use Rattle.zk_talk.proofs.GoodSteps.{good_more_client, good_more_server, good_client, good_server, found_client, found_server, bad_length, side_full}
-use Rattle.zk_talk.proofs.Refusals.{refused}
 
 -- ---- Sides
 -- what a side has, where one side has something new

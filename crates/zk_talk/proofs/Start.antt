@@ -1,19 +1,11 @@
 -- The empty history.
-use Rattle.std.proofs.Common.{◌≡◌, ℕ, ◌≤◌, inl, List, [], ◌++◌, length, refl, sym, ap, subst, arith}
+use Rattle.std.proofs.Common.{◌≡◌, ℕ, ◌≤◌, inl, List, [], ◌++◌, length, refl, sym, ap, subst, arith, None}
 use Rattle.zk_talk.specs.declared.message.Side.TheVariants.{Client, Server}
-use Rattle.zk_talk.specs.declared.limits.Limits.{Limits}
+use Rattle.zk_talk.specs.{declared.limits.Limits.Limits, Good.IsWhole, Queues.IsQueue, Numbers.HaveNumbers, Stands.TalkState, Stands.Stands}
 use Rattle.zk_talk.specs.Conversation.{ClientMay, ServerMay, Conversation, load}
-use Rattle.zk_talk.specs.Good.{IsWhole}
-use Rattle.zk_talk.proofs.Histories.{no_bytes}
-use Rattle.zk_talk.proofs.Lists.{not_empty}
-use Rattle.std.proofs.Common.{None}
-use Rattle.zk_waiting.specs.declared.lane.Lane.{Lane}
-use Rattle.zk_waiting.specs.Waiting.{Lanes, queue_on}
-use Rattle.zk_talk.specs.Queues.{IsQueue}
-use Rattle.zk_talk.specs.Numbers.{HaveNumbers}
-use Rattle.zk_talk.specs.Stands.{TalkState, Stands}
+use Rattle.zk_talk.proofs.{Histories.no_bytes, Lists.not_empty, Lists.EachAfter-nil, Lists.both_empty}
+use Rattle.zk_waiting.specs.{declared.lane.Lane.Lane, Waiting.Lanes, Waiting.queue_on}
 use Rattle.zk_waiting.specs.declared.lane.Lane.TheVariants.{Ping, Auth, Watches, Plain}
-use Rattle.zk_talk.proofs.Lists.{EachAfter-nil, both_empty}
 
 abbrev pub no_lanes : ℕ → Lanes
 no_lanes max = record { max = max; ping = []; auth = []; watches = []; plain = [] }

@@ -2,15 +2,10 @@
 use Rattle.std.proofs.Common.{◌≡◌, ◌≢◌, inl, inr, ℕ, List, [], ◌∷◌, take, Bool, true, false, Some, None, refl, sym, ◌∙◌, subst}
 use Rattle.std.proofs.lemmas.List.{append-nil}
 use Rattle.zk_jute.specs.declared.fault.Reason.TheVariants.{NoMemory}
-use Rattle.zk_talk.specs.declared.message.Side.{Side}
+use Rattle.zk_talk.specs.{declared.message.Side.Side, declared.message.Fault.Fault, Held.Message, History.History, Stands.TalkState, Stands.Stands, Stands.Refuses, Stands.held_on}
 use Rattle.zk_talk.specs.declared.message.Side.TheVariants.{Client, Server}
-use Rattle.zk_talk.specs.declared.message.Fault.{Fault}
-use Rattle.zk_talk.specs.Held.{Message}
-use Rattle.zk_talk.specs.History.{History}
-use Rattle.zk_talk.specs.Stands.{TalkState, Stands, Refuses, held_on}
 use Rattle.zk_talk.specs.Taking.{GoesOn, Steps, StepsOn, Passes, PassesOn, IsRefused, Fails, given_up, lacks_memory}
-use Rattle.zk_talk.proofs.Headline.{refuses_with}
-use Rattle.zk_talk.proofs.Answering.{rekept}
+use Rattle.zk_talk.proofs.{Headline.refuses_with, Answering.rekept}
 
 stands_given : (side : Side) (t : TalkState) (h : History) (M : List Message) → Stands t h M → Stands (given_up side t) h M
 stands_given Client t h M st = rekept t [] t.server_kept h M st st.newest

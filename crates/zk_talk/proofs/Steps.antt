@@ -1,31 +1,21 @@
 -- One more byte keeps a history good, or can't.
 use Rattle.std.proofs.Common.{◌≡◌, ℕ, ◌+◌, ◌<◌, ◌≤◌, List, [], ◌∷◌, ◌++◌, length, map, refl, sym, ap, ◌∙◌, subst, arith, append_assoc, length-append, Bool, true, false, filter, cond, leb}
 use Rattle.std.proofs.lemmas.List.{append-nil, map-append, length-map, nil_from_length}
-use Rattle.std.proofs.lemmas.List.Concat.{flat_map-append}
-use Rattle.std.proofs.lemmas.List.Elements.{filter-append}
-use Rattle.std.proofs.lemmas.Bool.{leb-true, leb-false}
+use Rattle.std.proofs.{lemmas.List.Concat.flat_map-append, lemmas.List.Elements.filter-append, lemmas.Bool.leb-true, lemmas.Bool.leb-false}
 use Rattle.zk_records.specs.declared.profile.Profile.{Profile}
 use Rattle.zk_asks.specs.Held.{ClientFrame}
 use Rattle.zk_asks.specs.declared.frame.ClientFrameOf.TheVariants.{Connect, Ask}
 use Rattle.zk_answers.specs.Held.{ServerFrame}
 use Rattle.zk_answers.specs.declared.frame.ServerFrameOf.TheVariants.{Connected, Answered, Event}
-use Rattle.zk_talk.specs.Payloads.{client_payload, server_payload}
-use Rattle.zk_talk.specs.declared.message.Side.{Side}
+use Rattle.zk_talk.specs.{Payloads.client_payload, Payloads.server_payload, declared.message.Side.Side, declared.limits.Limits.Limits, Splits.EachAfter, History.History, History.side_bytes}
 use Rattle.zk_talk.specs.declared.message.Side.TheVariants.{Client, Server}
-use Rattle.zk_talk.specs.declared.limits.Limits.{Limits}
-use Rattle.zk_talk.specs.Splits.{EachAfter}
-use Rattle.zk_talk.specs.History.{History, side_bytes}
 use Rattle.zk_frames.specs.Framing.{frame, frames}
 use Rattle.zk_waiting.specs.Lane.{lane_of}
 use Rattle.zk_talk.specs.Conversation.{with_client, with_server, is_ask_on, is_reply_on, asks_on, replies_on, ClientMay, ServerMay, Answers, Conversation, IsConversation, load, sum_waiting, is_unanswered, weight}
 use Rattle.zk_talk.specs.Good.{client_payloads, server_payloads, client_bytes, server_bytes, IsCausal, IsWhole, IsBounded}
-use Rattle.zk_talk.proofs.Small.{AreSmall}
+use Rattle.zk_talk.proofs.{Small.AreSmall, Lists.InPushed.at_end, Lists.InPushed.inside, Lists.FrontOfPushed.all_of_it, Lists.FrontOfPushed.front_of, Turns.count_split, Turns.same_lane-itself, Histories.front-length}
 use Rattle.zk_talk.proofs.Lists.{not_empty, InPushed, in_pushed, FrontOfPushed, front_of_pushed, EachAfter-push}
-use Rattle.zk_talk.proofs.Lists.InPushed.{at_end, inside}
-use Rattle.zk_talk.proofs.Lists.FrontOfPushed.{all_of_it, front_of}
 use Rattle.zk_frames.proofs.Cuts.{same_cut}
-use Rattle.zk_talk.proofs.Turns.{count_split, same_lane-itself}
-use Rattle.zk_talk.proofs.Histories.{front-length}
 
 module _ {X : Type 0} (payload : X → List ℕ) where
   bytes-append : (A B : List X) → frames (map payload (A ++ B)) ≡ frames (map payload A) ++ frames (map payload B)

@@ -1,29 +1,15 @@
 -- What a talk stands for after a piece.
-use Rattle.std.proofs.Common.{◌≡◌, ℕ, ◌+◌, ◌<◌, ◌≤◌, ◌^◌, List, [], ◌∷◌, ◌++◌, length, refl, sym, ap, ◌∙◌, subst, arith, append_assoc}
+use Rattle.std.proofs.Common.{◌≡◌, ℕ, ◌+◌, ◌<◌, ◌≤◌, ◌^◌, List, [], ◌∷◌, ◌++◌, length, refl, sym, ap, ◌∙◌, subst, arith, append_assoc, Option, Some}
 use Rattle.std.proofs.lemmas.List.{map-append, length_push}
-use Rattle.zk_talk.specs.declared.message.Side.{Side}
+use Rattle.zk_talk.specs.{declared.message.Side.Side, History.History, History.side_bytes, History.on, Conversation.Conversation, Held.Message, declared.message.Fault.Fault}
 use Rattle.zk_talk.specs.declared.message.Side.TheVariants.{Client, Server}
-use Rattle.zk_talk.specs.History.{History, side_bytes}
 use Rattle.zk_frames.specs.Framing.{frame, IsBeginning}
-use Rattle.zk_talk.specs.Conversation.{Conversation}
-use Rattle.std.proofs.Common.{Option, Some}
-use Rattle.zk_jute.specs.declared.fault.Reason.{Reason}
-use Rattle.zk_waiting.specs.declared.lane.Lane.{Lane}
-use Rattle.zk_talk.specs.Held.{Message}
+use Rattle.zk_jute.specs.{declared.fault.Reason.Reason, Reading.told_place}
+use Rattle.zk_waiting.specs.{declared.lane.Lane.Lane, Waiting.Lanes, Waiting.queue_on}
 use Rattle.zk_talk.specs.declared.message.MessageOf.TheVariants.{Client as FromClient, Server as FromServer}
-use Rattle.zk_talk.specs.History.{on}
-use Rattle.zk_talk.specs.declared.message.Fault.{Fault}
-use Rattle.zk_talk.specs.Fault.{IsCause, IsOfItems, fault_of, side_limit, frame_count}
-use Rattle.zk_waiting.specs.Waiting.{Lanes, queue_on}
-use Rattle.zk_talk.specs.Queues.{IsQueue}
-use Rattle.zk_talk.specs.Numbers.{AreNumbered, IsNewest}
-use Rattle.zk_talk.specs.declared.replied.Replied.{Replied}
+use Rattle.zk_talk.specs.{Fault.IsCause, Fault.IsOfItems, Fault.fault_of, Fault.side_limit, Fault.frame_count, Queues.IsQueue, Numbers.AreNumbered, Numbers.IsNewest, declared.replied.Replied.Replied, Streams.StreamState, Said.payload_of}
 use Rattle.zk_talk.specs.Stands.{TalkState, Stands, Refuses, held_on, kept_on, frames_on, size_on}
-use Rattle.zk_talk.specs.Streams.{StreamState}
-use Rattle.zk_jute.specs.Reading.{told_place}
-use Rattle.zk_talk.proofs.Small.{small_limits}
-use Rattle.zk_talk.proofs.Queues.{weight_is_load}
-use Rattle.zk_talk.specs.Said.{payload_of}
+use Rattle.zk_talk.proofs.{Small.small_limits, Queues.weight_is_load}
 use Rattle.zk_talk.proofs.Standing.{own, own_rest, with_message, MayOn, Runs, frame_front, runs_client, runs_server, runs_message, bytes-on, other-on, last-on, cause_bad}
 
 -- the talk with this in place of what is held and kept of the side, how many frames were whole, how many bytes came, what

@@ -1,21 +1,13 @@
 -- What a reader told, as what a judgement tells.
 use Rattle.std.proofs.Common.{◌≡◌, ◌≢◌, ℕ, ◌<◌, ◌⊎◌, inl, inr, List, ℤ, Option, Result, Err, sym, ap, ◌∙◌, subst, arith}
 use Rattle.std.specs.Prelude.{IfErr}
-use Rattle.zk_jute.specs.declared.fault.ItemFault.{ItemFault}
-use Rattle.zk_jute.specs.declared.fault.Reason.{Reason}
+use Rattle.zk_jute.specs.{declared.fault.ItemFault.ItemFault, declared.fault.Reason.Reason, Reading.told_place, Told.IsTold, Verdict.Says}
 use Rattle.zk_jute.specs.declared.fault.Reason.TheVariants.{NoMemory, Unasked, XidOrder}
-use Rattle.zk_jute.specs.Reading.{told_place}
-use Rattle.zk_jute.specs.Told.{IsTold}
-use Rattle.zk_jute.specs.Verdict.{Says}
 use Rattle.zk_jute.proofs.Judged.{says_more, says_told}
 use Rattle.zk_records.specs.declared.profile.Profile.{Profile}
 use Rattle.zk_asks.specs.Faults.{IsFirstFault, IsAskFault}
 use Rattle.zk_waiting.specs.Waiting.{Lanes}
-use Rattle.zk_talk.specs.declared.limits.Limits.{Limits}
-use Rattle.zk_talk.specs.Conversation.{Conversation}
-use Rattle.zk_talk.specs.Fault.{IsClientFault, IsServerFault}
-use Rattle.zk_talk.specs.Describes.{Describes}
-use Rattle.zk_talk.specs.Judged.{Tells, IsTurnFault}
+use Rattle.zk_talk.specs.{declared.limits.Limits.Limits, Conversation.Conversation, Fault.IsClientFault, Fault.IsServerFault, Describes.Describes, Judged.Tells, Judged.IsTurnFault}
 use Rattle.zk_talk.proofs.Judging as J
 use Rattle.std.proofs.lemmas.Bool.{cases_order}
 

@@ -2,27 +2,17 @@
 use Rattle.std.proofs.Common.{◌≡◌, ℕ, zero, suc, ◌+◌, List, [], ◌∷◌, ◌++◌, length, drop, refl, sym, ap, ◌∙◌, subst, arith, length-append, Bool, true, false, filter, cond}
 use Rattle.std.proofs.lemmas.List.Elements.{filter-append}
 use Rattle.zk_records.specs.declared.profile.Profile.{Profile}
-use Rattle.zk_asks.specs.Held.{ClientFrame}
-use Rattle.zk_asks.specs.declared.frame.ClientFrameOf.TheVariants.{Ask}
-use Rattle.zk_answers.specs.Held.{ServerFrame, Reply}
+use Rattle.zk_asks.specs.{Held.ClientFrame, declared.frame.ClientFrameOf.TheVariants.Ask, Rows.op_of_ask, Frames.ops_of_ask}
+use Rattle.zk_answers.specs.{Held.ServerFrame, Held.Reply, Frames.Fits, Frames.IsEvent}
 use Rattle.zk_answers.specs.declared.frame.ServerFrameOf.TheVariants.{Connected, Answered, Event}
-use Rattle.zk_talk.specs.Payloads.{client_payload, server_payload}
-use Rattle.zk_asks.specs.Rows.{op_of_ask}
-use Rattle.zk_asks.specs.Frames.{ops_of_ask}
-use Rattle.zk_answers.specs.Frames.{Fits, IsEvent}
+use Rattle.zk_talk.specs.{Payloads.client_payload, Payloads.server_payload, Splits.EachAfter, Good.client_payloads, Good.server_payloads}
 use Rattle.zk_answers.specs.Frames as answers
-use Rattle.zk_asks.proofs.First.{first_injective}
-use Rattle.zk_asks.proofs.Later.{ask_injective}
-use Rattle.zk_answers.proofs.Connected.{connected_injective}
-use Rattle.zk_answers.proofs.Replies.{reply_injective}
-use Rattle.zk_answers.proofs.Events.{event_injective}
+use Rattle.zk_asks.proofs.{First.first_injective, Later.ask_injective}
+use Rattle.zk_answers.proofs.{Connected.connected_injective, Replies.reply_injective, Events.event_injective}
 use Rattle.zk_talk.proofs.Payloads.{asks_alike, answers_alike, reply_head_is, reply_no_event, event_head_is, same_head}
-use Rattle.zk_waiting.specs.declared.lane.Lane.{Lane}
+use Rattle.zk_waiting.specs.{declared.lane.Lane.Lane, Lane.lane_of, Lane.same_lane}
 use Rattle.zk_waiting.specs.declared.lane.Lane.TheVariants.{Ping, Auth, Watches, Plain}
-use Rattle.zk_talk.specs.Splits.{EachAfter}
-use Rattle.zk_waiting.specs.Lane.{lane_of, same_lane}
 use Rattle.zk_talk.specs.Conversation.{is_ask_on, asks_on, replies_on, ClientMay, ServerMay, IsAnswered}
-use Rattle.zk_talk.specs.Good.{client_payloads, server_payloads}
 use Rattle.zk_talk.proofs.Lists.{same_each}
 
 pub same_lane-itself : (lane : Lane) → same_lane lane lane ≡ true

@@ -1,19 +1,9 @@
 -- What is returned for a list of pieces.
 use Rattle.std.specs.Prelude.{◌≡◌, ℕ, List, [], ◌++◌, Option, Some, None}
-use Rattle.std.specs.List.{flat_map}
-use Rattle.std.specs.Borrow.{Bor}
-use Rattle.zk_talk.specs.declared.message.Side.{Side}
-use Rattle.zk_talk.specs.Held.{Message}
-use Rattle.zk_talk.specs.declared.limits.Limits.{Limits}
-use Rattle.zk_talk.specs.declared.message.Fault.{Fault}
-use Rattle.zk_talk.specs.declared.message.Ending.{Ending}
+use Rattle.std.specs.{List.flat_map, Borrow.Bor}
+use Rattle.zk_talk.specs.{declared.message.Side.Side, Held.Message, declared.limits.Limits.Limits, declared.message.Fault.Fault, declared.message.Ending.Ending, History.History, History.on, Conversation.Conversation}
 use Rattle.zk_talk.specs.declared.message.Ending.TheVariants.{Whole, Cut, Refused}
-use Rattle.zk_talk.specs.History.{History, on}
-use Rattle.zk_talk.specs.Conversation.{Conversation}
-use Rattle.zk_talk.specs.Good.{Good, IsOrder}
-use Rattle.zk_talk.specs.Fault.{IsFaultOf}
-use Rattle.zk_talk.specs.Ending.{IsEnding, unanswered}
-use Rattle.zk_talk.specs.Stands.{TalkState, Stands, Refuses}
+use Rattle.zk_talk.specs.{Good.Good, Good.IsOrder, Fault.IsFaultOf, Ending.IsEnding, Ending.unanswered, Stands.TalkState, Stands.Stands, Stands.Refuses}
 
 abbrev pub history_of : List (Side × Bor (List ℕ)) → History
 history_of pieces = flat_map (λ (p : Side × Bor (List ℕ)). on p.0 p.1.now) pieces

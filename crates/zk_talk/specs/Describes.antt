@@ -1,10 +1,7 @@
 -- What is known of the conversation so far when a payload is judged.
 use Rattle.std.specs.Prelude.{◌≡◌, ℕ, length}
-use Rattle.zk_waiting.specs.declared.lane.Lane.{Lane}
-use Rattle.zk_waiting.specs.Waiting.{Lanes, queue_on}
-use Rattle.zk_talk.specs.Splits.{EachAfter}
-use Rattle.zk_talk.specs.Conversation.{Conversation, ServerMay}
-use Rattle.zk_talk.specs.Queues.{IsQueue}
+use Rattle.zk_waiting.specs.{declared.lane.Lane.Lane, Waiting.Lanes, Waiting.queue_on}
+use Rattle.zk_talk.specs.{Splits.EachAfter, Conversation.Conversation, Conversation.ServerMay, Queues.IsQueue}
 
 pub record Describes (client_frames server_frames : ℕ) (waiting : Lanes) (v : Conversation) : Type 0 where
   pub client : client_frames ≡ length v.client

@@ -2,15 +2,9 @@
 use Rattle.std.specs.Prelude.{◌≡◌, ◌≢◌, ℕ, ◌+◌, List, [], ◌∷◌, length}
 use Rattle.zk_asks.specs.Held.{ClientFrame}
 use Rattle.zk_answers.specs.Held.{ServerFrame}
-use Rattle.zk_talk.specs.declared.message.Side.{Side}
+use Rattle.zk_talk.specs.{declared.message.Side.Side, declared.limits.Limits.Limits, declared.message.Ending.Ending, History.History, Conversation.Conversation, Conversation.number_waiting, Good.Good, Fault.IsFaultOf}
 use Rattle.zk_talk.specs.declared.message.Side.TheVariants.{Client, Server}
-use Rattle.zk_talk.specs.declared.limits.Limits.{Limits}
-use Rattle.zk_talk.specs.declared.message.Ending.{Ending}
 use Rattle.zk_talk.specs.declared.message.Ending.TheVariants.{Whole, Cut, Refused}
-use Rattle.zk_talk.specs.History.{History}
-use Rattle.zk_talk.specs.Conversation.{Conversation, number_waiting}
-use Rattle.zk_talk.specs.Good.{Good}
-use Rattle.zk_talk.specs.Fault.{IsFaultOf}
 
 -- 1 for a connect request without a reply
 abbrev pub unwelcomed : List ClientFrame → List ServerFrame → ℕ

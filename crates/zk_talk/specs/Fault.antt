@@ -1,29 +1,17 @@
 -- The fault of a history: the first byte with which it is no longer good, and why.
 use Rattle.std.specs.Prelude.{◌≡◌, ◌≢◌, Bool, true, false, IsTrue, ℕ, ◌≤◌, ◌<◌, ◌+◌, ◌^◌, List, [], ◌∷◌, ◌++◌, length, ℤ}
-use Rattle.zk_jute.specs.declared.fault.Reason.{Reason}
+use Rattle.zk_jute.specs.{declared.fault.Reason.Reason, Reading.told_place}
 use Rattle.zk_jute.specs.declared.fault.Reason.TheVariants as reasons
 use Rattle.zk_jute.specs.declared.fault.Reason.TheVariants.{StreamEnd, LengthRange, QueueFull, Unasked, XidOrder}
-use Rattle.zk_jute.specs.Reading.{told_place}
 use Rattle.zk_records.specs.declared.header.ReplyHeader.{ReplyHeader}
-use Rattle.zk_asks.specs.Held.{Ask as Asked}
-use Rattle.zk_asks.specs.Held.{ClientFrame}
-use Rattle.zk_asks.specs.declared.frame.ClientFrameOf.TheVariants.{Ask}
-use Rattle.zk_asks.specs.Codes.{event_xid}
-use Rattle.zk_asks.specs.Frames.{IsLater, IsSent, IsOfProfile, ops_of_ask}
-use Rattle.zk_asks.specs.Rows.{op_of_ask}
+use Rattle.zk_asks.specs.{Held.Ask as Asked, Held.ClientFrame, declared.frame.ClientFrameOf.TheVariants.Ask, Codes.event_xid, Frames.IsLater, Frames.IsSent, Frames.IsOfProfile, Frames.ops_of_ask, Rows.op_of_ask}
 use Rattle.zk_asks.specs.Faults.{IsFirstFault, IsAskFault}
 use Rattle.zk_answers.specs.Faults.{IsConnectedFault, IsHead, IsHeadFault, IsReplyFault, IsEventFault}
 use Rattle.zk_frames.specs.Framing.{frame, IsBadLength}
-use Rattle.zk_waiting.specs.declared.lane.Lane.{Lane}
-use Rattle.zk_waiting.specs.Lane.{lane_of}
-use Rattle.zk_talk.specs.declared.message.Side.{Side}
+use Rattle.zk_waiting.specs.{declared.lane.Lane.Lane, Lane.lane_of}
+use Rattle.zk_talk.specs.{declared.message.Side.Side, declared.message.Fault.Fault, declared.limits.Limits.Limits, Payloads.client_payload, History.History, History.side_bytes, Good.Good, Good.IsGood}
 use Rattle.zk_talk.specs.declared.message.Side.TheVariants.{Client, Server}
-use Rattle.zk_talk.specs.declared.message.Fault.{Fault}
-use Rattle.zk_talk.specs.declared.limits.Limits.{Limits}
-use Rattle.zk_talk.specs.Payloads.{client_payload}
-use Rattle.zk_talk.specs.History.{History, side_bytes}
 use Rattle.zk_talk.specs.Conversation.{Conversation, asks_on, replies_on, load, weight}
-use Rattle.zk_talk.specs.Good.{Good, IsGood}
 
 -- the ask that the next reply of the lane answers
 pub record IsNext (v : Conversation) (lane : Lane) (xid : ℤ) (ask : Asked) : Type 0 where

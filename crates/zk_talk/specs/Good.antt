@@ -2,12 +2,9 @@
 use Rattle.std.specs.Prelude.{◌≡◌, ℕ, ◌≤◌, ◌<◌, ◌^◌, List, [], ◌∷◌, ◌++◌, length, map}
 use Rattle.zk_asks.specs.Held.{ClientFrame}
 use Rattle.zk_answers.specs.Held.{ServerFrame}
-use Rattle.zk_talk.specs.Payloads.{client_payload, server_payload}
+use Rattle.zk_talk.specs.{Payloads.client_payload, Payloads.server_payload, Held.Message, declared.limits.Limits.Limits, History.History, History.side_bytes}
 use Rattle.zk_talk.specs.declared.message.Side.TheVariants.{Client, Server}
-use Rattle.zk_talk.specs.Held.{Message}
 use Rattle.zk_talk.specs.declared.message.MessageOf.TheVariants.{Client as FromClient, Server as FromServer}
-use Rattle.zk_talk.specs.declared.limits.Limits.{Limits}
-use Rattle.zk_talk.specs.History.{History, side_bytes}
 use Rattle.zk_frames.specs.Framing.{frames, IsCut}
 use Rattle.zk_talk.specs.Conversation.{Conversation, IsConversation, Answers, load}
 

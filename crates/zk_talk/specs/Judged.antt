@@ -1,29 +1,16 @@
 -- How a payload's judgement is reported.
 use Rattle.std.specs.Prelude.{◌≡◌, ℕ, ◌<◌, ◌≤◌, ◌+◌, ◌⊎◌, List, drop, Option, Some, None, slice_get}
-use Rattle.zk_jute.specs.declared.fault.ItemFault.{ItemFault}
-use Rattle.zk_jute.specs.declared.fault.Reason.{Reason}
-use Rattle.zk_jute.specs.declared.fault.Reason.TheVariants.{QueueFull}
-use Rattle.zk_jute.specs.Reading.{told_place, no_memory}
+use Rattle.zk_jute.specs.{declared.fault.ItemFault.ItemFault, declared.fault.Reason.Reason, declared.fault.Reason.TheVariants.QueueFull, Reading.told_place, Reading.no_memory}
 use Rattle.zk_records.specs.declared.profile.Profile.{Profile}
-use Rattle.zk_asks.specs.Held.{ClientFrame}
+use Rattle.zk_asks.specs.{Held.ClientFrame, Frames.IsFirst, Frames.IsLater, Frames.IsOfProfile, Frames.ops_of_ask, Rows.op_of_ask, Faults.IsFirstFault, Faults.IsAskFault}
 use Rattle.zk_asks.specs.declared.frame.ClientFrameOf.TheVariants.{Connect, Ask}
-use Rattle.zk_asks.specs.Frames.{IsFirst, IsLater, IsOfProfile, ops_of_ask}
-use Rattle.zk_asks.specs.Rows.{op_of_ask}
-use Rattle.zk_asks.specs.Faults.{IsFirstFault, IsAskFault}
-use Rattle.zk_answers.specs.Frames.{IsReplyTo, op_of_reply}
-use Rattle.zk_answers.specs.Held.{ServerFrame}
+use Rattle.zk_answers.specs.{Frames.IsReplyTo, Frames.op_of_reply, Held.ServerFrame}
 use Rattle.zk_answers.specs.declared.frame.ServerFrameOf.TheVariants.{Connected, Answered, Event}
 use Rattle.zk_waiting.specs.Lane.{lane_of}
 use Rattle.zk_waiting.specs.Waiting.{Lanes, Request, queue_on, weight_of, IsPut, IsDropped}
 use Rattle.zk_asks.specs.Frames as asks
-use Rattle.zk_talk.specs.declared.limits.Limits.{Limits}
-use Rattle.zk_talk.specs.declared.replied.Replied.{Replied}
-use Rattle.zk_talk.specs.Payloads.{client_payload, server_payload}
-use Rattle.zk_talk.specs.Fault.{IsClientFault, IsServerFault}
-use Rattle.zk_talk.specs.Streams.{StreamState}
-use Rattle.zk_talk.specs.Viewed.{ShowsClient, ShowsServer}
-use Rattle.zk_talk.specs.Describes.{Describes}
-use Rattle.zk_talk.specs.Conversation.{Conversation, ServerMay, weight}
+use Rattle.zk_talk.specs.{declared.limits.Limits.Limits, declared.replied.Replied.Replied, Payloads.client_payload, Payloads.server_payload, Fault.IsClientFault, Fault.IsServerFault, Streams.StreamState}
+use Rattle.zk_talk.specs.{Viewed.ShowsClient, Viewed.ShowsServer, Describes.Describes, Conversation.Conversation, Conversation.ServerMay, Conversation.weight}
 
 -- the fault, with its place in 32 bits
 abbrev pub Tells : (ℕ → Reason → Type 0) → ItemFault → Type 0

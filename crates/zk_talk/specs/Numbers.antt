@@ -1,10 +1,8 @@
 -- Which of the client's frames the newest of the server's answers, by their numbers from 0.
 use Rattle.std.specs.Prelude.{◌≡◌, ℕ, ◌+◌, List, [], ◌∷◌, ◌++◌, length, map, drop, Option, Some, None, if◌then◌else◌}
 use Rattle.zk_asks.specs.Held.{ClientFrame}
-use Rattle.zk_answers.specs.Held.{ServerFrame}
-use Rattle.zk_answers.specs.Frames.{IsEvent}
-use Rattle.zk_waiting.specs.declared.lane.Lane.{Lane}
-use Rattle.zk_waiting.specs.Waiting.{Request, Lanes, queue_on}
+use Rattle.zk_answers.specs.{Held.ServerFrame, Frames.IsEvent}
+use Rattle.zk_waiting.specs.{declared.lane.Lane.Lane, Waiting.Request, Waiting.Lanes, Waiting.queue_on}
 use Rattle.zk_talk.specs.declared.replied.Replied.{Replied}
 use Rattle.zk_talk.specs.Conversation.{Conversation, Answers, is_ask_on, replies_on}
 

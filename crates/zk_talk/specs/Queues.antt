@@ -1,11 +1,8 @@
 -- The lanes of a conversation: the asks that no reply answers, oldest first.
 use Rattle.std.specs.Prelude.{◌≡◌, List, [], ◌∷◌, filter, drop}
-use Rattle.zk_asks.specs.Held.{ClientFrame}
+use Rattle.zk_asks.specs.{Held.ClientFrame, Rows.op_of_ask, Frames.ops_of_ask}
 use Rattle.zk_asks.specs.declared.frame.ClientFrameOf.TheVariants.{Connect, Ask}
-use Rattle.zk_asks.specs.Rows.{op_of_ask}
-use Rattle.zk_asks.specs.Frames.{ops_of_ask}
-use Rattle.zk_waiting.specs.declared.lane.Lane.{Lane}
-use Rattle.zk_waiting.specs.Waiting.{Request}
+use Rattle.zk_waiting.specs.{declared.lane.Lane.Lane, Waiting.Request}
 use Rattle.zk_talk.specs.Conversation.{Conversation, is_ask_on, replies_on}
 
 -- what waits for the frame's reply, whatever its number

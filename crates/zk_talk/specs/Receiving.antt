@@ -1,12 +1,8 @@
 -- What a piece does to a side.
 use Rattle.std.specs.Prelude.{◌≡◌, ℕ, ◌+◌, List, length, Option, Some, None, Result, Ok, Err}
 use Rattle.zk_jute.specs.declared.fault.Reason.{Reason}
-use Rattle.zk_talk.specs.declared.message.Side.{Side}
-use Rattle.zk_talk.specs.declared.message.Fault.{Fault}
+use Rattle.zk_talk.specs.{declared.message.Side.Side, declared.message.Fault.Fault, Fault.fault_of, Streams.StreamState, Advance.IsAdvance}
 use Rattle.zk_talk.specs.declared.stream.Advance.TheVariants as advances
-use Rattle.zk_talk.specs.Fault.{fault_of}
-use Rattle.zk_talk.specs.Streams.{StreamState}
-use Rattle.zk_talk.specs.Advance.{IsAdvance}
 
 -- all of the piece came, and the frame isn't whole
 pub record CameWithin (old : StreamState) (piece : List ℕ) (new : StreamState) : Type 0 where

@@ -1,28 +1,16 @@
 -- The body in which a fault is found.
 use Rattle.std.specs.Prelude.{◌≡◌, ◌≢◌, ℕ, ◌<◌, ◌≤◌, ℤ, pos, List, [], ◌∷◌, ◌++◌, Option, MatchOption}
 use Rattle.std.specs.Borrow.{Bor}
-use Rattle.zk_jute.specs.Item.{HaveBytes}
-use Rattle.zk_jute.specs.Faults.{Opens}
-use Rattle.zk_records.specs.declared.header.ReplyHeader.{ReplyHeader}
-use Rattle.zk_records.specs.declared.op.Op.{Op}
+use Rattle.zk_jute.specs.{Item.HaveBytes, Faults.Opens}
+use Rattle.zk_records.specs.{declared.header.ReplyHeader.ReplyHeader, declared.op.Op.Op, Codes.op_number}
 use Rattle.zk_records.specs.declared.op.Op.TheVariants as ops
-use Rattle.zk_records.specs.Codes.{op_number}
-use Rattle.zk_asks.specs.Held.{Ask as Asked}
-use Rattle.zk_asks.specs.Codes.{event_xid}
-use Rattle.zk_asks.specs.Forms.{header_items}
-use Rattle.zk_asks.specs.Rows.{op_of_ask}
-use Rattle.zk_answers.specs.declared.layout.Layout.{Layout}
+use Rattle.zk_asks.specs.{Held.Ask as Asked, Codes.event_xid, Forms.header_items, Rows.op_of_ask}
+use Rattle.zk_answers.specs.{declared.layout.Layout.Layout, Faults.IsHead}
 use Rattle.zk_answers.specs.declared.layout.Layout.TheVariants as layouts
-use Rattle.zk_answers.specs.Faults.{IsHead}
 use Rattle.zk_frames.specs.Framing.{frame}
 use Rattle.zk_waiting.specs.Lane.{lane_of}
-use Rattle.zk_talk.specs.declared.message.Side.{Side}
+use Rattle.zk_talk.specs.{declared.message.Side.Side, declared.message.Fault.Fault, declared.limits.Limits.Limits, History.History, Conversation.Conversation, Fault.IsFaultOf, Fault.IsNext, Fault.IsOfItems, Fault.rest_on}
 use Rattle.zk_talk.specs.declared.message.Side.TheVariants.{Client, Server}
-use Rattle.zk_talk.specs.declared.message.Fault.{Fault}
-use Rattle.zk_talk.specs.declared.limits.Limits.{Limits}
-use Rattle.zk_talk.specs.History.{History}
-use Rattle.zk_talk.specs.Conversation.{Conversation}
-use Rattle.zk_talk.specs.Fault.{IsFaultOf, IsNext, IsOfItems, rest_on}
 
 -- the number of bytes of a header of the side, of a frame after its first
 abbrev pub header_size : Side → ℕ

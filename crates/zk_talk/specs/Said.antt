@@ -2,33 +2,19 @@
 use Rattle.std.specs.Prelude.{◌≡◌, ◌≢◌, ℕ, ℤ, negsuc, ◌+◌, ◌≤◌, ◌<◌, ◌^◌, ◌⊎◌, List, [], ◌∷◌, ◌++◌, length, Bool, true, false, Some, None, slice_get}
 use Rattle.std.specs.List.{flat_map, AllByRecursion}
 use Rattle.zk_jute.specs.Item.{Item, Fit}
-use Rattle.zk_asks.specs.Held.{Ask as Asked}
-use Rattle.zk_asks.specs.Held.{ClientFrame}
-use Rattle.zk_asks.specs.Frames.{IsFirst, IsLater, IsOfProfile, MaySend, ops_of_ask}
-use Rattle.zk_asks.specs.Rows.{op_of_ask}
+use Rattle.zk_asks.specs.{Held.Ask as Asked, Held.ClientFrame, Frames.IsFirst, Frames.IsLater, Frames.IsOfProfile, Frames.MaySend, Frames.ops_of_ask, Rows.op_of_ask}
 use Rattle.zk_asks.specs.Frames as asks
-use Rattle.zk_answers.specs.Held.{Reply, ServerFrame}
+use Rattle.zk_answers.specs.{Held.Reply, Held.ServerFrame, Frames.IsConnected, Frames.IsEvent, Frames.Fits, Frames.IsOutcome}
 use Rattle.zk_answers.specs.declared.frame.ServerFrameOf.TheVariants.{Connected, Answered, Event}
-use Rattle.zk_answers.specs.Frames.{IsConnected, IsEvent, Fits, IsOutcome}
 use Rattle.zk_answers.specs.Frames as answers
 use Rattle.zk_frames.specs.Framing.{frame}
-use Rattle.zk_waiting.specs.declared.lane.Lane.{Lane}
-use Rattle.zk_waiting.specs.Lane.{lane_of}
-use Rattle.zk_waiting.specs.Waiting.{Lanes, Request, queue_on, weight_of}
-use Rattle.zk_talk.specs.declared.message.Side.{Side}
+use Rattle.zk_waiting.specs.{declared.lane.Lane.Lane, Lane.lane_of, Waiting.Lanes, Waiting.Request, Waiting.queue_on, Waiting.weight_of}
+use Rattle.zk_talk.specs.{declared.message.Side.Side, Held.Message, declared.limits.Limits.Limits, declared.say.SayFault.SayFault, Payloads.client_payload, Payloads.server_payload, Splits.EachAfter}
 use Rattle.zk_talk.specs.declared.message.Side.TheVariants.{Client, Server}
-use Rattle.zk_talk.specs.Held.{Message}
 use Rattle.zk_talk.specs.declared.message.MessageOf.TheVariants.{Client as FromClient, Server as FromServer}
-use Rattle.zk_talk.specs.declared.limits.Limits.{Limits}
-use Rattle.zk_talk.specs.declared.say.SayFault.{SayFault}
 use Rattle.zk_talk.specs.declared.say.SayFault.TheVariants.{NotFirst, Unasked, XidOrder, Misfit, TooLong, QueueFull, NoMemory}
-use Rattle.zk_talk.specs.Payloads.{client_payload, server_payload}
-use Rattle.zk_talk.specs.Splits.{EachAfter}
-use Rattle.zk_talk.specs.History.{History, side_bytes, on}
+use Rattle.zk_talk.specs.{History.History, History.side_bytes, History.on, Good.clients, Good.servers, Fault.IsNext, Fault.side_limit, Queues.IsQueue}
 use Rattle.zk_talk.specs.Conversation.{Conversation, ClientMay, ServerMay, asks_on, replies_on, load, weight, with_client, with_server}
-use Rattle.zk_talk.specs.Good.{clients, servers}
-use Rattle.zk_talk.specs.Fault.{IsNext, side_limit}
-use Rattle.zk_talk.specs.Queues.{IsQueue}
 
 abbrev pub side_of : Message → Side
 side_of (FromClient f) = Client

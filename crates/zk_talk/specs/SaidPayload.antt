@@ -4,16 +4,10 @@ use Rattle.zk_jute.specs.declared.fault.ItemFault.{ItemFault}
 use Rattle.zk_asks.specs.Held.{ClientFrame}
 use Rattle.zk_answers.specs.Held.{ServerFrame}
 use Rattle.zk_waiting.specs.Waiting.{Lanes}
-use Rattle.zk_talk.specs.declared.message.Side.{Side}
+use Rattle.zk_talk.specs.{declared.message.Side.Side, Held.Message, declared.limits.Limits.Limits, declared.payload.PayloadFault.PayloadFault, Payloads.client_payload, Payloads.server_payload}
 use Rattle.zk_talk.specs.declared.message.Side.TheVariants.{Client, Server}
-use Rattle.zk_talk.specs.Held.{Message}
-use Rattle.zk_talk.specs.declared.limits.Limits.{Limits}
-use Rattle.zk_talk.specs.declared.payload.PayloadFault.{PayloadFault}
 use Rattle.zk_talk.specs.declared.payload.PayloadFault.TheVariants.{Item, Say}
-use Rattle.zk_talk.specs.Payloads.{client_payload, server_payload}
-use Rattle.zk_talk.specs.Conversation.{Conversation, ClientMay, ServerMay}
-use Rattle.zk_talk.specs.Fault.{IsClientFault, IsServerFault}
-use Rattle.zk_talk.specs.Judged.{Tells}
+use Rattle.zk_talk.specs.{Conversation.Conversation, Conversation.ClientMay, Conversation.ServerMay, Fault.IsClientFault, Fault.IsServerFault, Judged.Tells}
 use Rattle.zk_talk.specs.Said.{SpeakerState, Says, MaySay, MayStand, Heard, SaysClient, StandsClient, IsClientRefusal, SaysServer, StandsServer, IsServerRefusal, side_of, payload_of, conversation_of}
 
 -- the message is of this side, and has this payload

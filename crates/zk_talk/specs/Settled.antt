@@ -1,22 +1,14 @@
 -- What is known of a frame that is judged without being made.
 use Rattle.std.specs.Prelude.{◌≡◌, ℕ, ℤ, Bool, List, Option, Some, None, MatchBool}
 use Rattle.zk_records.specs.declared.profile.Profile.{Profile}
-use Rattle.zk_asks.specs.Held.{ClientFrame}
-use Rattle.zk_asks.specs.declared.judge.Outline.{Outline}
-use Rattle.zk_asks.specs.Fronts.{asking_of}
+use Rattle.zk_asks.specs.{Held.ClientFrame, declared.judge.Outline.Outline, Fronts.asking_of}
 use Rattle.zk_asks.specs.Frames as asks
 use Rattle.zk_answers.specs.Held.{Reply, ServerFrame}
 use Rattle.zk_answers.specs.declared.frame.ServerFrameOf.TheVariants.{Connected, Answered, Event}
 use Rattle.zk_answers.specs.Frames as answers
-use Rattle.zk_waiting.specs.declared.lane.Lane.{Lane}
-use Rattle.zk_waiting.specs.Lane.{lane_of}
-use Rattle.zk_waiting.specs.Waiting.{Lanes}
-use Rattle.zk_talk.specs.Payloads.{client_payload, server_payload}
-use Rattle.zk_talk.specs.Conversation.{Conversation, ServerMay}
-use Rattle.zk_talk.specs.Describes.{Describes}
-use Rattle.zk_talk.specs.declared.replied.Replied.{Replied}
-use Rattle.zk_talk.specs.Judged.{IsInTurn, IsNumbered, IsDue, IsForgotten, TellsReplied}
-use Rattle.zk_talk.specs.Said.{Heard}
+use Rattle.zk_waiting.specs.{declared.lane.Lane.Lane, Lane.lane_of, Waiting.Lanes}
+use Rattle.zk_talk.specs.{Payloads.client_payload, Payloads.server_payload, Conversation.Conversation, Conversation.ServerMay, Describes.Describes, declared.replied.Replied.Replied}
+use Rattle.zk_talk.specs.{Judged.IsInTurn, Judged.IsNumbered, Judged.IsDue, Judged.IsForgotten, Judged.TellsReplied, Said.Heard}
 
 -- ---- a client's frame
 

@@ -2,8 +2,7 @@
 use Rattle.std.specs.Prelude.{◌≡◌, ◌≢◌, ℕ, ◌<◌, ◌≤◌, ◌^◌, Option, Some, None}
 use Rattle.zk_jute.specs.declared.fault.Reason.TheVariants.{NoMemory}
 use Rattle.zk_frames.specs.Framing.{IsBeginning}
-use Rattle.zk_talk.specs.declared.message.Fault.{Fault}
-use Rattle.zk_talk.specs.Streams.{StreamState}
+use Rattle.zk_talk.specs.{declared.message.Fault.Fault, Streams.StreamState}
 
 -- of a side with this limit: as long as no fault is kept it is at the beginning of a frame
 pub record IsSide (limit : ℕ) (fault : Option Fault) (side : StreamState) : Type 0 where

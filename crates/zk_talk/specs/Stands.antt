@@ -1,19 +1,9 @@
 -- Which history a talk has come through.
 use Rattle.std.specs.Prelude.{◌≡◌, ℕ, List, [], ◌∷◌, ◌++◌, length, Option, Some, None}
-use Rattle.zk_waiting.specs.declared.lane.Lane.{Lane}
-use Rattle.zk_waiting.specs.Waiting.{Lanes, queue_on, weight_of}
-use Rattle.zk_talk.specs.declared.message.Side.{Side}
+use Rattle.zk_waiting.specs.{declared.lane.Lane.Lane, Waiting.Lanes, Waiting.queue_on, Waiting.weight_of}
+use Rattle.zk_talk.specs.{declared.message.Side.Side, Held.Message, declared.message.Fault.Fault, declared.limits.Limits.Limits, History.History, History.side_bytes, Conversation.Conversation, Conversation.load, Good.Good, Good.IsOrder}
 use Rattle.zk_talk.specs.declared.message.Side.TheVariants.{Client, Server}
-use Rattle.zk_talk.specs.Held.{Message}
-use Rattle.zk_talk.specs.declared.message.Fault.{Fault}
-use Rattle.zk_talk.specs.declared.limits.Limits.{Limits}
-use Rattle.zk_talk.specs.History.{History, side_bytes}
-use Rattle.zk_talk.specs.Conversation.{Conversation, load}
-use Rattle.zk_talk.specs.Good.{Good, IsOrder}
-use Rattle.zk_talk.specs.Fault.{IsFaultOf, IsOfItems, rest_on}
-use Rattle.zk_talk.specs.Queues.{IsQueue}
-use Rattle.zk_talk.specs.Numbers.{AreNumbered, IsNewest}
-use Rattle.zk_talk.specs.declared.replied.Replied.{Replied}
+use Rattle.zk_talk.specs.{Fault.IsFaultOf, Fault.IsOfItems, Fault.rest_on, Queues.IsQueue, Numbers.AreNumbered, Numbers.IsNewest, declared.replied.Replied.Replied}
 
 -- what is known of a talk; `answered` is the request that the newest frame of the server that was kept answers
 pub record TalkState : Type 0 where

@@ -1,14 +1,9 @@
 -- What a talk does with a piece.
 use Rattle.std.specs.Prelude.{◌≡◌, ℕ, ◌≤◌, ◌<◌, ◌⊎◌, Bool, true, false, List, [], ◌∷◌, ◌++◌, length, take}
 use Rattle.zk_jute.specs.declared.fault.Reason.TheVariants.{NoMemory}
-use Rattle.zk_talk.specs.declared.message.Side.{Side}
+use Rattle.zk_talk.specs.{declared.message.Side.Side, Held.Message, declared.message.Fault.Fault, History.History, History.on, Fault.fault_of, Viewed.Shows}
 use Rattle.zk_talk.specs.declared.message.Side.TheVariants.{Client, Server}
-use Rattle.zk_talk.specs.Held.{Message}
-use Rattle.zk_talk.specs.declared.message.Fault.{Fault}
-use Rattle.zk_talk.specs.History.{History, on}
-use Rattle.zk_talk.specs.Fault.{fault_of}
 use Rattle.zk_talk.specs.Stands.{TalkState, Stands, Refuses, held_on, kept_on, frames_on, size_on}
-use Rattle.zk_talk.specs.Viewed.{Shows}
 
 -- these bytes of the piece were used, and these messages came
 abbrev pub GoesOn : TalkState → Side → List ℕ → List Message → TalkState → Type 0

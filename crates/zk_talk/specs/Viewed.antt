@@ -6,14 +6,9 @@ use Rattle.zk_asks.specs.Held.{ClientFrame}
 use Rattle.zk_asks.specs.Frames as asks
 use Rattle.zk_answers.specs.Held.{ServerFrame}
 use Rattle.zk_answers.specs.Frames as answers
-use Rattle.zk_talk.specs.declared.message.Side.{Side}
+use Rattle.zk_talk.specs.{declared.message.Side.Side, Held.Message, declared.replied.Replied.Replied, Payloads.client_payload, Payloads.server_payload, Stands.TalkState, Stands.kept_on, Streams.StreamState}
 use Rattle.zk_talk.specs.declared.message.Side.TheVariants.{Client, Server}
-use Rattle.zk_talk.specs.Held.{Message}
 use Rattle.zk_talk.specs.declared.message.MessageOf.TheVariants.{Client as FromClient, Server as FromServer}
-use Rattle.zk_talk.specs.declared.replied.Replied.{Replied}
-use Rattle.zk_talk.specs.Payloads.{client_payload, server_payload}
-use Rattle.zk_talk.specs.Stands.{TalkState, kept_on}
-use Rattle.zk_talk.specs.Streams.{StreamState}
 
 -- the frame, the last of `frames`, replies to this request; or, with none, it is the first, or an event
 abbrev pub IsShownAs : ℕ → Option Replied → ServerFrame → Type 0

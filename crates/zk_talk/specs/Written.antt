@@ -8,12 +8,9 @@ use Rattle.zk_answers.specs.Held.{ServerFrame}
 use Rattle.zk_answers.specs.declared.frame.ServerFrameOf.TheVariants as server
 use Rattle.zk_answers.specs.Frames as answers
 use Rattle.zk_waiting.specs.Waiting.{Lanes}
-use Rattle.zk_talk.specs.Held.{Message}
-use Rattle.zk_talk.specs.declared.limits.Limits.{Limits}
+use Rattle.zk_talk.specs.{Held.Message, declared.limits.Limits.Limits, declared.message.Kind.Kind, Said.SpeakerState, Said.Says, Said.MaySay, Said.SaysClient, Said.SaysServer, Said.payload_of}
 use Rattle.zk_talk.specs.declared.message.MessageOf.TheVariants as message
-use Rattle.zk_talk.specs.declared.message.Kind.{Kind}
 use Rattle.zk_talk.specs.declared.message.Kind.TheVariants.{Connect, Ask, Connected, Answered, Event}
-use Rattle.zk_talk.specs.Said.{SpeakerState, Says, MaySay, SaysClient, SaysServer, payload_of}
 
 abbrev pub kind_of : Message → Kind
 kind_of (message.Client (client.Connect hello read_only)) = Connect

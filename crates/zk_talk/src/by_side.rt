@@ -2,10 +2,7 @@
 ghost use Rattle.std.specs.Prelude.{false, true, ◌≡◌, ◌≢◌, [], ◌∷◌, length, None, Some, IsOk, IfOk, IfErr, OnErr, IfSome, IfNone, MatchOption};
 ghost use Rattle.std.specs.Option.{option_to_list};
 ghost use Rattle.zk_jute.specs.declared.fault.Reason.TheVariants.{NoMemory};
-ghost use Rattle.zk_talk.specs.Held.{Message};
-ghost use Rattle.zk_talk.specs.Stands.{held_on, kept_on};
-ghost use Rattle.zk_talk.specs.Viewed.{Leaves, other_side};
-ghost use Rattle.zk_talk.specs.Taking.{TakesOn, StepsOn, IsRefused, Fails};
+ghost use Rattle.zk_talk.specs.{Held.Message, Stands.held_on, Stands.kept_on, Viewed.Leaves, Viewed.other_side, Taking.TakesOn, Taking.StepsOn, Taking.IsRefused, Taking.Fails};
 
 use crate::frame::{client_frame, keep_client, keep_server, server_frame};
 use crate::judge::{await_ask, settle};

@@ -1,8 +1,6 @@
 //! What a talk holds, in numbers.
 ghost use Rattle.std.specs.Prelude.{◌≡◌, ◌≤◌, ◌+◌, length};
-ghost use Rattle.zk_talk.specs.Conversation.{number_waiting};
-ghost use Rattle.zk_talk.specs.Fault.{side_limit, rest_on};
-ghost use Rattle.zk_talk.specs.Stands.{held_on, WhereItStands, WhereItRefuses};
+ghost use Rattle.zk_talk.specs.{Conversation.number_waiting, Fault.side_limit, Fault.rest_on, Stands.held_on, Stands.WhereItStands, Stands.WhereItRefuses};
 
 use crate::message::Side;
 use crate::talk::Talk;

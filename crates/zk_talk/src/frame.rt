@@ -1,7 +1,6 @@
 //! What is done with a side's whole frame: it is judged, and then kept or passed.
 ghost use Rattle.std.specs.Prelude.{◌≡◌, ◌≢◌, ◌↔◌, drop, IfOk, IfErr, OnOk, OnErr, IsTrue};
-ghost use Rattle.zk_jute.specs.declared.fault.Reason.TheVariants.{NoMemory};
-ghost use Rattle.zk_jute.specs.Verdict.{Says};
+ghost use Rattle.zk_jute.specs.{declared.fault.Reason.TheVariants.NoMemory, Verdict.Says};
 ghost use Rattle.zk_asks.specs.Held as asks;
 ghost use Rattle.zk_answers.specs.Held as answers;
 ghost use Rattle.zk_talk.specs.Judged.{KeepsClient, KeepsServer, TellsClient, TellsServer, PassesClient, PassesServer, HasNextClient, HasNextServer};

@@ -1,9 +1,6 @@
 //! The law of fronts: the messages that have come stay, whatever comes after them.
 ghost use Rattle.std.specs.Prelude.{◌++◌};
-ghost use Rattle.zk_talk.specs.declared.limits.Limits.{Limits};
-ghost use Rattle.zk_talk.specs.History.{History};
-ghost use Rattle.zk_talk.specs.Good.{Ordered};
-ghost use Rattle.zk_talk.specs.Answer.{IsFront, StandFirst};
+ghost use Rattle.zk_talk.specs.{declared.limits.Limits.Limits, History.History, Good.Ordered, Answer.IsFront, Answer.StandFirst};
 
 /// The messages of a good front of a history are the first of the messages of the history. The function does nothing.
 pub fn front_comes_first()

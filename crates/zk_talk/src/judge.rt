@@ -1,9 +1,7 @@
 //! Whether a payload may come next, and what waits after it. There is one judge; its `Verdict` reports the fault, or
 //! nothing.
 ghost use Rattle.std.specs.Prelude.{◌≡◌, ◌≢◌, ◌<◌, ◌^◌, ◌↔◌, ℕ, List, length, IsOk, IfOk, IfErr, OnOk, OnErr, IsTrue, MatchBool, false, Some};
-ghost use Rattle.zk_jute.specs.declared.fault.Reason.TheVariants.{NoMemory};
-ghost use Rattle.zk_jute.specs.Told.{IsSurelyTold};
-ghost use Rattle.zk_jute.specs.Verdict.{Says};
+ghost use Rattle.zk_jute.specs.{declared.fault.Reason.TheVariants.NoMemory, Told.IsSurelyTold, Verdict.Says};
 ghost use Rattle.zk_records.specs.declared.op.Op.TheVariants as ops;
 ghost use Rattle.zk_asks.specs.Codes.{event_xid};
 ghost use Rattle.zk_waiting.specs.Lane.{lane_of};
@@ -12,10 +10,9 @@ ghost use Rattle.zk_asks.specs.Frames.{IsFirst, MaySend};
 ghost use Rattle.zk_answers.specs.Faults.{IsHead, IsEventFault};
 ghost use Rattle.zk_answers.specs.Held as answered;
 ghost use Rattle.zk_answers.specs.Frames as answers;
-ghost use Rattle.zk_talk.specs.Payloads.{client_payload};
+ghost use Rattle.zk_talk.specs.{Payloads.client_payload, SaidPayload.HearsFault};
 ghost use Rattle.zk_talk.specs.Settled.{IsAsking, IsComing, IsAwaited, IsDueReply, IsHeard, IsSettled, Answers, replied_of};
 ghost use Rattle.zk_talk.specs.Judged.{TellsLater, TellsClient, TellsServer, IsTurnFault, IsPutRefusal, HasRoomFor, IsNumbered, IsRemembered, HasAsk, IsForgotten};
-ghost use Rattle.zk_talk.specs.SaidPayload.{HearsFault};
 
 use crate::replied::Replied;
 use std::alloc::Global;

@@ -1,11 +1,7 @@
 //! The laws of histories: a history is good or has a fault, and one alone, whatever is read of it.
 ghost use Rattle.std.specs.Prelude.{◌≡◌, ◌<◌, ◌⊎◌, ◌++◌};
 ghost use Rattle.std.specs.List.{AllByRecursion};
-ghost use Rattle.zk_talk.specs.declared.limits.Limits.{Limits};
-ghost use Rattle.zk_talk.specs.declared.message.Fault.{Fault};
-ghost use Rattle.zk_talk.specs.History.{History};
-ghost use Rattle.zk_talk.specs.Good.{IsGood, Spelt, AreSpeltAlike, HasOneOrder};
-ghost use Rattle.zk_talk.specs.Fault.{IsFaultOf};
+ghost use Rattle.zk_talk.specs.{declared.limits.Limits.Limits, declared.message.Fault.Fault, History.History, Good.IsGood, Good.Spelt, Good.AreSpeltAlike, Good.HasOneOrder, Fault.IsFaultOf};
 
 /// A history of bytes is good or has a fault, and never both; it has one conversation, one order of its messages and
 /// one fault at most. The function does nothing.

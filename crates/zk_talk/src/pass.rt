@@ -1,10 +1,7 @@
 //! `Talk::pass`: a step after which no frame is kept.
 ghost use Rattle.std.specs.Prelude.{false, ◌≡◌, ◌≢◌, [], length, None, Some, Err, IfOk, IfErr};
 ghost use Rattle.zk_jute.specs.declared.fault.Reason.TheVariants.{NoMemory};
-ghost use Rattle.zk_talk.specs.declared.message.Fault.{Fault};
-ghost use Rattle.zk_talk.specs.Stands.{kept_on};
-ghost use Rattle.zk_talk.specs.Viewed.{Leaves, other_side};
-ghost use Rattle.zk_talk.specs.Taking.{PassesOn, IsRefused, given_up};
+ghost use Rattle.zk_talk.specs.{declared.message.Fault.Fault, Stands.kept_on, Viewed.Leaves, Viewed.other_side, Taking.PassesOn, Taking.IsRefused, Taking.given_up};
 
 use crate::message::{Fault, Side};
 use crate::talk::{Stepped, Talk};

@@ -1,9 +1,7 @@
 //! `say_client_payload`, `say_server_payload`, `PayloadFault`: whether one payload more may be said, and its frame.
 ghost use Rattle.std.specs.Prelude.{◌≡◌, ◌<◌, ◌^◌, ◌++◌, ◌⊎◌, length, OnOk, OnErr, IfErr};
 ghost use Rattle.zk_frames.specs.Framing.{frame};
-ghost use Rattle.zk_talk.specs.declared.limits.Limits.{Limits};
-ghost use Rattle.zk_talk.specs.declared.say.SayFault.TheVariants.{NoMemory};
-ghost use Rattle.zk_talk.specs.declared.payload.PayloadFault.TheVariants.{Say};
+ghost use Rattle.zk_talk.specs.{declared.limits.Limits.Limits, declared.say.SayFault.TheVariants.NoMemory, declared.payload.PayloadFault.TheVariants.Say};
 ghost use Rattle.zk_talk.specs.SaidPayload.{SaysClientPayload, StandsClientPayload, RefusesClientPayload, SaysServerPayload, StandsServerPayload, RefusesServerPayload};
 
 use crate::judge::{forget_asked, has_room, judge_client, judge_server, put_asked};

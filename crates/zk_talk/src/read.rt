@@ -2,11 +2,7 @@
 ghost use Rattle.std.specs.Prelude.{◌≡◌, ◌≤◌, ◌++◌, ◌↔◌, length, drop, IsTrue, IfOk, OnOk};
 ghost use Rattle.std.specs.Option.{option_to_list};
 ghost use Rattle.zk_jute.specs.declared.fault.Reason.TheVariants.{NoMemory};
-ghost use Rattle.zk_talk.specs.declared.message.Ending.TheVariants.{Refused};
-ghost use Rattle.zk_talk.specs.declared.message.Fault.{Fault};
-ghost use Rattle.zk_talk.specs.Held.{Message};
-ghost use Rattle.zk_talk.specs.Fault.{IsFaultOf};
-ghost use Rattle.zk_talk.specs.Ending.{IsEnding};
+ghost use Rattle.zk_talk.specs.{declared.message.Ending.TheVariants.Refused, declared.message.Fault.Fault, Held.Message, Fault.IsFaultOf, Ending.IsEnding};
 ghost use Rattle.zk_talk.specs.Answer.{history_of, AreMessages, EndsWhole, IsOnlyOrder, TakesAll};
 
 use crate::limits::Limits;

@@ -2,9 +2,7 @@
 ghost use Rattle.std.specs.Prelude.{◌≡◌, ◌≢◌, ◌<◌, ◌+◌, ◌^◌, [], Some};
 ghost use Rattle.zk_jute.specs.declared.fault.Reason.TheVariants.{NoMemory};
 ghost use Rattle.zk_frames.specs.Framing.{IsBeginning};
-ghost use Rattle.zk_talk.specs.Fault.{fault_of};
-ghost use Rattle.zk_talk.specs.Sound.{IsKnown};
-ghost use Rattle.zk_talk.specs.Receiving.{IsReceived};
+ghost use Rattle.zk_talk.specs.{Fault.fault_of, Sound.IsKnown, Receiving.IsReceived};
 
 use crate::frame::is_no_memory;
 use crate::message::{Fault, Side};

@@ -4,9 +4,7 @@ ghost use Rattle.zk_records.specs.declared.op.Op.TheVariants as ops;
 ghost use Rattle.zk_answers.specs.declared.layout.Layout.TheVariants as layouts;
 ghost use Rattle.zk_frames.specs.Framing.{frame};
 ghost use Rattle.zk_talk.specs.declared.message.Side.TheVariants.{Client, Server};
-ghost use Rattle.zk_talk.specs.Conversation.{Conversation};
-ghost use Rattle.zk_talk.specs.Describes.{Describes};
-ghost use Rattle.zk_talk.specs.Fault.{of_items};
+ghost use Rattle.zk_talk.specs.{Conversation.Conversation, Describes.Describes, Fault.of_items};
 ghost use Rattle.zk_talk.specs.Refused.{IsBodyOf, IsInBody, AnswersNone, AnswersOp, header_size};
 
 use crate::message::{Fault, Side};

@@ -1,14 +1,7 @@
 //! The laws of saying: which messages may be said, and that what was said is read again.
 ghost use Rattle.std.specs.Prelude.{◌≡◌, List, []};
-ghost use Rattle.zk_talk.specs.declared.limits.Limits.{Limits};
-ghost use Rattle.zk_talk.specs.declared.say.SayFault.{SayFault};
-ghost use Rattle.zk_talk.specs.Held.{Message};
-ghost use Rattle.zk_talk.specs.declared.message.Ending.TheVariants.{Whole};
-ghost use Rattle.zk_talk.specs.History.{History, HaveSameBytes};
-ghost use Rattle.zk_talk.specs.Conversation.{Conversation};
-ghost use Rattle.zk_talk.specs.Good.{Good, AreWholly};
-ghost use Rattle.zk_talk.specs.Ending.{unanswered};
-ghost use Rattle.zk_talk.specs.Answer.{IsReadAs};
+ghost use Rattle.zk_talk.specs.{declared.limits.Limits.Limits, declared.say.SayFault.SayFault, Held.Message, declared.message.Ending.TheVariants.Whole, History.History, History.HaveSameBytes, Conversation.Conversation};
+ghost use Rattle.zk_talk.specs.{Good.Good, Good.AreWholly, Ending.unanswered, Answer.IsReadAs};
 ghost use Rattle.zk_talk.specs.Said.{AreSaid, AreSized, AreFrames, MaySay, IsSayFault, said, conversation_of};
 
 /// At most one case of `SayFault` holds of any message, and none of a message that may be said. The function does nothing.

@@ -5,10 +5,7 @@ ghost use Rattle.zk_records.specs.Codes.{HasOp};
 ghost use Rattle.zk_asks.specs.Frames as asks;
 ghost use Rattle.zk_answers.specs.Frames as answers;
 ghost use Rattle.zk_frames.specs.Framing.{frame};
-ghost use Rattle.zk_talk.specs.declared.limits.Limits.{Limits};
-ghost use Rattle.zk_talk.specs.declared.say.SayFault.TheVariants.{NoMemory};
-ghost use Rattle.zk_talk.specs.Payloads.{client_payload, server_payload};
-ghost use Rattle.zk_talk.specs.Judged.{IsRemembered};
+ghost use Rattle.zk_talk.specs.{declared.limits.Limits.Limits, declared.say.SayFault.TheVariants.NoMemory, Payloads.client_payload, Payloads.server_payload, Judged.IsRemembered};
 ghost use Rattle.zk_talk.specs.SayNames as names;
 ghost use Rattle.zk_talk.specs.Said.{MayAsk, IsUnwritten, IsUnput, FitsNext, IsUnfit, MayAnswer, CannotAnswer, SaysClient, StandsClient, RefusesClient, SaysServer, StandsServer, RefusesServer};
 

@@ -1,13 +1,9 @@
 //! `Speaker`: messages to bytes, as long as they are a conversation.
 ghost use Rattle.std.specs.Prelude.{◌≡◌, ◌≢◌, ◌+◌, ◌≤◌, ◌++◌, ◌⊎◌, ◌∷◌, [], List, length, take, drop, false, IsTrue, OnOk, OnErr, IfOk, IfErr};
 ghost use Rattle.zk_frames.specs.Framing.{frame};
-ghost use Rattle.zk_talk.specs.Held.{Message};
-ghost use Rattle.zk_talk.specs.declared.say.SayFault.TheVariants.{NoMemory};
-ghost use Rattle.zk_talk.specs.Ending.{unanswered};
-ghost use Rattle.zk_talk.specs.declared.payload.PayloadFault.TheVariants.{Say};
-ghost use Rattle.zk_talk.specs.Said.{Says, MaySay, MayStand, IsSayFault, payload_of, conversation_of};
+ghost use Rattle.zk_talk.specs.{Held.Message, declared.say.SayFault.TheVariants.NoMemory, Ending.unanswered, declared.payload.PayloadFault.TheVariants.Say};
+ghost use Rattle.zk_talk.specs.{Said.Says, Said.MaySay, Said.MayStand, Said.IsSayFault, Said.payload_of, Said.conversation_of, Written.SaysWritten};
 ghost use Rattle.zk_talk.specs.SaidPayload.{SaysPayload, RefusesPayload, StandsPayload, CannotSay};
-ghost use Rattle.zk_talk.specs.Written.{SaysWritten};
 
 use crate::limits::Limits;
 use crate::message::{Kind, Message, Side};

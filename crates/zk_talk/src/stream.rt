@@ -1,8 +1,7 @@
 //! `Stream`: one side's bytes, and what a piece does to its frame.
 ghost use Rattle.std.specs.Prelude.{◌≡◌, ◌≤◌, ◌<◌, ◌+◌, ◌^◌, ℕ, [], length, take, IfOk, IfSome, IfNone, MatchOption};
 ghost use Rattle.zk_frames.specs.Framing.{frame, IsBeginning, IsFrame};
-ghost use Rattle.zk_talk.specs.Advance.{IsAdvance};
-ghost use Rattle.zk_talk.specs.Streams.{IsAtFrame, TakenBack, passed, kept_now};
+ghost use Rattle.zk_talk.specs.{Advance.IsAdvance, Streams.IsAtFrame, Streams.TakenBack, Streams.passed, Streams.kept_now};
 ghost use Rattle.zk_talk.specs.declared.stream.Advance.TheVariants.{Within, Whole};
 
 use std::alloc::{AllocError, Global};

@@ -3,21 +3,12 @@ ghost use Rattle.std.specs.Prelude.{false, true, ◌≡◌, ◌≢◌, ◌≤◌
 ghost use Rattle.std.specs.Option.{option_to_list};
 ghost use Rattle.zk_jute.specs.declared.fault.Reason.TheVariants.{NoMemory};
 ghost use Rattle.zk_frames.specs.Framing.{frame};
-ghost use Rattle.zk_talk.specs.declared.message.Fault.{Fault};
-ghost use Rattle.zk_talk.specs.Held.{Message};
-ghost use Rattle.zk_talk.specs.declared.message.Ending.TheVariants.{Refused};
-ghost use Rattle.zk_talk.specs.History.{History};
-ghost use Rattle.zk_talk.specs.Conversation.{load};
-ghost use Rattle.zk_talk.specs.Fault.{side_limit, rest_on};
-ghost use Rattle.zk_talk.specs.Ending.{IsEnding};
-ghost use Rattle.zk_talk.specs.Numbers.{NewestAnswers};
-ghost use Rattle.zk_talk.specs.declared.message.Side.TheVariants.{Server};
+ghost use Rattle.zk_talk.specs.{declared.message.Fault.Fault, Held.Message, declared.message.Ending.TheVariants.Refused, History.History, Conversation.load, Fault.side_limit, Fault.rest_on, Ending.IsEnding, Numbers.NewestAnswers};
+ghost use Rattle.zk_talk.specs.{declared.message.Side.TheVariants.Server, Refused.TellsRefusedBody};
 ghost use Rattle.zk_talk.specs.Stands.{held_on, kept_on, frames_on, Stands, Refuses, WhereItStands, WhereItRefuses, WhereKept};
-ghost use Rattle.zk_talk.specs.Refused.{TellsRefusedBody};
 ghost use Rattle.zk_records.specs.declared.op.Op.TheVariants as ops;
 ghost use Rattle.zk_answers.specs.declared.layout.Layout.TheVariants as layouts;
-ghost use Rattle.zk_talk.specs.Viewed.{Shows, Leaves, other_side};
-ghost use Rattle.zk_talk.specs.Taking.{TakesOn, StepsOn, IsRefused, Fails, given_up};
+ghost use Rattle.zk_talk.specs.{Viewed.Shows, Viewed.Leaves, Viewed.other_side, Taking.TakesOn, Taking.StepsOn, Taking.IsRefused, Taking.Fails, Taking.given_up};
 
 use crate::limits::Limits;
 use crate::message::{Ending, Fault, Message, MessageOf, MessageRef, Side};

@@ -4,9 +4,7 @@ ghost use Rattle.zk_frames.specs.Framing.{frame};
 ghost use Rattle.zk_answers.specs.Held.{ServerFrame};
 ghost use Rattle.zk_waiting.specs.Waiting.{Lanes};
 ghost use Rattle.zk_talk.specs.declared.message.Kind.TheVariants.{Connect, Ask};
-ghost use Rattle.zk_talk.specs.declared.message.MessageOf.TheVariants.{Server};
-ghost use Rattle.zk_talk.specs.Settled.{IsTurn, Answers};
-ghost use Rattle.zk_talk.specs.Written.{SaysClientWritten, SaysServerWritten, kind_of};
+ghost use Rattle.zk_talk.specs.{declared.message.MessageOf.TheVariants.Server, Settled.IsTurn, Settled.Answers, Written.SaysClientWritten, Written.SaysServerWritten, Written.kind_of};
 
 use crate::judge::{await_ask, forget_asked, judge_server};
 use crate::limits::Limits;

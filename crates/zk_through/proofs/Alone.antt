@@ -3,8 +3,7 @@ use Rattle.std.proofs.Common.{◌≡◌, inl, inr, ℕ, List, [], ◌∷◌, ◌
 use Rattle.std.proofs.lemmas.List.{append-nil}
 use Rattle.zk_records.specs.declared.profile.Profile.{Profile}
 use Rattle.zk_talk.specs.declared.message.Side.{Side}
-use Rattle.zk_through.specs.Came.{Came}
-use Rattle.zk_through.specs.LeftOut.{IsLeftOut, KeptAfter}
+use Rattle.zk_through.specs.{Came.Came, LeftOut.IsLeftOut, LeftOut.KeptAfter}
 
 module _ (profile : Profile) where
   pub one_kept : (before came a b : Came) → KeptAfter profile before came a → KeptAfter profile before came b → a ≡ b

@@ -1,12 +1,9 @@
 -- A server's payload has no fault of its own that too much waits.
 use Rattle.std.proofs.Common.{◌≢◌, ℕ, List}
-use Rattle.zk_jute.specs.declared.fault.Reason.{Reason}
-use Rattle.zk_jute.specs.declared.fault.Reason.TheVariants.{QueueFull}
-use Rattle.zk_records.specs.declared.op.Op.{Op}
-use Rattle.zk_records.specs.declared.op.PartOp.{PartOp}
+use Rattle.zk_jute.specs.{declared.fault.Reason.Reason, declared.fault.Reason.TheVariants.QueueFull}
+use Rattle.zk_records.specs.{declared.op.Op.Op, declared.op.PartOp.PartOp, Records.watcher_event}
 use Rattle.zk_answers.specs.Results.{IsDoneFault, in_mark, bad_mark, in_result, in_error, other_error, behind_result, behind_error}
 use Rattle.zk_answers.specs.Faults.{Shape, Fields, Results, IsShapeFault, IsRestFault, in_shape, past_shape, IsReplyFault, in_head, in_rest, IsEventFault, in_header, bad_err, in_event}
-use Rattle.zk_records.specs.Records.{watcher_event}
 use Rattle.zk_through.proofs.AskReasons.{of_items}
 
 of_done : {ops : List PartOp} {bytes : List ℕ} {place : ℕ} {r : Reason} → IsDoneFault ops bytes place r → r ≢ QueueFull

@@ -5,25 +5,15 @@ use Rattle.std.proofs.lemmas.List.{append-nil, length-take-le}
 use Rattle.zk_frames.specs.Framing.{frame}
 use Rattle.zk_records.specs.declared.profile.Profile.{Profile}
 use Rattle.zk_waiting.specs.Lane.{lane_of}
-use Rattle.zk_talk.specs.declared.message.Side.TheVariants.{Client}
-use Rattle.zk_talk.specs.declared.message.Fault.{Fault}
-use Rattle.zk_talk.specs.Conversation.{load, with_client}
-use Rattle.zk_talk.specs.Fault.{fault_of}
-use Rattle.zk_talk.specs.Stands.{TalkState, WhereItStands}
-use Rattle.zk_talk.specs.Streams.{StreamState, TakenBack, passed, kept_now}
-use Rattle.zk_through.specs.declared.turn.Turn.{Turn}
+use Rattle.zk_talk.specs.{declared.message.Side.TheVariants.Client, declared.message.Fault.Fault, Conversation.load, Conversation.with_client, Fault.fault_of, Stands.TalkState, Stands.WhereItStands}
+use Rattle.zk_talk.specs.{Streams.StreamState, Streams.TakenBack, Streams.passed, Streams.kept_now, History.on}
+use Rattle.zk_through.specs.{declared.turn.Turn.Turn, Came.payloads, Came.told}
 use Rattle.zk_through.specs.declared.through.Went.TheVariants as went
-use Rattle.zk_talk.specs.History.{on}
 use Rattle.zk_talk.proofs.Headline.{fault_is_bad}
-use Rattle.zk_through.specs.Came.{payloads, told}
 use Rattle.zk_through.specs.Turns.{TurnsState, IsLacked, turn_of, left_out, with_waits, and_turn, after_request, after_left}
 use Rattle.zk_through.specs.Runs.{ThroughState, Runs, WentOn, IsRefused, IsTold, IsNotTold, GoesOnTold, IsAhead, TellsRequest, IsKeptAt, IsRequestOf, WeighsAtMost, IsWeighed, Weighs}
-use Rattle.zk_through.proofs.Lanes.{left_stays}
-use Rattle.zk_through.proofs.Steps.{nothing_more, WholeCame, FrameCame, has_come, went_told}
-use Rattle.zk_through.proofs.Outcomes.{counted, client_other, client_asks, client_lacks}
-use Rattle.zk_through.proofs.Seen.{client_counts}
-use Rattle.zk_through.proofs.Refusals.{refused_told}
-use Rattle.zk_through.proofs.Fitting.{some_weight, its_good, talk_takes}
+use Rattle.zk_through.proofs.{Lanes.left_stays, Steps.nothing_more, Steps.WholeCame, Steps.FrameCame, Steps.has_come, Steps.went_told, Outcomes.counted, Outcomes.client_other, Outcomes.client_asks, Outcomes.client_lacks, Seen.client_counts}
+use Rattle.zk_through.proofs.{Refusals.refused_told, Fitting.some_weight, Fitting.its_good, Fitting.talk_takes}
 
 -- the request that is left out is ahead
 pub out_ahead : (s : StreamState) (profile held : Profile) → profile ≡ held → (ahead out : Option Turn) → TellsRequest s ahead → IfSome out (λ turn. (ahead ≡ Some turn) × IsLacked profile turn) →

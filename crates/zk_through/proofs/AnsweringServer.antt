@@ -4,28 +4,14 @@ use Rattle.std.specs.Prelude.{Ok}
 use Rattle.zk_jute.specs.declared.fault.Reason.{Reason}
 use Rattle.zk_frames.specs.Framing.{frame}
 use Rattle.zk_waiting.specs.Lane.{lane_of}
-use Rattle.zk_talk.specs.declared.message.Side.TheVariants.{Server}
-use Rattle.zk_talk.specs.declared.message.Fault.{Fault}
-use Rattle.zk_talk.specs.Held.{Message}
-use Rattle.zk_talk.specs.History.{History}
-use Rattle.zk_talk.specs.Fault.{fault_of}
-use Rattle.zk_talk.specs.Stands.{TalkState}
-use Rattle.zk_talk.specs.Streams.{StreamState, passed, kept_now}
-use Rattle.zk_through.specs.declared.turn.Turn.{Turn}
+use Rattle.zk_talk.specs.{declared.message.Side.TheVariants.Server, declared.message.Fault.Fault, Held.Message, History.History, Fault.fault_of, Stands.TalkState, Streams.StreamState, Streams.passed, Streams.kept_now}
+use Rattle.zk_through.specs.{declared.turn.Turn.Turn, LeftOut.xid_of, declared.turns.Due.Due, Came.Came, Unseen.IsSeen}
 use Rattle.zk_through.specs.declared.through.Went.TheVariants as went
-use Rattle.zk_through.specs.LeftOut.{xid_of}
-use Rattle.zk_through.specs.declared.turns.Due.{Due}
 use Rattle.zk_through.specs.declared.turns.Due.TheVariants as dues
-use Rattle.zk_through.specs.Came.{Came}
-use Rattle.zk_through.specs.Unseen.{IsSeen}
 use Rattle.zk_through.specs.Turns.{TurnsState, IsEarlier, matched_on, matched_after, Judges, IsDue, IsLacked, IsBadTurn, TellsFrame, with_waits, after_reply, after_answer, left_out}
 use Rattle.zk_through.specs.Runs.{ThroughState, WentOn, IsRefused, IsTold, IsNotTold, GoesOnTold, IsAhead, IsNotAhead, TellsReply, IsHeader, IsKeptAt, Runs}
-use Rattle.zk_through.proofs.Steps.{WholeCame, FrameCame, has_come, went_told}
-use Rattle.zk_through.proofs.Lanes.{left_stays}
-use Rattle.zk_through.proofs.Seen.{some_counts}
-use Rattle.zk_through.proofs.Earlier.{seen_other, seen_reply}
-use Rattle.zk_through.proofs.Outcomes.{server_other, server_answers, server_lacks, server_unseen}
-use Rattle.zk_through.proofs.Refusals.{refused_told, refused_bad}
+use Rattle.zk_through.proofs.{Steps.WholeCame, Steps.FrameCame, Steps.has_come, Steps.went_told, Lanes.left_stays, Seen.some_counts, Earlier.seen_other, Earlier.seen_reply}
+use Rattle.zk_through.proofs.{Outcomes.server_other, Outcomes.server_answers, Outcomes.server_lacks, Outcomes.server_unseen, Refusals.refused_told, Refusals.refused_bad}
 
 module _ (old : ThroughState) (piece : List ℕ) (used : ℕ) (s : StreamState) (w : WholeCame Server old piece used s) where
   -- the talk took the frame

@@ -1,11 +1,7 @@
 -- A client's payload has no fault of its own that too much waits.
 use Rattle.std.proofs.Common.{◌≢◌, ℕ, List}
-use Rattle.zk_jute.specs.declared.fault.Reason.{Reason}
-use Rattle.zk_jute.specs.declared.fault.Reason.TheVariants.{QueueFull}
-use Rattle.zk_jute.specs.Item.{Kind, Item}
-use Rattle.zk_jute.specs.Layout.{Layout}
+use Rattle.zk_jute.specs.{declared.fault.Reason.Reason, declared.fault.Reason.TheVariants.QueueFull, Item.Kind, Item.Item, Layout.Layout, Flagged.IsFlaggedFault, Flagged.in_value, Flagged.in_flag, Flagged.behind_flag}
 use Rattle.zk_jute.specs.Faults.{IsFault, IsBad, too_short, no_boolean, bad_length, no_content, bad_text}
-use Rattle.zk_jute.specs.Flagged.{IsFlaggedFault, in_value, in_flag, behind_flag}
 use Rattle.zk_records.specs.declared.profile.Profile.{Profile}
 use Rattle.zk_asks.specs.Rows.{Body, Fields, Parts, body_of}
 use Rattle.zk_asks.specs.Faults.{IsMultiFault, in_mark, bad_mark, in_part, behind_part, IsFaultOf, IsAskFault, in_header, unknown_op, bad_xid, in_body, behind_body}

@@ -4,10 +4,7 @@ use Rattle.std.specs.Option.{IfSome, IfNone}
 use Rattle.zk_frames.specs.Framing.{frame}
 use Rattle.zk_talk.specs.Streams.{StreamState}
 use Rattle.zk_talk.proofs.Bodies.{frame_once}
-use Rattle.zk_through.specs.declared.turn.Turn.{Turn}
-use Rattle.zk_through.specs.LeftOut.{has_turn, xid_of}
-use Rattle.zk_through.specs.Turns.{turn_of}
-use Rattle.zk_through.specs.Runs.{TellsRequest, TellsReply}
+use Rattle.zk_through.specs.{declared.turn.Turn.Turn, LeftOut.has_turn, LeftOut.xid_of, Turns.turn_of, Runs.TellsRequest, Runs.TellsReply}
 
 pub if_none : {X P : Type 0} (r : Option X) → P → IfNone r P
 if_none None p = p

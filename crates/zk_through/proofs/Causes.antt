@@ -1,32 +1,18 @@
 -- Where the talk refuses a frame because too much waits, the frame is a request of the profile.
 use Rattle.std.proofs.Common.{◌≡◌, ◌≢◌, ℕ, ◌+◌, ◌<◌, ◌≤◌, ◌^◌, ◌⊎◌, inl, inr, List, [], ◌∷◌, ◌++◌, length, drop, refl, sym, ap, ◌∙◌, subst, arith, append_assoc}
 use Rattle.std.proofs.lemmas.List.{append-nil}
-use Rattle.zk_jute.specs.declared.fault.Reason.{Reason}
-use Rattle.zk_jute.specs.declared.fault.Reason.TheVariants.{QueueFull}
+use Rattle.zk_jute.specs.{declared.fault.Reason.Reason, declared.fault.Reason.TheVariants.QueueFull}
 use Rattle.zk_frames.specs.Framing.{frame}
 use Rattle.zk_frames.proofs.Cuts.{same_frame}
-use Rattle.zk_talk.specs.declared.message.Side.{Side}
+use Rattle.zk_talk.specs.{declared.message.Side.Side, declared.message.Fault.Fault, declared.limits.Limits.Limits, Conversation.Conversation, Conversation.weight, Good.Good, Good.IsGood, Held.Message}
 use Rattle.zk_talk.specs.declared.message.Side.TheVariants.{Client, Server}
-use Rattle.zk_talk.specs.declared.message.Fault.{Fault}
-use Rattle.zk_talk.specs.declared.limits.Limits.{Limits}
-use Rattle.zk_talk.specs.Conversation.{Conversation, weight}
-use Rattle.zk_talk.specs.Good.{Good, IsGood}
-use Rattle.zk_talk.specs.Held.{Message}
-use Rattle.zk_talk.specs.History.{History, side_bytes, on}
-use Rattle.zk_talk.specs.Fault.{IsFaultOf, IsCause, IsClientFault, IsServerFault, rest_on}
+use Rattle.zk_talk.specs.{History.History, History.side_bytes, History.on, Fault.IsFaultOf, Fault.IsCause, Fault.IsClientFault, Fault.IsServerFault, Fault.rest_on}
 use Rattle.zk_talk.specs.Fault.IsCause.{stream_end, length_range, payload_fault}
 use Rattle.zk_talk.specs.Fault.IsClientFault.{connect_fault, ask_fault, queue_full}
 use Rattle.zk_talk.specs.Fault.IsServerFault.{no_connect, connected_fault, head_fault, event_fault, unasked, wrong_xid, reply_fault}
-use Rattle.zk_talk.proofs.GoodFronts.{good_front}
-use Rattle.zk_talk.proofs.Headline.{same_good}
-use Rattle.zk_talk.proofs.Small.{small_limits}
-use Rattle.zk_talk.proofs.Standing.{runs_client, frame_front, bytes-on}
-use Rattle.zk_through.specs.Came.{Came, told}
-use Rattle.zk_through.specs.Runs.{ThroughState, Runs, IsRequestOf, IsNoRequest}
-use Rattle.zk_through.proofs.AskReasons.{of_items, of_flagged, of_ask}
-use Rattle.zk_through.proofs.AnswerReasons.{of_reply, of_event}
-use Rattle.zk_through.proofs.Fitting.{its_good, begins}
-use Rattle.zk_through.proofs.Seen.{client_counts}
+use Rattle.zk_talk.proofs.{GoodFronts.good_front, Headline.same_good, Small.small_limits, Standing.runs_client, Standing.frame_front, Standing.bytes-on}
+use Rattle.zk_through.specs.{Came.Came, Came.told, Runs.ThroughState, Runs.Runs, Runs.IsRequestOf, Runs.IsNoRequest}
+use Rattle.zk_through.proofs.{AskReasons.of_items, AskReasons.of_flagged, AskReasons.of_ask, AnswerReasons.of_reply, AnswerReasons.of_event, Fitting.its_good, Fitting.begins, Seen.client_counts}
 
 -- ---- Where the fault's byte is
 heads : {X : Type 0} (x y : X) (xs ys : List X) → x ∷ xs ≡ y ∷ ys → x ≡ y

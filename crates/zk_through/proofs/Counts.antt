@@ -2,31 +2,20 @@
 use Rattle.std.proofs.Common.{◌≡◌, ◌≢◌, ℕ, ◌+◌, ◌-◌, ◌≤◌, ℤ, List, [], ◌∷◌, ◌++◌, length, filter, refl, ap, ◌∙◌, arith, append_assoc, length-append, Bool, true, false, cond}
 use Rattle.std.specs.Prelude.{negsuc, if◌then◌else◌}
 use Rattle.std.specs.Ordering.{int_eq}
-use Rattle.std.proofs.lemmas.Bool.{le-leb}
-use Rattle.std.proofs.lemmas.Bool.Decides.{Decides-int_eq}
-use Rattle.std.proofs.lemmas.List.{length-drop}
-use Rattle.std.proofs.lemmas.List.Elements.{filter-append}
-use Rattle.std.proofs.lemmas.List.Sums.{sum_by-cons}
+use Rattle.std.proofs.{lemmas.Bool.le-leb, lemmas.Bool.Decides.Decides-int_eq, lemmas.List.length-drop, lemmas.List.Elements.filter-append, lemmas.List.Sums.sum_by-cons}
 use Rattle.zk_jute.specs.Item.{int_bytes, long_bytes}
 use Rattle.zk_jute.proofs.Runs.{first_from}
-use Rattle.zk_asks.specs.Held.{ClientFrame}
+use Rattle.zk_asks.specs.{Held.ClientFrame, Frames.IsLater}
 use Rattle.zk_asks.specs.declared.frame.ClientFrameOf.TheVariants.{Connect, Ask}
-use Rattle.zk_asks.specs.Frames.{IsLater}
 use Rattle.zk_answers.specs.Held.{Reply, ServerFrame}
 use Rattle.zk_answers.specs.declared.frame.ServerFrameOf.TheVariants.{Connected, Answered, Event}
 use Rattle.zk_answers.specs.Frames as answers
-use Rattle.zk_waiting.specs.declared.lane.Lane.{Lane}
+use Rattle.zk_waiting.specs.{declared.lane.Lane.Lane, Lane.lane_of, Lane.same_lane}
 use Rattle.zk_waiting.specs.declared.lane.Lane.TheVariants.{Ping, Auth, Watches, Plain}
-use Rattle.zk_waiting.specs.Lane.{lane_of, same_lane}
 use Rattle.zk_waiting.specs.Waiting.{Request, Lanes, queue_on, request_weight, queue_weight, weight_of, count_of}
-use Rattle.zk_talk.specs.Splits.{EachAfter}
+use Rattle.zk_talk.specs.{Splits.EachAfter, Payloads.server_payload, Queues.IsQueue}
 use Rattle.zk_talk.specs.Conversation.{Conversation, ServerMay, is_ask_on, is_reply_on, asks_on, replies_on}
-use Rattle.zk_talk.specs.Payloads.{server_payload}
-use Rattle.zk_talk.specs.Queues.{IsQueue}
-use Rattle.zk_talk.proofs.Loads.{replies_in_asks}
-use Rattle.zk_talk.proofs.Payloads.{reply_head_is}
-use Rattle.zk_talk.proofs.Queues.{requests-length}
-use Rattle.zk_talk.proofs.Turns.{count_cons}
+use Rattle.zk_talk.proofs.{Loads.replies_in_asks, Payloads.reply_head_is, Queues.requests-length, Turns.count_cons}
 use Rattle.zk_through.specs.LeftOut.{xid_of, is_turn_xid, has_turn}
 
 -- ---- A reply's header

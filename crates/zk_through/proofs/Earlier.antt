@@ -1,20 +1,15 @@
 -- Whether a reply is to a request that wasn't seen, by what waits.
 use Rattle.std.proofs.Common.{◌≡◌, ◌≢◌, ℕ, ◌≤◌, ℤ, List, [], ◌∷◌, ◌++◌, length, map, drop, refl, sym, ap, ◌∙◌, subst, arith, Bool, true, false, Some, None}
 use Rattle.std.specs.Prelude.{slice_get, ◌||◌}
-use Rattle.std.specs.List.{list_any}
-use Rattle.std.specs.Ordering.{int_eq}
-use Rattle.std.proofs.lemmas.Bool.{false≢true}
-use Rattle.std.proofs.lemmas.List.{nil_from_length}
+use Rattle.std.specs.{List.list_any, Ordering.int_eq}
+use Rattle.std.proofs.{lemmas.Bool.false≢true, lemmas.List.nil_from_length}
 use Rattle.zk_records.specs.declared.profile.Profile.{Profile}
-use Rattle.zk_waiting.specs.declared.lane.Lane.{Lane}
+use Rattle.zk_waiting.specs.{declared.lane.Lane.Lane, Lane.lane_of, Lane.same_lane}
 use Rattle.zk_waiting.specs.declared.lane.Lane.TheVariants.{Ping, Auth, Watches, Plain}
-use Rattle.zk_waiting.specs.Lane.{lane_of, same_lane}
 use Rattle.zk_talk.specs.declared.message.Side.TheVariants.{Client, Server}
-use Rattle.zk_through.specs.declared.turn.Turn.{Turn}
-use Rattle.zk_through.specs.Came.{Came, payloads}
+use Rattle.zk_through.specs.{declared.turn.Turn.Turn, Came.Came, Came.payloads, Unseen.IsToEarlier, Unseen.IsSeen, Unseen.TellsMatched}
 use Rattle.zk_through.specs.LeftOut.{xid_of, has_turn, lane_in, is_on, asked, replied}
 use Rattle.zk_through.specs.Turns.{TurnsState, AreLanes, turn_of, waits_on, IsEarlierOn, IsEarlier, matched_on}
-use Rattle.zk_through.specs.Unseen.{IsToEarlier, IsSeen, TellsMatched}
 use Rattle.zk_through.proofs.Lanes.{none_is, waiting, replied_by_client, replied_more, replied_still, plus_none, on_none, on_lane}
 
 -- ---- Whether a reply of the plain lane came

@@ -1,15 +1,8 @@
 -- How a connection ends.
 use Rattle.std.proofs.Common.{◌≡◌, ℕ, ◌+◌, List, [], length, refl, arith}
 use Rattle.std.proofs.lemmas.List.{nil_from_length}
-use Rattle.zk_talk.specs.declared.message.Ending.TheVariants.{Whole}
-use Rattle.zk_talk.specs.Conversation.{number_waiting}
-use Rattle.zk_talk.specs.Held.{Message}
-use Rattle.zk_talk.specs.History.{History}
-use Rattle.zk_talk.specs.Ending.{unwelcomed}
-use Rattle.zk_talk.specs.Stands.{WhereItStands}
-use Rattle.zk_through.specs.Came.{Came, told}
-use Rattle.zk_through.specs.Turns.{left_out}
-use Rattle.zk_through.specs.Runs.{ThroughState, Runs, IsEndOf}
+use Rattle.zk_talk.specs.{declared.message.Ending.TheVariants.Whole, Conversation.number_waiting, Held.Message, History.History, Ending.unwelcomed, Stands.WhereItStands}
+use Rattle.zk_through.specs.{Came.Came, Came.told, Turns.left_out, Runs.ThroughState, Runs.Runs, Runs.IsEndOf}
 use Rattle.zk_through.proofs.Fitting.{its_good}
 
 module _ (t : ThroughState) (h : History) (c k : Came) (M : List Message) (r : Runs t h c k M) where

@@ -2,29 +2,18 @@
 use Rattle.std.proofs.Common.{◌≡◌, ◌≢◌, ℕ, zero, suc, ◌+◌, ◌<◌, ◌≤◌, ◌^◌, inl, inr, List, [], ◌∷◌, ◌++◌, length, take, refl, sym, ap, ◌∙◌, subst, arith, length-append}
 use Rattle.std.proofs.lemmas.List.{length-take-le, append-nil, nil_from_length, length-map}
 use Rattle.zk_records.specs.declared.profile.Profile.{Profile}
-use Rattle.zk_asks.specs.Held.{ClientFrame}
+use Rattle.zk_asks.specs.{Held.ClientFrame, Frames.IsLater, Frames.IsSent, Frames.IsOfProfile}
 use Rattle.zk_asks.specs.declared.frame.ClientFrameOf.TheVariants.{Connect, Ask}
-use Rattle.zk_asks.specs.Frames.{IsLater, IsSent, IsOfProfile}
 use Rattle.zk_frames.specs.Framing.{frame, frames}
 use Rattle.zk_frames.proofs.Cuts.{length-frame}
 use Rattle.zk_talk.specs.declared.message.Side.TheVariants.{Client, Server}
-use Rattle.zk_talk.specs.declared.limits.Limits.{Limits}
+use Rattle.zk_talk.specs.{declared.limits.Limits.Limits, Good.Good, Good.IsOrder, Good.client_payloads, Good.server_payloads, Held.Message, declared.message.MessageOf.TheVariants.Client as FromClient}
 use Rattle.zk_talk.specs.Conversation.{Conversation, ClientMay, with_client, load, weight}
-use Rattle.zk_talk.specs.Good.{Good, IsOrder, client_payloads, server_payloads}
-use Rattle.zk_talk.specs.Held.{Message}
-use Rattle.zk_talk.specs.declared.message.MessageOf.TheVariants.{Client as FromClient}
-use Rattle.zk_talk.specs.History.{History, side_bytes, on}
-use Rattle.zk_talk.specs.Payloads.{client_payload, server_payload}
-use Rattle.zk_talk.proofs.Histories.{side_bytes-append, no_bytes}
-use Rattle.zk_talk.proofs.Loads.{load_ask}
-use Rattle.zk_talk.proofs.Spoken.{step}
-use Rattle.zk_talk.proofs.Standing.{other-on}
-use Rattle.zk_through.specs.Came.{Came, payloads, told}
-use Rattle.zk_through.specs.LeftOut.{KeptAfter}
-use Rattle.zk_through.specs.Runs.{ThroughState, Runs, IsRequestOf}
+use Rattle.zk_talk.specs.{History.History, History.side_bytes, History.on, Payloads.client_payload, Payloads.server_payload}
+use Rattle.zk_talk.proofs.{Histories.side_bytes-append, Histories.no_bytes, Loads.load_ask, Spoken.step, Standing.other-on, Replays.own_bytes}
+use Rattle.zk_through.specs.{Came.Came, Came.payloads, Came.told, LeftOut.KeptAfter, Runs.ThroughState, Runs.Runs, Runs.IsRequestOf}
 use Rattle.zk_through.proofs.Frames.{payloads-other, no_payloads, of_client, of_server, past_client, some_server}
 use Rattle.zk_through.proofs.Seen.{seen_client, client_counts, counts_none}
-use Rattle.zk_talk.proofs.Replays.{own_bytes}
 
 -- ---- The client's frames that the talk was given
 none_on : (bs : List ℕ) → side_bytes Client (on Server bs) ≡ []

@@ -1,18 +1,11 @@
 -- The frames of a history with more bytes.
 use Rattle.std.proofs.Common.{◌≡◌, ℕ, ◌<◌, ◌≤◌, false, List, [], ◌∷◌, ◌++◌, length, refl, sym, ap, ◌∙◌, subst, arith, append_assoc}
-use Rattle.std.proofs.lemmas.List.{append-nil}
-use Rattle.std.proofs.lemmas.List.Concat.{flat_map-append}
+use Rattle.std.proofs.{lemmas.List.append-nil, lemmas.List.Concat.flat_map-append}
 use Rattle.zk_frames.specs.Framing.{frame, IsBeginning, IsCut}
 use Rattle.zk_frames.proofs.Taking.{beginning_front, frame_front, goes_on, goes_whole}
-use Rattle.zk_talk.specs.declared.message.Side.{Side}
+use Rattle.zk_talk.specs.{declared.message.Side.Side, declared.limits.Limits.Limits, History.History, History.side_bytes, History.on, Viewed.other_side, Fault.side_limit}
 use Rattle.zk_talk.specs.declared.message.Side.TheVariants.{Client, Server}
-use Rattle.zk_talk.specs.declared.limits.Limits.{Limits}
-use Rattle.zk_talk.specs.History.{History, side_bytes, on}
-use Rattle.zk_talk.specs.Viewed.{other_side}
-use Rattle.zk_talk.specs.Fault.{side_limit}
-use Rattle.zk_talk.proofs.Lists.{front_of_pushed}
-use Rattle.zk_talk.proofs.Lists.FrontOfPushed.{all_of_it, front_of}
-use Rattle.zk_talk.proofs.Standing.{other-on}
+use Rattle.zk_talk.proofs.{Lists.front_of_pushed, Lists.FrontOfPushed.all_of_it, Lists.FrontOfPushed.front_of, Standing.other-on}
 use Rattle.zk_through.specs.Came.{Came, payload_on, payloads, IsCutOn, HasFirst, AreFrames, told}
 use Rattle.zk_through.proofs.Telling.{bytes_more}
 

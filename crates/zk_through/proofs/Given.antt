@@ -2,20 +2,12 @@
 use Rattle.std.proofs.Common.{◌≡◌, ℕ, ◌+◌, inl, List, [], ◌++◌, length, take, Some, None, refl, sym, ap, subst, ◌∙◌}
 use Rattle.std.specs.Prelude.{Result, IfOk, IfErr, OnErr}
 use Rattle.std.proofs.lemmas.Result.{IfErr-weaker, IfOk-weaker, on_err_weaker}
-use Rattle.zk_talk.specs.declared.message.Side.{Side}
+use Rattle.zk_talk.specs.{declared.message.Side.Side, declared.message.Fault.Fault, Held.Message, History.History, History.side_bytes, Viewed.other_side}
 use Rattle.zk_talk.specs.declared.message.Side.TheVariants.{Client, Server}
-use Rattle.zk_talk.specs.declared.message.Fault.{Fault}
-use Rattle.zk_talk.specs.Held.{Message}
-use Rattle.zk_talk.specs.History.{History, side_bytes}
-use Rattle.zk_talk.specs.Viewed.{other_side}
-use Rattle.zk_through.specs.declared.through.Went.{Went}
-use Rattle.zk_through.specs.declared.through.Passed.{Passed}
+use Rattle.zk_through.specs.{declared.through.Went.Went, declared.through.Passed.Passed, Came.Came}
 use Rattle.zk_through.specs.declared.through.Went.TheVariants as went
-use Rattle.zk_through.specs.Came.{Came}
 use Rattle.zk_through.specs.Runs.{ThroughState, AreStreams, Runs, WentOn, IsRefused, IsWhy, IsNeverFull, LeavesSide, KeepsWaiting, given_up, stream_on}
-use Rattle.zk_through.proofs.Frames.{by_sides}
-use Rattle.zk_through.proofs.Steps.{with_streams}
-use Rattle.zk_through.proofs.Never.{never_full}
+use Rattle.zk_through.proofs.{Frames.by_sides, Steps.with_streams, Never.never_full}
 
 -- these bytes are kept of the sides
 abbrev keeping : ThroughState → List ℕ → List ℕ → ThroughState

@@ -5,19 +5,10 @@ use Rattle.zk_frames.specs.Framing.{frame, int_bytes, IsCut}
 use Rattle.zk_frames.proofs.Cuts.{same_cut}
 use Rattle.zk_waiting.specs.declared.lane.Lane.TheVariants.{Plain}
 use Rattle.zk_talk.specs.declared.message.Side.TheVariants.{Client, Server}
-use Rattle.zk_talk.specs.Held.{Message}
-use Rattle.zk_talk.specs.History.{History, side_bytes, on}
-use Rattle.zk_talk.proofs.Histories.{no_bytes}
-use Rattle.zk_talk.proofs.Small.{small_limits}
-use Rattle.zk_talk.proofs.Standing.{other-on}
-use Rattle.zk_through.specs.Came.{Came, payloads, told}
-use Rattle.zk_through.specs.LeftOut.{is_on}
-use Rattle.zk_through.specs.Unseen.{SeenAfter, Seen, made_up}
-use Rattle.zk_through.specs.Runs.{ThroughState, Runs, GoesOnTold}
-use Rattle.zk_through.proofs.Frames.{no_payloads, of_client, of_server, past_client, its_server}
-use Rattle.zk_through.proofs.Steps.{with_streams}
-use Rattle.zk_through.proofs.Telling.{bytes_more}
-use Rattle.zk_talk.proofs.Replays.{own_bytes}
+use Rattle.zk_talk.specs.{Held.Message, History.History, History.side_bytes, History.on}
+use Rattle.zk_talk.proofs.{Histories.no_bytes, Small.small_limits, Standing.other-on, Replays.own_bytes}
+use Rattle.zk_through.specs.{Came.Came, Came.payloads, Came.told, LeftOut.is_on, Unseen.SeenAfter, Unseen.Seen, Unseen.made_up, Runs.ThroughState, Runs.Runs, Runs.GoesOnTold}
+use Rattle.zk_through.proofs.{Frames.no_payloads, Frames.of_client, Frames.of_server, Frames.past_client, Frames.its_server, Steps.with_streams, Telling.bytes_more}
 
 abbrev request : List ℕ
 request = replicate 28 255

@@ -3,17 +3,14 @@ use Rattle.std.proofs.Common.{◌≡◌, ◌≢◌, ℕ, zero, suc, ◌+◌, ◌
 use Rattle.std.specs.Prelude.{slice_get, if◌then◌else◌}
 use Rattle.std.specs.List.{enumerate_from}
 use Rattle.std.proofs.lemmas.List.{append-nil, drop-append-le, length-drop, length-map, length_push, map-append}
-use Rattle.std.proofs.lemmas.List.Elements.{filter-append}
-use Rattle.std.proofs.lemmas.Option.{slice_get_within}
+use Rattle.std.proofs.{lemmas.List.Elements.filter-append, lemmas.Option.slice_get_within}
 use Rattle.zk_records.specs.declared.profile.Profile.{Profile}
-use Rattle.zk_waiting.specs.declared.lane.Lane.{Lane}
+use Rattle.zk_waiting.specs.{declared.lane.Lane.Lane, Lane.same_lane}
 use Rattle.zk_waiting.specs.declared.lane.Lane.TheVariants.{Ping, Auth, Watches, Plain}
-use Rattle.zk_waiting.specs.Lane.{same_lane}
 use Rattle.zk_talk.specs.declared.message.Side.{Side}
 use Rattle.zk_talk.specs.declared.message.Side.TheVariants.{Client, Server}
 use Rattle.zk_talk.proofs.Loads.{lanes_same}
-use Rattle.zk_through.specs.declared.turn.Turn.{Turn}
-use Rattle.zk_through.specs.Came.{Came, payloads}
+use Rattle.zk_through.specs.{declared.turn.Turn.Turn, Came.Came, Came.payloads}
 use Rattle.zk_through.specs.LeftOut.{xid_of, has_turn, lane_in, is_on, asked, replied, IsLeftOut, KeptAfter}
 use Rattle.zk_through.specs.Turns.{TurnsState, turn_of, waits_on, with_waits, IsLane, IsLacked, AreLacked, AreLeft, AreLanes, IsDue, and_turn}
 use Rattle.zk_through.proofs.Frames.{payloads-same, payloads-other}

@@ -1,14 +1,9 @@
 -- No frame is refused because too much waits.
 use Rattle.std.proofs.Common.{◌≢◌, ℕ, List, sym, ◌∙◌}
-use Rattle.zk_jute.specs.declared.fault.Reason.{Reason}
-use Rattle.zk_jute.specs.declared.fault.Reason.TheVariants.{QueueFull}
-use Rattle.zk_talk.specs.declared.message.Side.{Side}
+use Rattle.zk_jute.specs.{declared.fault.Reason.Reason, declared.fault.Reason.TheVariants.QueueFull}
+use Rattle.zk_talk.specs.{declared.message.Side.Side, declared.message.Fault.Fault, Held.Message, History.History}
 use Rattle.zk_talk.specs.declared.message.Side.TheVariants.{Client, Server}
-use Rattle.zk_talk.specs.declared.message.Fault.{Fault}
-use Rattle.zk_talk.specs.Held.{Message}
-use Rattle.zk_talk.specs.History.{History}
-use Rattle.zk_through.specs.Came.{Came}
-use Rattle.zk_through.specs.Runs.{ThroughState, Runs, IsWhy, IsRefused, IsNeverFull}
+use Rattle.zk_through.specs.{Came.Came, Runs.ThroughState, Runs.Runs, Runs.IsWhy, Runs.IsRefused, Runs.IsNeverFull}
 use Rattle.zk_through.specs.Runs.IsWhy.{stream_end, length_range, unasked, other_turn, told_so}
 use Rattle.zk_through.proofs.Causes.{client_never, server_never}
 

@@ -3,10 +3,8 @@ use Rattle.std.proofs.Common.{◌≡◌, ℕ, List, [], ◌∷◌, ◌++◌, len
 use Rattle.std.proofs.lemmas.List.{length_push}
 use Rattle.zk_talk.specs.declared.message.Side.{Side}
 use Rattle.zk_talk.specs.declared.message.Side.TheVariants.{Client, Server}
-use Rattle.zk_talk.proofs.Lists.{not_empty, InPushed, in_pushed}
-use Rattle.zk_talk.proofs.Lists.InPushed.{at_end, inside}
-use Rattle.zk_through.specs.Came.{Came, payloads}
-use Rattle.zk_through.specs.LeftOut.{AnswersAfter, NewestAnswers}
+use Rattle.zk_talk.proofs.{Lists.not_empty, Lists.InPushed, Lists.in_pushed, Lists.InPushed.at_end, Lists.InPushed.inside}
+use Rattle.zk_through.specs.{Came.Came, Came.payloads, LeftOut.AnswersAfter, LeftOut.NewestAnswers}
 use Rattle.zk_through.proofs.Frames.{payloads-same, payloads-other}
 
 sides : (p q : List ℕ) → ◌≡◌ {A = Side × List ℕ} (Client, p) (Server, q) → ⊥

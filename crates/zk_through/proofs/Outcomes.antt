@@ -1,32 +1,18 @@
 -- What becomes of a whole frame: it is told, or left out.
 use Rattle.std.proofs.Common.{◌≡◌, ◌≢◌, ℕ, ◌<◌, ◌-◌, inl, inr, List, [], ◌∷◌, ◌++◌, length, drop, take, Some, None, refl, sym, ap, ◌∙◌, subst, arith, true, false, ◌≤◌, ◌+◌, zero, suc}
-use Rattle.std.proofs.lemmas.Bool.{false≢true}
-use Rattle.std.proofs.lemmas.List.{append-nil}
-use Rattle.std.proofs.lemmas.Option.{slice_get_within}
+use Rattle.std.proofs.{lemmas.Bool.false≢true, lemmas.List.append-nil, lemmas.Option.slice_get_within}
 use Rattle.zk_frames.specs.Framing.{frame}
 use Rattle.zk_waiting.specs.Waiting.{count_of}
-use Rattle.zk_talk.specs.declared.message.Side.{Side}
+use Rattle.zk_talk.specs.{declared.message.Side.Side, Held.Message, History.History, History.on, Conversation.Conversation, Conversation.load, Good.Good, Stands.TalkState, Stands.Stands, Stands.WhereItStands, Viewed.Shows}
 use Rattle.zk_talk.specs.declared.message.Side.TheVariants.{Client, Server}
-use Rattle.zk_talk.specs.Held.{Message}
-use Rattle.zk_talk.specs.History.{History, on}
-use Rattle.zk_talk.specs.Conversation.{Conversation, load}
-use Rattle.zk_talk.specs.Good.{Good}
-use Rattle.zk_talk.specs.Stands.{TalkState, Stands, WhereItStands}
-use Rattle.zk_talk.specs.Viewed.{Shows}
-use Rattle.zk_through.specs.declared.turn.Turn.{Turn}
-use Rattle.zk_through.specs.Came.{Came, payloads, told}
+use Rattle.zk_through.specs.{declared.turn.Turn.Turn, Came.Came, Came.payloads, Came.told, Unseen.IsUnseen, Unseen.IsSeen, Unseen.TellsMatched}
 use Rattle.zk_through.specs.LeftOut.{xid_of, has_turn, lane_in, IsForeign, IsLeftOut, Kept, AnswersAfter, NewestAnswers}
-use Rattle.zk_through.specs.Unseen.{IsUnseen, IsSeen, TellsMatched}
 use Rattle.zk_through.specs.Turns.{AreLanes, IsDue, IsLacked, IsEarlier, matched_on, turn_of, waits_on, with_waits, and_turn, left_out, number_of_turns}
 use Rattle.zk_through.specs.Runs.{ThroughState, Runs, GoesOn, GoesOnTold, PassesOver, IsTold, IsRequestOf}
-use Rattle.zk_through.proofs.Frames.{told-push}
+use Rattle.zk_through.proofs.{Frames.told-push, Fitting.its_good, Seen.client_counts, Seen.none_counts, Seen.server_some, Seen.some_counts, Steps.FrameCame, Steps.frame_came, Steps.over_came, Newest.newest_client, Newest.newest_server}
 use Rattle.zk_through.proofs.Lanes.{some_not_nil, same_some, kept_out, kept_told, lanes_client, lanes_server, lanes_request, lanes_left, lanes_reply, lanes_answer, some_left, turn_is}
-use Rattle.zk_through.proofs.Fitting.{its_good}
 use Rattle.zk_through.proofs.Rooms.{with_one, without_one, waits_fit, kept_client, one_more, weighs_some, load_client, one_less, kept_server, load_server}
-use Rattle.zk_through.proofs.Seen.{client_counts, none_counts, server_some, some_counts}
 use Rattle.zk_through.proofs.Earlier.{to_earlier, seen_other, seen_reply, matched_client, matched_other, matched_reply}
-use Rattle.zk_through.proofs.Steps.{FrameCame, frame_came, over_came}
-use Rattle.zk_through.proofs.Newest.{newest_client, newest_server}
 
 pub counted : (n : ℕ) (P : List (List ℕ)) → n ≡ length P → P ≢ [] → 0 < n
 counted n [] e some = absurd (some refl)

@@ -1,27 +1,13 @@
 -- Why a side's frame is refused.
 use Rattle.std.proofs.Common.{◌≡◌, ℕ, ◌+◌, ◌≤◌, inl, inr, List, ◌++◌, length, take, Some, refl, sym, ap, ◌∙◌, subst, arith, true}
-use Rattle.zk_jute.specs.declared.fault.Reason.{Reason}
-use Rattle.zk_jute.specs.declared.fault.Reason.TheVariants.{XidOrder}
+use Rattle.zk_jute.specs.{declared.fault.Reason.Reason, declared.fault.Reason.TheVariants.XidOrder}
 use Rattle.zk_frames.specs.Framing.{frame, IsBadLength}
-use Rattle.zk_talk.specs.declared.message.Side.{Side}
-use Rattle.zk_talk.specs.declared.message.Side.TheVariants.{Server}
-use Rattle.zk_talk.specs.declared.message.Fault.{Fault}
-use Rattle.zk_talk.specs.Held.{Message}
-use Rattle.zk_talk.specs.History.{History, side_bytes, on}
-use Rattle.zk_talk.specs.Fault.{IsFaultOf, fault_of, side_limit}
-use Rattle.zk_talk.specs.Streams.{StreamState}
-use Rattle.zk_talk.specs.Advance.{IsStop}
-use Rattle.zk_talk.specs.Advance.IsStop.{too_many, out_of_range}
-use Rattle.zk_talk.specs.Receiving.{IsStopped as WasStopped}
-use Rattle.zk_through.specs.declared.turn.Turn.{Turn}
-use Rattle.zk_through.specs.Came.{Came, told}
-use Rattle.zk_through.specs.LeftOut.{has_turn, xid_of}
-use Rattle.zk_through.specs.Unseen.{IsSeen}
-use Rattle.zk_through.specs.Turns.{IsLacked, IsEarlier, IsBadTurn}
+use Rattle.zk_talk.specs.{declared.message.Side.Side, declared.message.Side.TheVariants.Server, declared.message.Fault.Fault, Held.Message, History.History, History.side_bytes, History.on, Fault.IsFaultOf, Fault.fault_of, Fault.side_limit}
+use Rattle.zk_talk.specs.{Streams.StreamState, Advance.IsStop, Advance.IsStop.too_many, Advance.IsStop.out_of_range, Receiving.IsStopped as WasStopped}
+use Rattle.zk_through.specs.{declared.turn.Turn.Turn, Came.Came, Came.told, LeftOut.has_turn, LeftOut.xid_of, Unseen.IsSeen, Turns.IsLacked, Turns.IsEarlier, Turns.IsBadTurn}
 use Rattle.zk_through.specs.Runs.{ThroughState, Runs, IsWhy, IsRefused, IsNotTold, IsNoRequest, stream_on}
 use Rattle.zk_through.specs.Runs.IsWhy.{stream_end, length_range, unasked, other_turn, told_so}
-use Rattle.zk_through.proofs.Lanes.{turn_is, none_due}
-use Rattle.zk_through.proofs.Earlier.{seen_reply}
+use Rattle.zk_through.proofs.{Lanes.turn_is, Lanes.none_due, Earlier.seen_reply}
 
 -- the fault with its own place and reason
 exactly : (side : Side) (frame offset place : ℕ) (reason : Reason) (e : Fault) → e ≡ fault_of side frame offset place reason → e ≡ fault_of side frame offset e.place e.reason

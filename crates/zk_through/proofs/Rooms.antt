@@ -3,40 +3,23 @@ use Rattle.std.proofs.Common.{◌≡◌, ◌≢◌, ℕ, ◌+◌, ◌-◌, ◌^�
 use Rattle.std.proofs.lemmas.Bool.{false≢true}
 use Rattle.std.proofs.lemmas.List.{append-nil, map-append, same_from_push, length_push, length-drop}
 use Rattle.zk_records.specs.declared.profile.Profile.{Profile}
-use Rattle.zk_asks.specs.Held.{ClientFrame}
+use Rattle.zk_asks.specs.{Held.ClientFrame, Frames.IsFirst, Frames.IsLater, Frames.IsSent, Frames.IsOfProfile}
 use Rattle.zk_asks.specs.declared.frame.ClientFrameOf.TheVariants.{Connect, Ask}
-use Rattle.zk_asks.specs.Frames.{IsFirst, IsLater, IsSent, IsOfProfile}
 use Rattle.zk_answers.specs.Held.{ServerFrame}
 use Rattle.zk_answers.specs.declared.frame.ServerFrameOf.TheVariants.{Connected, Answered, Event}
 use Rattle.zk_frames.specs.Framing.{frame, frames, IsCut}
 use Rattle.zk_frames.proofs.Cuts.{whole_frame}
-use Rattle.zk_waiting.specs.declared.lane.Lane.{Lane}
-use Rattle.zk_waiting.specs.declared.lane.Lane.TheVariants.{Ping}
-use Rattle.zk_waiting.specs.Waiting.{count_of}
+use Rattle.zk_waiting.specs.{declared.lane.Lane.Lane, declared.lane.Lane.TheVariants.Ping, Waiting.count_of}
 use Rattle.zk_talk.specs.declared.message.Side.TheVariants.{Client, Server}
 use Rattle.zk_talk.specs.declared.message.MessageOf.TheVariants.{Client as FromClient, Server as FromServer}
-use Rattle.zk_talk.specs.declared.limits.Limits.{Limits}
+use Rattle.zk_talk.specs.{declared.limits.Limits.Limits, Good.Good, Good.client_payloads, Good.server_payloads, Good.clients, Good.servers, Held.Message, History.History, History.side_bytes, History.on}
 use Rattle.zk_talk.specs.Conversation.{Conversation, ClientMay, ServerMay, load, weight}
-use Rattle.zk_talk.specs.Good.{Good, client_payloads, server_payloads, clients, servers}
-use Rattle.zk_talk.specs.Held.{Message}
-use Rattle.zk_talk.specs.History.{History, side_bytes, on}
-use Rattle.zk_talk.specs.Payloads.{client_payload, server_payload}
-use Rattle.zk_talk.specs.Stands.{TalkState, Stands}
-use Rattle.zk_talk.specs.Viewed.{Shows}
-use Rattle.zk_talk.proofs.Headline.{same_good}
-use Rattle.zk_talk.proofs.Loads.{load_ask}
-use Rattle.zk_talk.proofs.Queues.{weight_is_load}
-use Rattle.zk_talk.proofs.Steps.{load_reply}
-use Rattle.zk_talk.proofs.Small.{small_limits}
-use Rattle.zk_talk.proofs.Standing.{clients-append, servers-append}
-use Rattle.zk_through.specs.declared.turn.Turn.{Turn}
-use Rattle.zk_through.specs.Came.{Came, told}
-use Rattle.zk_through.specs.LeftOut.{has_turn}
-use Rattle.zk_through.specs.Turns.{TurnsState, left_out, waits_on, with_waits, and_turn, number_of_turns}
+use Rattle.zk_talk.specs.{Payloads.client_payload, Payloads.server_payload, Stands.TalkState, Stands.Stands, Viewed.Shows}
+use Rattle.zk_talk.proofs.{Headline.same_good, Loads.load_ask, Queues.weight_is_load, Steps.load_reply, Small.small_limits, Standing.clients-append, Standing.servers-append}
+use Rattle.zk_through.specs.{declared.turn.Turn.Turn, Came.Came, Came.told, LeftOut.has_turn, Turns.TurnsState, Turns.left_out, Turns.waits_on, Turns.with_waits, Turns.and_turn, Turns.number_of_turns}
 use Rattle.zk_through.specs.Runs.{ThroughState, Runs, IsRequestOf}
 use Rattle.zk_through.proofs.Counts.{IsNoReply, reply_has_turn, count_kept, count_ask, count_reply, count_still, count_weighs}
-use Rattle.zk_through.proofs.Telling.{bytes_more}
-use Rattle.zk_through.proofs.Fitting.{its_good, begins, server_begins, has_begun, some_weight}
+use Rattle.zk_through.proofs.{Telling.bytes_more, Fitting.its_good, Fitting.begins, Fitting.server_begins, Fitting.has_begun, Fitting.some_weight}
 
 -- ---- How many wait, with one lane changed
 turns_with : (l : Lane) (f : List Turn → List Turn) (t : TurnsState) → number_of_turns (with_waits l f t) + length (waits_on l t) ≡ number_of_turns t + length (f (waits_on l t))

@@ -1,13 +1,9 @@
 -- What is seen of the frames that came, with one frame more.
 use Rattle.std.proofs.Common.{◌≡◌, ◌≢◌, ℕ, zero, suc, ◌<◌, inl, inr, List, [], ◌∷◌, ◌++◌, length, refl, sym, ap, ◌∙◌, subst, arith, append_assoc, Bool, true, false}
 use Rattle.std.proofs.lemmas.List.{append-nil, nil_from_length}
-use Rattle.zk_talk.specs.declared.message.Side.{Side}
+use Rattle.zk_talk.specs.{declared.message.Side.Side, Held.Message, History.History}
 use Rattle.zk_talk.specs.declared.message.Side.TheVariants.{Client, Server}
-use Rattle.zk_talk.specs.Held.{Message}
-use Rattle.zk_talk.specs.History.{History}
-use Rattle.zk_through.specs.Came.{Came, payloads}
-use Rattle.zk_through.specs.Unseen.{IsUnseen, SeenAfter, Seen, IsSeen}
-use Rattle.zk_through.specs.Runs.{ThroughState, Runs}
+use Rattle.zk_through.specs.{Came.Came, Came.payloads, Unseen.IsUnseen, Unseen.SeenAfter, Unseen.Seen, Unseen.IsSeen, Runs.ThroughState, Runs.Runs}
 use Rattle.zk_through.proofs.Frames.{payloads-other, no_payloads, of_client, of_server, past_client, some_server}
 
 -- ---- All of the client's

@@ -1,38 +1,19 @@
 -- What a conversation comes to with one piece more.
-use Rattle.std.proofs.Common.{◌≡◌, ℕ, ◌+◌, ◌<◌, ◌≤◌, ◌^◌, inl, List, [], ◌∷◌, ◌++◌, length, take, map, drop, refl, sym, ap, ◌∙◌, subst, arith, length-append, Bool, true, false, Option, Some, None, Ok}
-use Rattle.std.proofs.Common.{filter}
+use Rattle.std.proofs.Common.{◌≡◌, ℕ, ◌+◌, ◌<◌, ◌≤◌, ◌^◌, inl, List, [], ◌∷◌, ◌++◌, length, take, map, drop, refl, sym, ap, ◌∙◌, subst, arith, length-append, Bool, true, false, Option, Some, None, Ok, filter}
 use Rattle.std.proofs.lemmas.List.{append-nil, length_push, length-take-le, nil_from_length}
 use Rattle.std.specs.List.{enumerate_from}
 use Rattle.zk_frames.specs.Framing.{frame, IsBeginning, IsCut}
-use Rattle.zk_waiting.specs.declared.lane.Lane.{Lane}
-use Rattle.zk_waiting.specs.declared.lane.Lane.TheVariants.{Ping, Plain}
-use Rattle.zk_waiting.specs.Waiting.{count_of}
-use Rattle.zk_talk.specs.declared.message.Side.{Side}
+use Rattle.zk_waiting.specs.{declared.lane.Lane.Lane, declared.lane.Lane.TheVariants.Ping, declared.lane.Lane.TheVariants.Plain, Waiting.count_of}
+use Rattle.zk_talk.specs.{declared.message.Side.Side, Fault.side_limit, declared.message.Fault.Fault, Receiving.CameWithin, Receiving.CameWhole, Receiving.IsReceived, Viewed.other_side, declared.limits.Limits.Limits, Held.Message}
 use Rattle.zk_talk.specs.declared.message.Side.TheVariants.{Client, Server}
-use Rattle.zk_talk.specs.Fault.{side_limit}
-use Rattle.zk_talk.specs.declared.message.Fault.{Fault}
-use Rattle.zk_talk.specs.Receiving.{CameWithin, CameWhole, IsReceived}
-use Rattle.zk_talk.proofs.Answering.{received}
-use Rattle.zk_talk.specs.Viewed.{other_side}
-use Rattle.zk_talk.specs.declared.limits.Limits.{Limits}
-use Rattle.zk_talk.specs.Held.{Message}
-use Rattle.zk_talk.specs.History.{History, side_bytes, on}
-use Rattle.zk_talk.specs.Stands.{TalkState, Stands}
-use Rattle.zk_talk.specs.Streams.{StreamState, passed}
-use Rattle.zk_talk.specs.Conversation.{Conversation, load}
-use Rattle.zk_talk.specs.Good.{Good, client_bytes, server_bytes}
-use Rattle.zk_talk.proofs.GoodSteps.{load_here}
-use Rattle.zk_talk.proofs.Histories.{no_bytes}
-use Rattle.zk_talk.proofs.Lists.{both_empty}
-use Rattle.zk_talk.proofs.Standing.{bytes-on, other-on}
+use Rattle.zk_talk.proofs.{Answering.received, GoodSteps.load_here, Histories.no_bytes, Lists.both_empty, Standing.bytes-on, Standing.other-on}
+use Rattle.zk_talk.specs.{History.History, History.side_bytes, History.on, Stands.TalkState, Stands.Stands, Streams.StreamState, Streams.passed, Conversation.Conversation, Conversation.load, Good.Good, Good.client_bytes, Good.server_bytes}
 use Rattle.zk_through.specs.declared.through.Went.TheVariants as went
-use Rattle.zk_through.specs.Came.{Came, payloads, IsCutOn, AreFrames, told}
+use Rattle.zk_through.specs.{Came.Came, Came.payloads, Came.IsCutOn, Came.AreFrames, Came.told, Unseen.IsUnseen, Unseen.Seen, Unseen.IsSeen, Unseen.TellsMatched}
 use Rattle.zk_through.specs.LeftOut.{is_on, asked, replied, Kept, NewestAnswers}
-use Rattle.zk_through.specs.Unseen.{IsUnseen, Seen, IsSeen, TellsMatched}
 use Rattle.zk_through.specs.Turns.{IsLane, AreLanes, waits_on, turn_of, no_turns, left_out, number_of_turns}
 use Rattle.zk_through.specs.Runs.{ThroughState, AreStreams, Runs, GoesOnTold, WentOn, of_side, stream_on}
-use Rattle.zk_through.proofs.Seen.{seen_more, passed_over}
-use Rattle.zk_through.proofs.Newest.{newest_none}
+use Rattle.zk_through.proofs.{Seen.seen_more, Seen.passed_over, Newest.newest_none}
 use Rattle.zk_through.proofs.Frames.{no_payloads, payloads-same, payloads-other, by_sides, within_on, whole_on}
 
 pub nothing_more : (t : ThroughState) (h : History) (c k : Came) (M : List Message) → Runs t h c k M → Runs t h (c ++ []) (k ++ []) (M ++ [])

@@ -4,22 +4,11 @@ use Rattle.std.specs.List.{AllByRecursion}
 use Rattle.std.proofs.lemmas.List.{append-nil, take-append-drop, length-take-le, nil_from_length, take_all}
 use Rattle.zk_frames.specs.Framing.{frame, frames, IsCut}
 use Rattle.zk_frames.proofs.Cuts.{strip, same_frame, same_cut, whole_frame, length-frame, AllByRecursion-right}
-use Rattle.zk_talk.specs.declared.message.Side.{Side}
+use Rattle.zk_talk.specs.{declared.message.Side.Side, declared.limits.Limits.Limits, History.History, History.side_bytes, History.on, Good.client_payloads, Good.server_payloads, Good.clients, Good.servers, Held.Message}
 use Rattle.zk_talk.specs.declared.message.Side.TheVariants.{Client, Server}
-use Rattle.zk_talk.specs.declared.limits.Limits.{Limits}
-use Rattle.zk_talk.specs.History.{History, side_bytes, on}
-use Rattle.zk_talk.specs.Good.{client_payloads, server_payloads, clients, servers}
-use Rattle.zk_talk.specs.Held.{Message}
-use Rattle.zk_talk.specs.Stands.{TalkState, Stands, held_on}
-use Rattle.zk_talk.specs.Viewed.{other_side}
-use Rattle.zk_talk.specs.Conversation.{Conversation}
-use Rattle.zk_talk.specs.Taking.{StepsOn}
-use Rattle.zk_talk.specs.Fault.{side_limit}
-use Rattle.zk_talk.proofs.Histories.{side_bytes-append}
-use Rattle.zk_talk.proofs.Standing.{other-on}
-use Rattle.zk_talk.proofs.Small.{AreSmall}
+use Rattle.zk_talk.specs.{Stands.TalkState, Stands.Stands, Stands.held_on, Viewed.other_side, Conversation.Conversation, Taking.StepsOn, Fault.side_limit}
+use Rattle.zk_talk.proofs.{Histories.side_bytes-append, Standing.other-on, Small.AreSmall, Replays.own_bytes}
 use Rattle.zk_through.specs.Runs.{IsTold}
-use Rattle.zk_talk.proofs.Replays.{own_bytes}
 
 -- ---- Bytes that are told
 pub bytes_more : (side : Side) (h : History) (bs : List ℕ) → side_bytes side (h ++ on side bs) ≡ side_bytes side h ++ bs

@@ -1,16 +1,8 @@
 -- What waits after a refusal.
 use Rattle.std.proofs.Common.{◌≡◌, ℕ, ◌+◌, inl, inr, List, [], sym, ◌∙◌}
-use Rattle.zk_talk.specs.declared.message.Fault.{Fault}
-use Rattle.zk_talk.specs.Conversation.{load}
-use Rattle.zk_talk.specs.Good.{clients, servers}
-use Rattle.zk_talk.specs.Held.{Message}
-use Rattle.zk_talk.specs.History.{History}
-use Rattle.zk_talk.specs.Stands.{TalkState, Refuses, WhereItStands}
-use Rattle.zk_talk.proofs.Headline.{same_good}
-use Rattle.zk_talk.proofs.Small.{small_limits}
-use Rattle.zk_through.specs.Came.{told}
-use Rattle.zk_through.specs.Turns.{left_out}
-use Rattle.zk_through.specs.Runs.{ThroughState, WhereItRuns, WaitsAfter, KeepsWaiting}
+use Rattle.zk_talk.specs.{declared.message.Fault.Fault, Conversation.load, Good.clients, Good.servers, Held.Message, History.History, Stands.TalkState, Stands.Refuses, Stands.WhereItStands}
+use Rattle.zk_talk.proofs.{Headline.same_good, Small.small_limits}
+use Rattle.zk_through.specs.{Came.told, Turns.left_out, Runs.ThroughState, Runs.WhereItRuns, Runs.WaitsAfter, Runs.KeepsWaiting}
 use Rattle.zk_through.proofs.Fitting.{its_good}
 
 -- by the messages alone

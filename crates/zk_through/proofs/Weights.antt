@@ -1,19 +1,14 @@
 -- What a request weighs.
 use Rattle.std.proofs.Common.{Result, Ok, Err, ◌≡◌, ℕ, ◌+◌, ◌<◌, ◌≤◌, ℤ, List, length, refl, sym, ap, ◌∙◌, subst, arith}
 use Rattle.zk_records.specs.declared.profile.Profile.{Profile}
-use Rattle.zk_asks.specs.Held.{Ask as Asked}
-use Rattle.zk_asks.specs.Held.{ClientFrame}
+use Rattle.zk_asks.specs.{Held.Ask as Asked, Held.ClientFrame, Frames.IsLater, Frames.IsSent, Frames.IsOfProfile, Frames.ops_of_ask}
 use Rattle.zk_asks.specs.declared.frame.ClientFrameOf.TheVariants.{Connect, Ask}
-use Rattle.zk_asks.specs.Frames.{IsLater, IsSent, IsOfProfile, ops_of_ask}
 use Rattle.zk_asks.specs.Frames as asks
 use Rattle.zk_frames.specs.Framing.{frame, IsFrame}
 use Rattle.zk_frames.proofs.Cuts.{length-frame}
-use Rattle.zk_talk.specs.Conversation.{weight}
-use Rattle.zk_talk.specs.Payloads.{client_payload}
-use Rattle.zk_talk.specs.Streams.{StreamState}
-use Rattle.zk_talk.proofs.Payloads.{few_parts}
+use Rattle.zk_talk.specs.{Conversation.weight, Payloads.client_payload, Streams.StreamState}
+use Rattle.zk_talk.proofs.{Payloads.few_parts, Bodies.frame_once}
 use Rattle.zk_through.specs.Runs.{IsWeightOf, IsWeighed}
-use Rattle.zk_talk.proofs.Bodies.{frame_once}
 
 payload_of : (f : ClientFrame) → client_payload f ≡ asks.payload f
 unfolding client_payload

@@ -2,11 +2,8 @@
 use Rattle.std.specs.Prelude.{◌≡◌, ℕ, List, [], ◌∷◌, ◌++◌}
 use Rattle.std.specs.List.{flat_map}
 use Rattle.zk_frames.specs.Framing.{frame, IsCut}
-use Rattle.zk_talk.specs.declared.message.Side.{Side}
+use Rattle.zk_talk.specs.{declared.message.Side.Side, declared.limits.Limits.Limits, Fault.side_limit, History.History, History.side_bytes, History.on}
 use Rattle.zk_talk.specs.declared.message.Side.TheVariants.{Client, Server}
-use Rattle.zk_talk.specs.declared.limits.Limits.{Limits}
-use Rattle.zk_talk.specs.Fault.{side_limit}
-use Rattle.zk_talk.specs.History.{History, side_bytes, on}
 
 -- payloads of frames, each with the side that sent it
 abbrev pub Came : Type 0

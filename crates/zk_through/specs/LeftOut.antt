@@ -1,14 +1,10 @@
 -- Which frames are left out: requests of operations that the profile lacks, and the replies to them.
 use Rattle.std.specs.Prelude.{◌≡◌, ◌≢◌, ℕ, ◌⊎◌, ℤ, negsuc, List, [], ◌∷◌, ◌++◌, length, take, drop, filter, Bool, true, false, if◌then◌else◌, nat_le, Some, Option, None, slice_get}
-use Rattle.std.specs.List.{enumerate_from}
-use Rattle.std.specs.Ordering.{int_eq}
-use Rattle.std.specs.Int.{w64, cast_signed, from_be_bytes}
+use Rattle.std.specs.{List.enumerate_from, Ordering.int_eq, Int.w64, Int.cast_signed, Int.from_be_bytes}
 use Rattle.zk_jute.specs.Faults.{first_int}
-use Rattle.zk_records.specs.declared.profile.Profile.{Profile}
-use Rattle.zk_records.specs.Codes.{IsNoOp}
-use Rattle.zk_waiting.specs.declared.lane.Lane.{Lane}
+use Rattle.zk_records.specs.{declared.profile.Profile.Profile, Codes.IsNoOp}
+use Rattle.zk_waiting.specs.{declared.lane.Lane.Lane, Lane.lane_of, Lane.same_lane}
 use Rattle.zk_waiting.specs.declared.lane.Lane.TheVariants.{Ping, Auth, Watches, Plain}
-use Rattle.zk_waiting.specs.Lane.{lane_of, same_lane}
 use Rattle.zk_talk.specs.declared.message.Side.{Side}
 use Rattle.zk_talk.specs.declared.message.Side.TheVariants.{Client, Server}
 use Rattle.zk_through.specs.Came.{Came, payloads}

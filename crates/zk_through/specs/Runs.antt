@@ -3,32 +3,17 @@ use Rattle.std.specs.Prelude.{◌≡◌, ◌≢◌, ℕ, ℤ, Bool, ◌+◌, ◌
 use Rattle.zk_jute.specs.declared.fault.Reason.{Reason}
 use Rattle.zk_jute.specs.declared.fault.Reason.TheVariants.{StreamEnd, LengthRange, QueueFull, Unasked, XidOrder}
 use Rattle.zk_records.specs.declared.profile.Profile.{Profile}
-use Rattle.zk_asks.specs.Held.{ClientFrame}
-use Rattle.zk_asks.specs.Frames.{IsLater, IsSent, IsOfProfile}
+use Rattle.zk_asks.specs.{Held.ClientFrame, Frames.IsLater, Frames.IsSent, Frames.IsOfProfile}
 use Rattle.zk_frames.specs.Framing.{frame, IsBadLength}
-use Rattle.zk_talk.specs.declared.message.Side.{Side}
+use Rattle.zk_talk.specs.{declared.message.Side.Side, declared.message.Fault.Fault, declared.message.Ending.Ending, declared.limits.Limits.Limits, Held.Message, Payloads.client_payload, History.History, History.side_bytes, History.on}
 use Rattle.zk_talk.specs.declared.message.Side.TheVariants.{Client, Server}
-use Rattle.zk_talk.specs.declared.message.Fault.{Fault}
-use Rattle.zk_talk.specs.declared.message.Ending.{Ending}
 use Rattle.zk_talk.specs.declared.message.Ending.TheVariants.{Whole, Cut, Refused}
-use Rattle.zk_talk.specs.declared.limits.Limits.{Limits}
-use Rattle.zk_talk.specs.Held.{Message}
-use Rattle.zk_talk.specs.Payloads.{client_payload}
-use Rattle.zk_talk.specs.History.{History, side_bytes, on}
-use Rattle.zk_talk.specs.Conversation.{Conversation, load, weight}
-use Rattle.zk_talk.specs.Good.{Good}
-use Rattle.zk_talk.specs.Fault.{IsFaultOf, side_limit, fault_of}
-use Rattle.zk_talk.specs.Ending.{IsEnding}
-use Rattle.zk_talk.specs.Stands.{TalkState, Stands, Refuses}
-use Rattle.zk_talk.specs.Streams.{StreamState}
-use Rattle.zk_talk.specs.Viewed.{Shows, Leaves}
+use Rattle.zk_talk.specs.{Conversation.Conversation, Conversation.load, Conversation.weight, Good.Good, Fault.IsFaultOf, Fault.side_limit, Fault.fault_of, Ending.IsEnding, Stands.TalkState, Stands.Stands, Stands.Refuses}
+use Rattle.zk_talk.specs.{Streams.StreamState, Viewed.Shows, Viewed.Leaves}
 use Rattle.zk_waiting.specs.Waiting.{count_of}
-use Rattle.zk_through.specs.declared.turn.Turn.{Turn}
-use Rattle.zk_through.specs.declared.through.Went.{Went}
+use Rattle.zk_through.specs.{declared.turn.Turn.Turn, declared.through.Went.Went, Came.Came, Came.payloads, Came.AreFrames, Came.told, Unseen.IsUnseen, Unseen.Seen, Unseen.IsSeen, Unseen.TellsMatched}
 use Rattle.zk_through.specs.declared.through.Went.TheVariants as went
-use Rattle.zk_through.specs.Came.{Came, payloads, AreFrames, told}
 use Rattle.zk_through.specs.LeftOut.{xid_of, zxid_of, err_of, has_turn, lane_in, asked, replied, IsForeign, IsTurnOf, Kept, NewestAnswers}
-use Rattle.zk_through.specs.Unseen.{IsUnseen, Seen, IsSeen, TellsMatched}
 use Rattle.zk_through.specs.Turns.{TurnsState, AreLanes, IsDue, turn_of, left_out, number_of_turns}
 
 -- the talk; each side's frame, with how many came; the requests that wait; whether the connection is seen late, and then

@@ -1,18 +1,14 @@
 -- The requests that wait for their replies, by lanes.
 use Rattle.std.specs.Prelude.{◌≡◌, ◌≢◌, ℕ, suc, ◌+◌, ◌-◌, ◌≤◌, ◌⊎◌, ℤ, List, [], ◌∷◌, ◌++◌, length, map, drop, slice_get, Bool, true, false, Option, Some, None, Result, Ok, Err}
-use Rattle.std.specs.List.{list_any}
-use Rattle.std.specs.Ordering.{int_eq}
+use Rattle.std.specs.{List.list_any, Ordering.int_eq}
 use Rattle.circular_buffer.specs.Buffer.{keep_last}
 use Rattle.zk_jute.specs.declared.fault.Reason.{Reason}
 use Rattle.zk_jute.specs.declared.fault.Reason.TheVariants.{Unasked, XidOrder}
 use Rattle.zk_records.specs.declared.profile.Profile.{Profile}
-use Rattle.zk_waiting.specs.declared.lane.Lane.{Lane}
+use Rattle.zk_waiting.specs.{declared.lane.Lane.Lane, Lane.lane_of}
 use Rattle.zk_waiting.specs.declared.lane.Lane.TheVariants.{Ping, Auth, Watches, Plain}
-use Rattle.zk_waiting.specs.Lane.{lane_of}
-use Rattle.zk_through.specs.declared.turn.Turn.{Turn}
-use Rattle.zk_through.specs.declared.turns.Due.{Due}
+use Rattle.zk_through.specs.{declared.turn.Turn.Turn, declared.turns.Due.Due, Came.Came}
 use Rattle.zk_through.specs.declared.turns.Due.TheVariants as dues
-use Rattle.zk_through.specs.Came.{Came}
 use Rattle.zk_through.specs.LeftOut.{xid_of, number_of, asked, replied, IsLackedUnder}
 
 -- the requests of each lane that wait, the oldest first; how many of all are left out; for how many a lane has room

@@ -1,10 +1,8 @@
 //! What is known of a frame by its header alone.
 ghost use Rattle.std.specs.Prelude.{◌≡◌, ◌≤◌, true, false, Some, IfSome, IfNone};
 ghost use Rattle.zk_frames.specs.Framing.{IsFrame};
-ghost use Rattle.zk_through.specs.declared.turn.Turn.{Turn};
+ghost use Rattle.zk_through.specs.{declared.turn.Turn.Turn, Turns.turn_of, Turns.IsLacked, Runs.TellsRequest, Runs.TellsReply, Runs.IsWeighed};
 ghost use Rattle.zk_through.specs.LeftOut.{is_turn_xid, has_turn, xid_of, zxid_of, err_of};
-ghost use Rattle.zk_through.specs.Turns.{turn_of, IsLacked};
-ghost use Rattle.zk_through.specs.Runs.{TellsRequest, TellsReply, IsWeighed};
 
 use crate::turn::{Turn, is_lacked};
 use zk_asks::{Asked, ClientFrameOf, RequestRef, borrow_ask};

@@ -1,14 +1,8 @@
 //! What a passage holds, in numbers.
 ghost use Rattle.std.specs.Prelude.{◌≡◌, ◌≤◌, ◌+◌, List, [], length, MatchOption};
 ghost use Rattle.zk_frames.specs.Framing.{frame};
-ghost use Rattle.zk_talk.specs.Conversation.{load};
-ghost use Rattle.zk_talk.specs.Held.{Message};
-ghost use Rattle.zk_talk.specs.History.{History};
-ghost use Rattle.zk_talk.specs.Stands.{held_on, kept_on};
-ghost use Rattle.zk_through.specs.Came.{Came};
-ghost use Rattle.zk_through.specs.LeftOut.{NewestAnswers};
-ghost use Rattle.zk_through.specs.Turns.{left_out};
-ghost use Rattle.zk_through.specs.Runs.{ThroughState, Runs, WhereItRuns, KeepsWaiting, stream_on, left_on};
+ghost use Rattle.zk_talk.specs.{Conversation.load, Held.Message, History.History, Stands.held_on, Stands.kept_on};
+ghost use Rattle.zk_through.specs.{Came.Came, LeftOut.NewestAnswers, Turns.left_out, Runs.ThroughState, Runs.Runs, Runs.WhereItRuns, Runs.KeepsWaiting, Runs.stream_on, Runs.left_on};
 
 use crate::through::{Through, weight_waiting};
 use zk_talk::Side;

@@ -1,9 +1,7 @@
 //! `Through::join`: a connection that is seen late.
 ghost use Rattle.std.specs.Prelude.{◌≡◌, ℕ, List, true, IfOk};
 ghost use Rattle.zk_talk.specs.Held.{Message};
-ghost use Rattle.zk_through.specs.Came.{told};
-ghost use Rattle.zk_through.specs.Unseen.{made_up};
-ghost use Rattle.zk_through.specs.Runs.{Runs, GoesOnTold};
+ghost use Rattle.zk_through.specs.{Came.told, Unseen.made_up, Runs.Runs, Runs.GoesOnTold};
 
 use crate::through::{Through, Went};
 use std::alloc::{AllocError, Global};

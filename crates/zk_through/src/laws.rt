@@ -1,9 +1,7 @@
 //! The laws of what the talk gets of the frames that came.
 ghost use Rattle.std.specs.Prelude.{◌≡◌, Bool};
 ghost use Rattle.zk_records.specs.declared.profile.Profile.{Profile};
-ghost use Rattle.zk_through.specs.Came.{Came};
-ghost use Rattle.zk_through.specs.LeftOut.{Kept, HasNoneOut};
-ghost use Rattle.zk_through.specs.Unseen.{Seen};
+ghost use Rattle.zk_through.specs.{Came.Came, LeftOut.Kept, LeftOut.HasNoneOut, Unseen.Seen};
 
 /// One list of the frames is seen, and one list of these the talk gets: all where none is left out. The function does
 /// nothing.

@@ -1,23 +1,10 @@
 //! `Through`: a conversation, with what its profile lacks left out.
 ghost use Rattle.std.specs.Prelude.{◌≡◌, ◌≤◌, ◌<◌, ◌+◌, ◌-◌, ℕ, List, [], length, true, false, None, Some, Err, OnOk, OnErr, IfOk, IfErr, MatchOption};
 ghost use Rattle.zk_frames.specs.Framing.{frame};
-ghost use Rattle.zk_talk.specs.declared.message.Fault.{Fault};
-ghost use Rattle.zk_talk.specs.declared.message.Ending.TheVariants.{Refused};
+ghost use Rattle.zk_talk.specs.{declared.message.Fault.Fault, declared.message.Ending.TheVariants.Refused, Fault.side_limit, Conversation.load, Good.clients, Good.servers, History.History, Sound.IsKnown, Streams.IsAtFrame, Streams.passed};
 ghost use Rattle.zk_talk.specs.declared.message.Side.TheVariants.{Client, Server};
-ghost use Rattle.zk_talk.specs.Fault.{side_limit};
-ghost use Rattle.zk_talk.specs.Conversation.{load};
-ghost use Rattle.zk_talk.specs.Good.{clients, servers};
-ghost use Rattle.zk_talk.specs.History.{History};
-ghost use Rattle.zk_talk.specs.Sound.{IsKnown};
-ghost use Rattle.zk_talk.specs.Streams.{IsAtFrame, passed};
-ghost use Rattle.zk_talk.specs.Held.{Message};
-ghost use Rattle.zk_talk.specs.Stands.{Stands, WhereItStands, kept_on};
-ghost use Rattle.zk_talk.specs.Ending.{unwelcomed};
-ghost use Rattle.zk_talk.specs.Viewed.{Leaves, Shows, other_side};
-ghost use Rattle.zk_through.specs.Came.{Came};
-ghost use Rattle.zk_through.specs.declared.through.Passed.{Passed};
-ghost use Rattle.zk_through.specs.declared.through.Went.{Went};
-ghost use Rattle.zk_through.specs.Turns.{HaveRoom, left_out};
+ghost use Rattle.zk_talk.specs.{Held.Message, Stands.Stands, Stands.WhereItStands, Stands.kept_on, Ending.unwelcomed, Viewed.Leaves, Viewed.Shows, Viewed.other_side};
+ghost use Rattle.zk_through.specs.{Came.Came, declared.through.Passed.Passed, declared.through.Went.Went, Turns.HaveRoom, Turns.left_out};
 ghost use Rattle.zk_through.specs.Runs.{ThroughState, WentOn, IsRefused, IsTold, IsNotTold, IsKeptAt, IsNeverFull, IsEndOf, Runs, WaitsAfter, KeepsTalk, KeepsWaiting, given_up, LeavesSide};
 
 use crate::ahead::{asked, lacking, replied, weight};

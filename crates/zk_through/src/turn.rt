@@ -1,7 +1,6 @@
 //! `Turn`: a request, by its header.
 ghost use Rattle.std.specs.Prelude.{◌≡◌, MatchBool};
-ghost use Rattle.zk_through.specs.LeftOut.{may_be_out};
-ghost use Rattle.zk_through.specs.Turns.{IsLacked};
+ghost use Rattle.zk_through.specs.{LeftOut.may_be_out, Turns.IsLacked};
 
 use zk_records::{Profile, op_of};
 use zk_waiting::{Lane, lane_of};

@@ -1,7 +1,6 @@
 //! `Turns`: which requests wait for their replies, by lanes, and how many of them are left out.
 ghost use Rattle.std.specs.Prelude.{◌≡◌, ◌<◌, ◌+◌, ◌-◌, ◌^◌, drop, slice_get, IfOk, MatchBool};
-ghost use Rattle.std.specs.List.{list_any};
-ghost use Rattle.std.specs.Ordering.{int_eq};
+ghost use Rattle.std.specs.{List.list_any, Ordering.int_eq};
 ghost use Rattle.zk_waiting.specs.Lane.{lane_of};
 ghost use Rattle.zk_through.specs.Turns.{Judges, TellsFrame, no_turns, and_turn, waits_on, with_waits, after_request, after_left, after_reply, after_answer, IsEarlier, matched_after};
 

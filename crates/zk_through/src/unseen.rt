@@ -1,9 +1,7 @@
 //! Whether a reply is to a request that wasn't seen, of a connection that is seen late.
 ghost use Rattle.std.specs.Prelude.{◌≡◌, true, IfSome, IfNone, MatchBool};
 ghost use Rattle.zk_frames.specs.Framing.{IsFrame};
-ghost use Rattle.zk_through.specs.Turns.{IsEarlier, matched_after};
-ghost use Rattle.zk_through.specs.LeftOut.{xid_of};
-ghost use Rattle.zk_through.specs.Runs.{IsAhead, IsHeader};
+ghost use Rattle.zk_through.specs.{Turns.IsEarlier, Turns.matched_after, LeftOut.xid_of, Runs.IsAhead, Runs.IsHeader};
 
 use crate::ahead::header;
 use crate::turns::{Turns, has_matched};

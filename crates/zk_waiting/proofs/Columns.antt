@@ -1,16 +1,10 @@
 -- Columns over one list of rows, after one more or one less.
 use Rattle.std.proofs.Common.{◌≡◌, ℕ, suc, ◌+◌, ◌-◌, ◌<◌, ◌≤◌, ◌^◌, inl, inr, List, [], ◌∷◌, ◌++◌, length, drop, refl, sym, ap, ◌∙◌, subst, Bool, true, false, Option, Some, None, arith}
 use Rattle.std.specs.Prelude.{slice_get, slice_set, option_map, if◌then◌else◌, nat_le}
-use Rattle.std.proofs.lemmas.Bool.{cases_eq, cases_lt}
-use Rattle.std.proofs.lemmas.Bool.Decides.{nat_tests}
-use Rattle.std.proofs.lemmas.List.{length-set, length_push, drop_all}
-use Rattle.std.proofs.lemmas.Option.{slice_get_within, slice_get_past}
+use Rattle.std.proofs.{lemmas.Bool.cases_eq, lemmas.Bool.cases_lt, lemmas.Bool.Decides.nat_tests, lemmas.List.length-set, lemmas.List.length_push, lemmas.List.drop_all, lemmas.Option.slice_get_within, lemmas.Option.slice_get_past}
 use Rattle.circular_buffer.proofs.Places.{slice_get-some, slice_get-set_same, slice_get-set_other, slice_get-append_left, slice_get-last}
-use Rattle.zk_waiting.specs.declared.row.Column.{Column}
+use Rattle.zk_waiting.specs.{declared.row.Column.Column, declared.row.Row.Row, declared.span.Span.Span, declared.span.Spans.Spans}
 use Rattle.zk_waiting.specs.declared.row.Column.TheVariants.{Ping, Auth, Watches, Plain, Part}
-use Rattle.zk_waiting.specs.declared.row.Row.{Row}
-use Rattle.zk_waiting.specs.declared.span.Span.{Span}
-use Rattle.zk_waiting.specs.declared.span.Spans.{Spans}
 use Rattle.zk_waiting.specs.Columns.{count_on, with_item, without_oldest, with_column, span_on, with_span, no_span, rest_of, walk, standing, item_at, items, ping_of, auth_of, watches_of, plain_of, part_of, columns, IsLaid, AreLaid, IsSet}
 use Rattle.zk_waiting.proofs.Places.{walk_is, walk_small, apart, walk_within, same_standing, push_standing, length_standing, drop_standing, get_standing}
 

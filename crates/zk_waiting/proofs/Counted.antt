@@ -2,18 +2,12 @@
 use Rattle.std.proofs.Common.{◌≡◌, ◌≢◌, ℕ, ◌+◌, ◌<◌, ◌≤◌, List, [], ◌∷◌, ◌++◌, length, map, refl, sym, ◌∙◌, subst, Bool, true, false, arith}
 use Rattle.std.specs.Prelude.{ℤ, negsuc, if◌then◌else◌}
 use Rattle.std.specs.Ordering.{int_eq}
-use Rattle.std.proofs.lemmas.Bool.Decides.{Decides-int_eq}
-use Rattle.std.proofs.lemmas.List.{map-append}
-use Rattle.std.proofs.lemmas.List.Sums.{sum_by-cons}
-use Rattle.zk_records.specs.declared.op.Op.{Op}
+use Rattle.std.proofs.{lemmas.Bool.Decides.Decides-int_eq, lemmas.List.map-append, lemmas.List.Sums.sum_by-cons}
+use Rattle.zk_records.specs.{declared.op.Op.Op, declared.op.PartOp.PartOp}
 use Rattle.zk_records.specs.declared.op.Op.TheVariants as ops
-use Rattle.zk_records.specs.declared.op.PartOp.{PartOp}
 use Rattle.zk_asks.specs.Codes.{ping_xid, auth_xid, watches_xid, IsAllowed}
-use Rattle.zk_waiting.specs.Lane.{lane_of}
-use Rattle.zk_waiting.specs.declared.lane.Lane.{Lane}
+use Rattle.zk_waiting.specs.{Lane.lane_of, declared.lane.Lane.Lane, Awaited.bare, Awaited.numbered, Columns.Columns, Columns.column_of, Columns.numbers_on, Columns.with_numbers}
 use Rattle.zk_waiting.specs.declared.lane.Lane.TheVariants.{Ping, Auth, Watches, Plain}
-use Rattle.zk_waiting.specs.Awaited.{bare, numbered}
-use Rattle.zk_waiting.specs.Columns.{Columns, column_of, numbers_on, with_numbers}
 use Rattle.zk_waiting.specs.Waiting.{Request, Lanes, request_weight, queue_weight, weight_of, IsPut, IsWeighed}
 use Rattle.zk_waiting.proofs.Weights.{queue_weight_push}
 

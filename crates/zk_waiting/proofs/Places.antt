@@ -1,11 +1,8 @@
 -- Places that go round at the end, and what stands at them.
 use Rattle.std.proofs.Common.{◌≡◌, ◌≢◌, ℕ, zero, suc, ◌+◌, ◌-◌, ◌<◌, ◌≤◌, ◌⊎◌, inl, inr, [], ◌∷◌, ◌++◌, length, drop, refl, sym, ap, ◌∙◌, true, false, Option, Some, arith}
 use Rattle.std.specs.Prelude.{if◌then◌else◌, nat_eq, option_to_list, slice_get}
-use Rattle.std.proofs.lemmas.Bool.{cases_eq}
-use Rattle.std.proofs.lemmas.Bool.Decides.{nat_tests}
-use Rattle.std.proofs.lemmas.List.{append_assoc}
-use Rattle.zk_waiting.specs.Columns.{next_place, walk, standing, IsLaid}
-use Rattle.zk_waiting.specs.declared.span.Span.{Span}
+use Rattle.std.proofs.{lemmas.Bool.cases_eq, lemmas.Bool.Decides.nat_tests, lemmas.List.append_assoc}
+use Rattle.zk_waiting.specs.{Columns.next_place, Columns.walk, Columns.standing, Columns.IsLaid, declared.span.Span.Span}
 
 pub next_is : (room p : ℕ) → ((suc p ≡ room) × (next_place room p ≡ 0)) ⊎ ((suc p ≢ room) × (next_place room p ≡ suc p))
 next_is room p = elim (cases_eq (suc p) room) [

@@ -1,17 +1,9 @@
 -- The requests that wait, in columns over one list of rows: a column's stand from a place on, and go round at the end.
 use Rattle.std.specs.Prelude.{◌≡◌, ℕ, zero, suc, ◌+◌, ◌<◌, ◌≤◌, ◌^◌, ◌⊎◌, List, [], ◌∷◌, ◌++◌, length, drop, Option, Some, None, slice_get, option_map, option_to_list, if◌then◌else◌, nat_eq, nat_le, ◌-◌}
-use Rattle.zk_records.specs.declared.op.PartOp.{PartOp}
-use Rattle.zk_records.specs.declared.op.PartOp.TheVariants.{Check}
-use Rattle.zk_waiting.specs.declared.entry.Entry.{Entry}
-use Rattle.zk_waiting.specs.declared.row.Column.{Column}
+use Rattle.zk_records.specs.{declared.op.PartOp.PartOp, declared.op.PartOp.TheVariants.Check}
+use Rattle.zk_waiting.specs.{declared.entry.Entry.Entry, declared.row.Column.Column, declared.lane.Lane.Lane, declared.row.Row.Row, declared.span.Span.Span, declared.span.Spans.Spans, Rings.parts_count, Waiting.Request}
 use Rattle.zk_waiting.specs.declared.row.Column.TheVariants.{Ping, Auth, Watches, Plain, Part}
-use Rattle.zk_waiting.specs.declared.lane.Lane.{Lane}
 use Rattle.zk_waiting.specs.declared.lane.Lane.TheVariants as lanes
-use Rattle.zk_waiting.specs.declared.row.Row.{Row}
-use Rattle.zk_waiting.specs.declared.span.Span.{Span}
-use Rattle.zk_waiting.specs.declared.span.Spans.{Spans}
-use Rattle.zk_waiting.specs.Rings.{parts_count}
-use Rattle.zk_waiting.specs.Waiting.{Request}
 
 -- of each special lane the numbers of frames, of the plain lane items of X, and operations of parts, each with the oldest
 -- first; and for how many each has room

@@ -3,8 +3,7 @@
 ghost use Rattle.std.specs.Prelude.{◌≡◌, ◌+◌, ◌<◌, ◌≤◌, ◌↔◌, [], length, IfOk, OnOk, IfErr, IfSome, IsTrue};
 ghost use Rattle.std.specs.List.{slice_get};
 ghost use Rattle.zk_asks.specs.Codes.{IsAllowed};
-ghost use Rattle.zk_waiting.specs.Awaited.{bare_of};
-ghost use Rattle.zk_waiting.specs.Lane.{lane_of};
+ghost use Rattle.zk_waiting.specs.{Awaited.bare_of, Lane.lane_of};
 ghost use Rattle.zk_waiting.specs.Waiting.{weight_of, count_of, queue_on, IsPut, IsDropped, IsPutFault, IsFit};
 
 use crate::lane::{Lane, lane_of};

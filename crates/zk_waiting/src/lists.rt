@@ -1,7 +1,6 @@
 //! `Lists`: the requests of four lanes, of which those of the special ones have only the numbers of their frames.
 ghost use Rattle.std.specs.Prelude.{◌≡◌, ◌+◌, ◌<◌, ◌≤◌, ◌^◌, [], ◌∷◌, ◌++◌, length, drop, slice_get, IfOk, IfSome};
-ghost use Rattle.zk_waiting.specs.Columns.{no_columns, numbers_on, with_numbers, with_plain};
-ghost use Rattle.zk_waiting.specs.Waiting.{queue_weight, IsFit};
+ghost use Rattle.zk_waiting.specs.{Columns.no_columns, Columns.numbers_on, Columns.with_numbers, Columns.with_plain, Waiting.queue_weight, Waiting.IsFit};
 
 use crate::entry::Entry;
 use crate::oldest::Oldest;

@@ -1,7 +1,6 @@
 //! Tests of the engines over memory, where their contracts name the bytes.
 ghost use Rattle.std.specs.Prelude.{List, ℕ, [], Option, Some, IfOk};
-ghost use Rattle.zk_listings.specs.declared.listing.Listing.TheVariants.{Last};
-ghost use Rattle.zk_listings.specs.Running.{HasListed};
+ghost use Rattle.zk_listings.specs.{declared.listing.Listing.TheVariants.Last, Running.HasListed};
 ghost use Rattle.zk_runs.specs.Building.{HasBuilt};
 
 use super::memory::{MemorySink, MemorySource};

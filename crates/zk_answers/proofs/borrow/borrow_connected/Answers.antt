@@ -1,7 +1,5 @@
-use Rattle.zk_answers.specs.Frames.{IsConnected}
-use Rattle.zk_answers.specs.Faults.{IsConnectedFault}
-use Rattle.zk_answers.proofs.Connected.{connected_injective, connected_excludes}
-use Rattle.zk_answers.proofs.Scanned.{only_it}
+use Rattle.zk_answers.specs.{Frames.IsConnected, Faults.IsConnectedFault}
+use Rattle.zk_answers.proofs.{Connected.connected_injective, Connected.connected_excludes, Scanned.only_it}
 use Rattle.zk_answers.proofs.borrow.borrow_connected.Goals as goal
 
 pub returns-clause-only : goal.returns-clause-only

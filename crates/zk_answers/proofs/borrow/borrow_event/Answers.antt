@@ -1,10 +1,7 @@
 use Rattle.std.proofs.Common.{Err, inr, drop}
 use Rattle.std.proofs.lemmas.Result.{err_from_is_err_and}
-use Rattle.zk_answers.specs.Frames.{IsEvent}
-use Rattle.zk_answers.specs.Faults.{IsEventFault}
-use Rattle.zk_answers.proofs.Refusals.{head_of, event_short}
-use Rattle.zk_answers.proofs.Events.{event_injective, event_excludes}
-use Rattle.zk_answers.proofs.Scanned.{only_it}
+use Rattle.zk_answers.specs.{Frames.IsEvent, Faults.IsEventFault}
+use Rattle.zk_answers.proofs.{Refusals.head_of, Refusals.event_short, Events.event_injective, Events.event_excludes, Scanned.only_it}
 use Rattle.zk_answers.proofs.borrow.borrow_event.Goals as goal
 
 pub returns-in_err-head-clause-fault : goal.returns-in_err-head-clause-fault

@@ -1,10 +1,7 @@
 use Rattle.std.proofs.Common.{◌≡◌, Ok, Err, refl, sym, subst}
 use Rattle.std.proofs.lemmas.Result.{err_from_is_err_and}
-use Rattle.zk_answers.specs.Held.{ServerFrame}
-use Rattle.zk_answers.specs.Frames.{IsEvent, IsSent, payload}
-use Rattle.zk_answers.specs.Faults.{IsEventFault}
-use Rattle.zk_answers.proofs.Events.{event_injective, event_excludes}
-use Rattle.zk_answers.proofs.Scanned.{only_it}
+use Rattle.zk_answers.specs.{Held.ServerFrame, Frames.IsEvent, Frames.IsSent, Frames.payload, Faults.IsEventFault}
+use Rattle.zk_answers.proofs.{Events.event_injective, Events.event_excludes, Scanned.only_it}
 use Rattle.zk_answers.proofs.borrow.borrow_event_under.Goals as goal
 
 pub event_ref-requires : goal.event_ref-requires

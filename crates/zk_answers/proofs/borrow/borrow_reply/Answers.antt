@@ -1,10 +1,7 @@
 use Rattle.std.proofs.Common.{Err, inr, drop}
 use Rattle.std.proofs.lemmas.Result.{err_from_is_err_and}
-use Rattle.zk_answers.specs.Frames.{IsReplyTo}
-use Rattle.zk_answers.specs.Faults.{IsReplyFault}
-use Rattle.zk_answers.proofs.Refusals.{head_of, reply_short}
-use Rattle.zk_answers.proofs.Replies.{reply_injective, reply_excludes}
-use Rattle.zk_answers.proofs.Scanned.{only_it}
+use Rattle.zk_answers.specs.{Frames.IsReplyTo, Faults.IsReplyFault}
+use Rattle.zk_answers.proofs.{Refusals.head_of, Refusals.reply_short, Replies.reply_injective, Replies.reply_excludes, Scanned.only_it}
 use Rattle.zk_answers.proofs.borrow.borrow_reply.Goals as goal
 
 pub returns-in_err-head-clause-fault : goal.returns-in_err-head-clause-fault

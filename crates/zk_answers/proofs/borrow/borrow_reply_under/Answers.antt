@@ -1,12 +1,9 @@
 use Rattle.std.proofs.Common.{◌≡◌, Ok, Err, refl, sym, subst}
 use Rattle.std.proofs.lemmas.Result.{err_from_is_err_and}
 use Rattle.zk_records.specs.declared.op.Op.{Op}
-use Rattle.zk_answers.specs.Held.{ServerFrame}
+use Rattle.zk_answers.specs.{Held.ServerFrame, Frames.IsReplyTo, Frames.IsSent, Frames.payload, Faults.IsReplyFault}
 use Rattle.zk_answers.specs.declared.frame.ServerFrameOf.TheVariants as frame
-use Rattle.zk_answers.specs.Frames.{IsReplyTo, IsSent, payload}
-use Rattle.zk_answers.specs.Faults.{IsReplyFault}
-use Rattle.zk_answers.proofs.Replies.{reply_injective, reply_excludes}
-use Rattle.zk_answers.proofs.Scanned.{only_it}
+use Rattle.zk_answers.proofs.{Replies.reply_injective, Replies.reply_excludes, Scanned.only_it}
 use Rattle.zk_answers.proofs.borrow.borrow_reply_under.Goals as goal
 
 pub known_reply-requires : goal.known_reply-requires

@@ -1,17 +1,12 @@
 use Rattle.std.specs.Int.{w32}
 use Rattle.std.proofs.Common.{of_z, to_z, ◌∷◌, [], inl, inr, ap, sym, ◌∙◌}
-use Rattle.std.proofs.lemmas.Int.{to_z-of_z}
-use Rattle.std.proofs.lemmas.Result.{err_from_is_err_and}
-use Rattle.zk_jute.specs.Item.{AnInt}
-use Rattle.zk_jute.specs.Layout.{IsValueOf}
-use Rattle.zk_jute.specs.Told.{StandsAt, HasSureFault}
-use Rattle.zk_jute.specs.Wired.{int}
+use Rattle.std.proofs.{lemmas.Int.to_z-of_z, lemmas.Result.err_from_is_err_and}
+use Rattle.zk_jute.specs.{Item.AnInt, Layout.IsValueOf, Told.StandsAt, Told.HasSureFault, Wired.int}
 use Rattle.zk_jute.proofs.Judged.{says_more, errs_more, says_told, says_one}
 use Rattle.zk_records.specs.Records.{multi_header}
 use Rattle.zk_asks.specs.Parts.{marked}
 use Rattle.zk_asks.proofs.Knowing.{of_answer}
-use Rattle.zk_answers.proofs.Outcomes.{result_mark, result_bad, error_inside, error_differs}
-use Rattle.zk_answers.proofs.Lying.{own_found, own_fault, error_found}
+use Rattle.zk_answers.proofs.{Outcomes.result_mark, Outcomes.result_bad, Outcomes.error_inside, Outcomes.error_differs, Lying.own_found, Lying.own_fault, Lying.error_found}
 use Rattle.zk_answers.proofs.done_list.done_end.Goals as goal
 
 pub returns-in_err-header-clause-fault : goal.returns-in_err-header-clause-fault

@@ -1,13 +1,8 @@
 use Rattle.std.proofs.Common.{◌≡◌, ◌+◌, ◌∷◌, ◌++◌, List, Bool, true, false, inr, take, drop, [], sym, subst, ◌∙◌, arith}
 use Rattle.std.proofs.lemmas.Result.{err_from_is_err_and}
-use Rattle.zk_jute.specs.Reading.{told_place}
-use Rattle.zk_jute.specs.Layout.{IsValueOf}
-use Rattle.zk_jute.specs.Told.{StandsAt, HasSureFault, IsToldAt}
-use Rattle.zk_jute.specs.declared.fault.Reason.TheVariants.{BadPart}
-use Rattle.zk_jute.proofs.Stretches.{none_passed, one_passed}
-use Rattle.zk_jute.proofs.Judged.{says_more, says_told, says_one}
-use Rattle.zk_records.specs.Records.{multi_header}
-use Rattle.zk_records.specs.declared.op.PartOp.{PartOp}
+use Rattle.zk_jute.specs.{Reading.told_place, Layout.IsValueOf, Told.StandsAt, Told.HasSureFault, Told.IsToldAt, declared.fault.Reason.TheVariants.BadPart}
+use Rattle.zk_jute.proofs.{Stretches.none_passed, Stretches.one_passed, Judged.says_more, Judged.says_told, Judged.says_one}
+use Rattle.zk_records.specs.{Records.multi_header, declared.op.PartOp.PartOp}
 use Rattle.zk_asks.specs.Parts.{marked, end_header}
 use Rattle.zk_asks.proofs.Knowing.{of_answer}
 use Rattle.zk_answers.specs.Results.{done_items, AnswerAll, MayAnswer, IsDoneFault}

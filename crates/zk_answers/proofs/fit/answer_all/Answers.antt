@@ -1,12 +1,9 @@
 use Rattle.std.proofs.Common.{◌≡◌, ◌∙◌, ◌<◌, ◌+◌, ◌++◌, ◌∷◌, [], List, Some, Bool, true, false, take, length, refl, sym, ap, subst, arith}
 use Rattle.std.specs.List.{slice_get}
-use Rattle.std.proofs.lemmas.List.{take_more}
-use Rattle.std.proofs.lemmas.Option.{slice_get_read}
+use Rattle.std.proofs.{lemmas.List.take_more, lemmas.Option.slice_get_read}
 use Rattle.zk_records.specs.declared.op.PartOp.{PartOp}
-use Rattle.zk_answers.specs.Held.{PartDone}
-use Rattle.zk_answers.specs.Results.{AnswerAll}
-use Rattle.zk_answers.proofs.Outcomes.{answers_push, take_some}
-use Rattle.zk_answers.proofs.Forms.{answers_length, answered_at, some_below}
+use Rattle.zk_answers.specs.{Held.PartDone, Results.AnswerAll}
+use Rattle.zk_answers.proofs.{Outcomes.answers_push, Outcomes.take_some, Forms.answers_length, Forms.answered_at, Forms.some_below}
 use Rattle.zk_answers.proofs.fit.answer_all.Goals as goal
 
 pub returns-then-parts-dones : goal.returns-then-parts-dones

@@ -1,6 +1,5 @@
 use Rattle.std.proofs.Common.{◌≡◌, take, map}
-use Rattle.zk_asks.specs.Frames.{parts_of_ask}
-use Rattle.zk_asks.specs.Parts.{op_of_part}
+use Rattle.zk_asks.specs.{Frames.parts_of_ask, Parts.op_of_part}
 use Rattle.zk_answers.proofs.form.form_of.Given as goal
 
 abbrev pub invariant-loop-part : goal.invariant-loop-part

@@ -1,16 +1,12 @@
 use Rattle.std.proofs.Common.{inr, ◌≡◌, sym, ap, subst, ◌∙◌, of_z, to_z, arith, List}
 use Rattle.std.specs.Prelude.{pos}
 use Rattle.std.specs.Int.{w32}
-use Rattle.std.proofs.lemmas.Int.{to_z-of_z}
-use Rattle.std.proofs.lemmas.Result.{err_from_is_err_and}
-use Rattle.zk_jute.specs.Item.{Item, HaveBytes}
-use Rattle.zk_jute.specs.Told.{StandsAt}
+use Rattle.std.proofs.{lemmas.Int.to_z-of_z, lemmas.Result.err_from_is_err_and}
+use Rattle.zk_jute.specs.{Item.Item, Item.HaveBytes, Told.StandsAt}
 use Rattle.zk_jute.proofs.Judged.{says_more, says_one}
 use Rattle.zk_records.proofs.Covered.{watcher_event_covered}
 use Rattle.zk_answers.specs.declared.frame.ServerFrameOf.TheVariants as frame
-use Rattle.zk_answers.proofs.Ends.{behind_header, header_there}
-use Rattle.zk_answers.proofs.Heads.{head_is}
-use Rattle.zk_answers.proofs.Refusals.{event_err, event_inside, event_left, event_found}
+use Rattle.zk_answers.proofs.{Ends.behind_header, Ends.header_there, Heads.head_is, Refusals.event_err, Refusals.event_inside, Refusals.event_left, Refusals.event_found}
 use Rattle.zk_answers.proofs.judge.judge_event.Goals as goal
 
 pub end-requires : goal.end-requires

@@ -1,15 +1,10 @@
 use Rattle.std.proofs.Common.{sym, subst, ◌∙◌, arith}
 use Rattle.std.specs.Prelude.{ℤ}
 use Rattle.std.specs.Int.{w32}
-use Rattle.std.proofs.lemmas.Int.{to_z-of_z}
-use Rattle.std.proofs.lemmas.Result.{err_from_is_err_and}
+use Rattle.std.proofs.{lemmas.Int.to_z-of_z, lemmas.Result.err_from_is_err_and}
 use Rattle.zk_jute.proofs.Judged.{says_more, says_one}
-use Rattle.zk_answers.specs.Frames.{rest_items}
-use Rattle.zk_answers.specs.Faults.{IsOfShape, rest_shape}
-use Rattle.zk_answers.proofs.Ends.{behind_header, header_there, reply_there}
-use Rattle.zk_answers.proofs.Heads.{head_is}
-use Rattle.zk_answers.proofs.Replies.{rest_is}
-use Rattle.zk_answers.proofs.Refusals.{reply_inside, reply_left}
+use Rattle.zk_answers.specs.{Frames.rest_items, Faults.IsOfShape, Faults.rest_shape}
+use Rattle.zk_answers.proofs.{Ends.behind_header, Ends.header_there, Ends.reply_there, Heads.head_is, Replies.rest_is, Refusals.reply_inside, Refusals.reply_left}
 use Rattle.zk_answers.proofs.judge.judge_reply.Goals as goal
 
 pub outcome_end-requires : goal.outcome_end-requires

@@ -1,7 +1,6 @@
 use Rattle.std.proofs.Common.{◌∙◌, refl}
 use Rattle.zk_records.specs.declared.op.Op.TheVariants as ops
-use Rattle.zk_answers.proofs.Lying.{done_read, dones_headed}
-use Rattle.zk_answers.proofs.Knowing.{content_there, content_is}
+use Rattle.zk_answers.proofs.{Lying.done_read, Lying.dones_headed, Knowing.content_there, Knowing.content_is}
 use Rattle.zk_answers.proofs.known.known_body.Goals as goal
 
 pub returns-in-Exists : goal.returns-in-Exists

@@ -3,8 +3,7 @@ use Rattle.std.specs.Int.{w32, w64}
 use Rattle.std.proofs.lemmas.Int.{to_z-of_z}
 use Rattle.zk_records.specs.Records.{reply_header}
 use Rattle.zk_asks.proofs.Knowing.{found_there, ends_within}
-use Rattle.zk_answers.proofs.Knowing.{header_stands, stands_behind, is_failed, is_done}
-use Rattle.zk_answers.proofs.known.known_reply.Goals.{in-Some, in-None}
+use Rattle.zk_answers.proofs.{Knowing.header_stands, Knowing.stands_behind, Knowing.is_failed, Knowing.is_done, known.known_reply.Goals.in-Some, known.known_reply.Goals.in-None}
 use Rattle.zk_answers.proofs.known.known_reply.Goals as goal
 
 pub known_at-place-requires : goal.known_at-place-requires

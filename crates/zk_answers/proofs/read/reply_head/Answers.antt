@@ -1,7 +1,6 @@
 use Rattle.std.proofs.Common.{arith}
 use Rattle.std.specs.Int.{w32, w64}
-use Rattle.std.proofs.lemmas.Int.{to_z-of_z}
-use Rattle.std.proofs.lemmas.Result.{err_from_is_err_and}
+use Rattle.std.proofs.{lemmas.Int.to_z-of_z, lemmas.Result.err_from_is_err_and}
 use Rattle.zk_answers.proofs.Shorts.{no_xid, no_zxid, no_err, whole_head}
 use Rattle.zk_answers.proofs.read.reply_head.Goals as goal
 

@@ -1,8 +1,7 @@
 use Rattle.std.proofs.Common.{◌≡◌, sym, ap, subst}
 use Rattle.std.specs.Prelude.{Some}
-use Rattle.zk_asks.specs.Held.{ClientFrame}
+use Rattle.zk_asks.specs.{Held.ClientFrame, Frames.IsSent, Frames.IsLater, Frames.IsOfProfile, Frames.payload}
 use Rattle.zk_asks.specs.declared.frame.ClientFrameOf.TheVariants as frame
-use Rattle.zk_asks.specs.Frames.{IsSent, IsLater, IsOfProfile, payload}
 use Rattle.zk_asks.proofs.borrow.ask_ref.Goals as goal
 
 pub judged_request-requires : goal.judged_request-requires

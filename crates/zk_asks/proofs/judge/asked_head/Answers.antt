@@ -1,15 +1,12 @@
 use Rattle.std.proofs.Common.{◌≡◌, Bool, true, false, inr, sym, subst, ◌∙◌}
 use Rattle.std.specs.Prelude.{ℤ}
 use Rattle.std.specs.Int.{w32}
-use Rattle.std.proofs.lemmas.Int.{to_z-of_z}
-use Rattle.std.proofs.lemmas.Result.{err_from_is_err_and}
-use Rattle.zk_jute.specs.Layout.{IsValueOf}
-use Rattle.zk_jute.specs.Told.{StandsAt, HasSureFault}
+use Rattle.std.proofs.{lemmas.Int.to_z-of_z, lemmas.Result.err_from_is_err_and}
+use Rattle.zk_jute.specs.{Layout.IsValueOf, Told.StandsAt, Told.HasSureFault}
 use Rattle.zk_jute.proofs.Judged.{says_more, says_told, says_one}
 use Rattle.zk_records.specs.Records.{request_header}
 use Rattle.zk_asks.specs.Codes.{IsAllowed}
-use Rattle.zk_asks.proofs.Asks.{refused_header, refused_op, refused_xid}
-use Rattle.zk_asks.proofs.Knowing.{of_answer}
+use Rattle.zk_asks.proofs.{Asks.refused_header, Asks.refused_op, Asks.refused_xid, Knowing.of_answer}
 use Rattle.zk_asks.proofs.judge.asked_head.Goals as goal
 
 pub returns-in_err-header-clause-fault : goal.returns-in_err-header-clause-fault

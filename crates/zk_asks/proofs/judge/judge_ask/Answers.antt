@@ -1,7 +1,6 @@
 use Rattle.std.proofs.Common.{arith}
 use Rattle.std.specs.Int.{w32}
-use Rattle.std.proofs.lemmas.Int.{to_z-of_z}
-use Rattle.std.proofs.lemmas.Result.{err_from_is_err_and}
+use Rattle.std.proofs.{lemmas.Int.to_z-of_z, lemmas.Result.err_from_is_err_and}
 use Rattle.zk_jute.proofs.Judged.{says_more, says_one}
 use Rattle.zk_asks.proofs.Ends.{fault_behind, rest_behind, all_there}
 use Rattle.zk_asks.proofs.judge.judge_ask.Goals as goal

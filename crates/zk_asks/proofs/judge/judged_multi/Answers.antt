@@ -1,6 +1,5 @@
 use Rattle.std.proofs.Common.{length, ap, ◌∙◌, arith}
-use Rattle.zk_asks.proofs.Lying.{parts_counted, parts_there}
-use Rattle.zk_asks.proofs.Judged.{parts_begin, parts_alike}
+use Rattle.zk_asks.proofs.{Lying.parts_counted, Lying.parts_there, Judged.parts_begin, Judged.parts_alike}
 use Rattle.zk_asks.proofs.judge.judged_multi.Goals as goal
 
 pub known-requires : goal.known-requires

@@ -1,10 +1,9 @@
 use Rattle.std.proofs.Common.{sym, ap, ◌∙◌}
 use Rattle.zk_records.specs.declared.op.Op.TheVariants as ops
 use Rattle.zk_asks.specs.declared.frame.AskOf.TheVariants as ask
-use Rattle.zk_asks.proofs.Judged.{body_one, content_is}
+use Rattle.zk_asks.proofs.{Judged.body_one, Judged.content_is, Lying.part_read, Lying.parts_headed}
 use Rattle.zk_jute.specs.Standing.{OneStands}
 use Rattle.zk_asks.specs.Parts.{multi_items}
-use Rattle.zk_asks.proofs.Lying.{part_read, parts_headed}
 use Rattle.zk_asks.proofs.known.body_there.Goals as goal
 
 pub returns-in-Create : goal.returns-in-Create

@@ -1,11 +1,9 @@
 use Rattle.std.proofs.Common.{◌≡◌, ℤ, Option, Some, None, to_z, of_z, refl, sym, ◌∙◌, arith}
 use Rattle.std.specs.Prelude.{MatchOption}
-use Rattle.std.specs.Option.{IsSome}
-use Rattle.std.specs.Int.{w32}
+use Rattle.std.specs.{Option.IsSome, Int.w32}
 use Rattle.std.proofs.lemmas.Int.{to_z-of_z}
-use Rattle.zk_records.specs.Codes.{HasOp, IsNoOp, op_number}
+use Rattle.zk_records.specs.{Codes.HasOp, Codes.IsNoOp, Codes.op_number, declared.op.Op.Op}
 use Rattle.zk_records.proofs.Numbers.{newer_has}
-use Rattle.zk_records.specs.declared.op.Op.{Op}
 use Rattle.zk_records.specs.declared.profile.Profile.TheVariants as profiles
 use Rattle.zk_asks.proofs.Knowing.{of_some, ask_header, ask_front, ask_op, ask_body, ask_is}
 use Rattle.zk_asks.proofs.known.known_ask.Goals as goal

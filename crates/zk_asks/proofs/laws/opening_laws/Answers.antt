@@ -1,6 +1,5 @@
 use Rattle.zk_records.specs.Records.{connect_request}
-use Rattle.zk_asks.proofs.Flags.{flagged_opened, flagged_cased}
-use Rattle.zk_asks.proofs.Opened.{opened, cased}
+use Rattle.zk_asks.proofs.{Flags.flagged_opened, Flags.flagged_cased, Opened.opened, Opened.cased}
 use Rattle.zk_asks.proofs.laws.opening_laws.Goals as goal
 
 pub returns-clause-first : goal.returns-clause-first

@@ -1,7 +1,5 @@
 use Rattle.std.proofs.Common.{◌≡◌, ◌+◌, ◌≤◌, ℕ, Bool, List, length, true, false, refl, sym, subst, ◌∙◌, arith}
-use Rattle.zk_jute.specs.Item.{Item, HaveBytes}
-use Rattle.zk_jute.specs.Told.{StandsAt}
-use Rattle.zk_jute.specs.Standing.{OneStands}
+use Rattle.zk_jute.specs.{Item.Item, Item.HaveBytes, Told.StandsAt, Standing.OneStands}
 use Rattle.zk_jute.proofs.Stretches.{none_passed, one_passed}
 use Rattle.zk_asks.specs.Parts.{end_header, ended}
 use Rattle.zk_asks.proofs.Ended.{behind, mark_left, next_is, end_is, all_told, all_passed}

@@ -1,7 +1,6 @@
 use Rattle.zk_asks.specs.Parts.{ended}
 use Rattle.std.proofs.Common.{◌≤◌, length, ◌-◌}
-use Rattle.zk_jute.specs.Shown.{Stretch}
-use Rattle.zk_jute.specs.Standing.{OneStands}
+use Rattle.zk_jute.specs.{Shown.Stretch, Standing.OneStands}
 use Rattle.zk_asks.proofs.multi.known_multi.Given as goal
 
 abbrev pub invariant-loop-place : goal.invariant-loop-place

@@ -1,15 +1,10 @@
 use Rattle.std.proofs.Common.{inr, subst, arith}
 use Rattle.std.proofs.lemmas.Result.{err_from_is_err_and}
-use Rattle.zk_jute.specs.Layout.{IsValueOf}
-use Rattle.zk_jute.specs.Told.{StandsAt, HasSureFault}
+use Rattle.zk_jute.specs.{Layout.IsValueOf, Told.StandsAt, Told.HasSureFault}
 use Rattle.zk_jute.proofs.Judged.{says_more, says_told, says_one}
-use Rattle.zk_records.specs.Records.{multi_header}
-use Rattle.zk_records.specs.declared.header.MultiHeader.{MultiHeader}
+use Rattle.zk_records.specs.{Records.multi_header, declared.header.MultiHeader.MultiHeader}
 use Rattle.zk_asks.specs.Parts.{marked, part_header}
-use Rattle.zk_asks.proofs.Knowing.{of_answer}
-use Rattle.zk_asks.proofs.Parts.{multi_mark, multi_bad, multi_part}
-use Rattle.zk_asks.proofs.Lying.{part_passed, all_found}
-use Rattle.zk_asks.proofs.Parted.{nine}
+use Rattle.zk_asks.proofs.{Knowing.of_answer, Parts.multi_mark, Parts.multi_bad, Parts.multi_part, Lying.part_passed, Lying.all_found, Parted.nine}
 use Rattle.zk_asks.proofs.part_list.multi_end.Goals as goal
 
 pub returns-in_err-header-clause-fault : goal.returns-in_err-header-clause-fault

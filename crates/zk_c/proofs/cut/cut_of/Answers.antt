@@ -1,6 +1,5 @@
 use Rattle.std.proofs.Common.{rules, ◌≡◌, ℕ, ◌+◌, List, ◌++◌, length, drop, sym, ap, ◌∙◌, subst}
-use Rattle.zk_talk.specs.Answer.{history_of}
-use Rattle.zk_talk.specs.History.{History, on}
+use Rattle.zk_talk.specs.{Answer.history_of, History.History, History.on}
 use Rattle.zk_c.proofs.Cutting.{IsSoFar, no_side, one_piece, history_more, at_end}
 use Rattle.zk_c.proofs.cut.cut_of.Goals as goal
 

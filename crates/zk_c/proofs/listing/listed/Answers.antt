@@ -1,7 +1,5 @@
 use Rattle.std.proofs.Common.{refl, sym, ap, ◌∙◌, subst}
-use Rattle.zk_talk.specs.Answer.{history_of, AreMessages}
-use Rattle.zk_talk.specs.Ending.{IsEnding}
-use Rattle.zk_talk.specs.History.{History}
+use Rattle.zk_talk.specs.{Answer.history_of, Answer.AreMessages, Ending.IsEnding, History.History}
 use Rattle.zk_c.proofs.Texts.{told_of}
 use Rattle.zk_c.proofs.listing.listed.Goals as goal
 

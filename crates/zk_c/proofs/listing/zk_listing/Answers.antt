@@ -1,6 +1,5 @@
 use Rattle.std.proofs.Common.{rules, ◌≡◌, ℕ, List, Some, subst}
-use Rattle.zk_c.specs.Handle.{TellsText}
-use Rattle.zk_c.specs.Listing.{IsListed, told}
+use Rattle.zk_c.specs.{Handle.TellsText, Listing.IsListed, Listing.told}
 use Rattle.zk_c.proofs.Texts.{told_of}
 use Rattle.zk_c.proofs.listing.zk_listing.Goals as goal
 

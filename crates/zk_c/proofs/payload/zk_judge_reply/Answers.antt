@@ -1,8 +1,6 @@
 use Rattle.std.proofs.Common.{◌≡◌, Result, w32, subst, arith}
 use Rattle.std.specs.Prelude.{MatchResult}
-use Rattle.std.proofs.lemmas.Int.{to_z-of_z}
-use Rattle.std.proofs.lemmas.Bool.{false≢true}
-use Rattle.std.proofs.lemmas.Grind.{common_steps}
+use Rattle.std.proofs.{lemmas.Int.to_z-of_z, lemmas.Bool.false≢true, lemmas.Grind.common_steps}
 use Rattle.zk_jute.specs.declared.fault.ItemFault.{ItemFault}
 use Rattle.zk_answers.specs.Held.{ServerFrame}
 use Rattle.zk_c.specs.Judged.{payload_answer, TellsFault}

@@ -2,8 +2,7 @@ use Rattle.std.proofs.Common.{inl, inr, refl, subst}
 use Rattle.std.proofs.lemmas.Bool.{false≢true}
 use Rattle.zk_talk.specs.declared.message.MessageOf.TheVariants.{Server}
 use Rattle.zk_c.specs.Read.{HasPlaces}
-use Rattle.zk_c.proofs.Opening.{events_head}
-use Rattle.zk_c.proofs.Reading.{only_one, refused_as}
+use Rattle.zk_c.proofs.{Opening.events_head, Reading.only_one, Reading.refused_as}
 use Rattle.zk_c.proofs.read.zk_read_event.Goals as goal
 
 pub borrow_event-requires : goal.borrow_event-requires

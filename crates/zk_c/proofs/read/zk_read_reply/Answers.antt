@@ -1,12 +1,10 @@
 use Rattle.std.proofs.Common.{w32, subst, sym, refl}
-use Rattle.std.proofs.lemmas.Int.{to_z-of_z}
-use Rattle.std.proofs.lemmas.Bool.{false≢true}
+use Rattle.std.proofs.{lemmas.Int.to_z-of_z, lemmas.Bool.false≢true}
 use Rattle.zk_records.specs.declared.profile.Profile.TheVariants as profiles
 use Rattle.zk_records.specs.Codes.{IsNoOp}
 use Rattle.zk_talk.specs.declared.message.MessageOf.TheVariants.{Server}
 use Rattle.zk_c.specs.Read.{IsOp}
-use Rattle.zk_c.proofs.Parts.{of_one, where_asked}
-use Rattle.zk_c.proofs.Reading.{read_ok, read_err}
+use Rattle.zk_c.proofs.{Parts.of_one, Parts.where_asked, Reading.read_ok, Reading.read_err}
 use Rattle.zk_c.proofs.read.zk_read_reply.Goals as goal
 
 pub borrow_reply-requires : goal.borrow_reply-requires

@@ -1,7 +1,5 @@
 use Rattle.std.proofs.Common.{◌∙◌, Some, ap, subst, sym, rules}
-use Rattle.zk_c.specs.Handle.{AreNumbers}
-use Rattle.zk_c.specs.Passage.{PassageState}
-use Rattle.zk_c.specs.Passing.{HasJoined}
+use Rattle.zk_c.specs.{Handle.AreNumbers, Passage.PassageState, Passing.HasJoined}
 use Rattle.zk_c.proofs.Handles.{held_now}
 use Rattle.zk_c.proofs.through.zk_talk_join.Goals as goal
 

@@ -1,8 +1,6 @@
 use Rattle.std.proofs.Common.{List, length}
 use Rattle.std.specs.List.{flat_map}
-use Rattle.zk_fields.specs.declared.field.Field.{Field}
-use Rattle.zk_fields.specs.declared.field.At.{At}
-use Rattle.zk_fields.specs.Room.{Takes}
+use Rattle.zk_fields.specs.{declared.field.Field.Field, declared.field.At.At, Room.Takes}
 use Rattle.zk_fields.proofs.list.show_all.Given as goal
 
 abbrev pub invariant-loop-item : goal.invariant-loop-item

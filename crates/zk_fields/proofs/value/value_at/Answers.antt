@@ -2,9 +2,7 @@ use Rattle.std.proofs.Common.{arith, option_copied, get_or, suc, ◌+◌, ◌≡
 use Rattle.std.specs.Prelude.{Option}
 use Rattle.std.specs.List.{slice_get}
 use Rattle.std.proofs.lemmas.Option.{slice_get-get_or}
-use Rattle.zk_fields.specs.declared.field.Field.{Field}
-use Rattle.zk_fields.specs.Written.{Pair, pairs, said}
-use Rattle.zk_fields.specs.Values.{IsSaid}
+use Rattle.zk_fields.specs.{declared.field.Field.Field, Written.Pair, Written.pairs, Written.said, Values.IsSaid}
 use Rattle.zk_fields.proofs.Saying.{pair_at, no_one, got}
 use Rattle.zk_fields.proofs.value.value_at.Goals as goal
 

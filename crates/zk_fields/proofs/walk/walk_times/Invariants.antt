@@ -1,7 +1,5 @@
 use Rattle.std.proofs.Common.{◌-◌, ◌≤◌, List, length}
-use Rattle.zk_fields.specs.declared.field.Field.{Field}
-use Rattle.zk_fields.specs.declared.walk.Walked.{Walked}
-use Rattle.zk_fields.specs.Walks.{times_met, Walks}
+use Rattle.zk_fields.specs.{declared.field.Field.Field, declared.walk.Walked.Walked, Walks.times_met, Walks.Walks}
 use Rattle.zk_fields.proofs.walk.walk_times.Given as goal
 
 abbrev pub invariant-loop : goal.invariant-loop

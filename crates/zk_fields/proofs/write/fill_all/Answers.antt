@@ -1,9 +1,7 @@
 use Rattle.std.proofs.Common.{List, subst, arith, ◌∙◌}
 use Rattle.zk_jute.specs.Item.{Item, bytes_of}
-use Rattle.zk_fields.specs.Values.{Fills}
-use Rattle.zk_fields.specs.Written.{pairs}
-use Rattle.zk_fields.proofs.Filling.{fills_nothing}
-use Rattle.zk_fields.proofs.Saying.{some_is, no_field, pairs_length, fills_next, at_end}
+use Rattle.zk_fields.specs.{Values.Fills, Written.pairs}
+use Rattle.zk_fields.proofs.{Filling.fills_nothing, Saying.some_is, Saying.no_field, Saying.pairs_length, Saying.fills_next, Saying.at_end}
 use Rattle.zk_fields.proofs.write.fill_all.Goals as goal
 
 pub loop-index-init : goal.loop-index-init

@@ -1,8 +1,7 @@
 use Rattle.std.proofs.Common.{◌≡◌, List, take}
 use Rattle.std.specs.Prelude.{Some}
 use Rattle.zk_jute.specs.Item.{Item, bytes_of}
-use Rattle.zk_fields.specs.Values.{Fills}
-use Rattle.zk_fields.specs.Written.{pairs, all_said}
+use Rattle.zk_fields.specs.{Values.Fills, Written.pairs, Written.all_said}
 use Rattle.zk_fields.proofs.write.fill_all.Given as goal
 
 abbrev pub invariant-loop-index : goal.invariant-loop-index

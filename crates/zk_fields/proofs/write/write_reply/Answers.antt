@@ -1,12 +1,10 @@
 use Rattle.std.proofs.Common.{rules, List, subst, sym, ap, ◌∙◌, ◌≡◌}
 use Rattle.zk_jute.specs.Item.{Item}
-use Rattle.zk_records.specs.declared.header.ReplyHeader.{ReplyHeader}
-use Rattle.zk_records.specs.Records.{reply_header}
+use Rattle.zk_records.specs.{declared.header.ReplyHeader.ReplyHeader, Records.reply_header}
 use Rattle.zk_answers.specs.Frames.{err_of, header_of}
 use Rattle.zk_answers.specs.declared.frame.ServerFrameOf.TheVariants as server
 use Rattle.zk_fields.specs.declared.value.Heads.TheVariants as head
-use Rattle.zk_fields.specs.Frames.{rest_behind}
-use Rattle.zk_fields.specs.Written.{done_behind, answer_front, Writes}
+use Rattle.zk_fields.specs.{Frames.rest_behind, Written.done_behind, Written.answer_front, Written.Writes}
 use Rattle.zk_fields.proofs.Again.{server_again, rests_alike}
 use Rattle.zk_fields.proofs.write.write_reply.Goals as goal
 

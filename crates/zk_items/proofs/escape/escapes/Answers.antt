@@ -1,6 +1,5 @@
 use Rattle.std.proofs.Common.{◌∙◌}
-use Rattle.zk_items.proofs.Lanes.{all_bytes}
-use Rattle.zk_items.proofs.Escapes.{escaped_rest}
+use Rattle.zk_items.proofs.{Lanes.all_bytes, Escapes.escaped_rest}
 use Rattle.zk_items.proofs.escape.escapes.Goals as goal
 
 pub returns : goal.returns

@@ -1,6 +1,5 @@
 use Rattle.std.proofs.Common.{take, ap}
-use Rattle.zk_items.proofs.Lanes.{all_bytes}
-use Rattle.zk_items.proofs.Escapes.{escaped}
+use Rattle.zk_items.proofs.{Lanes.all_bytes, Escapes.escaped}
 use Rattle.zk_items.proofs.escape.five_escapes.Goals as goal
 
 pub returns-clause-escapes : goal.returns-clause-escapes

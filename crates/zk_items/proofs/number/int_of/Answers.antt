@@ -1,5 +1,4 @@
-use Rattle.zk_items.proofs.Kept.{on_none}
-use Rattle.zk_items.proofs.Numerals.{none_narrow}
+use Rattle.zk_items.proofs.{Kept.on_none, Numerals.none_narrow}
 use Rattle.zk_items.proofs.number.int_of.Goals as goal
 
 pub returns-clause-none : goal.returns-clause-none

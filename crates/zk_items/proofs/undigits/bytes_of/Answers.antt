@@ -1,8 +1,7 @@
 use Rattle.std.proofs.Common.{◌≡◌, ◌∙◌, ◌/◌, ℕ, List, Ok, length, ap, sym, subst, arith}
 use Rattle.hex.proofs.HexLemmas.{length-encode_with, decode_of-encode_lower}
 use Rattle.hex.specs.Hex.{lower_digits, decode_of}
-use Rattle.zk_items.proofs.Blobs.{as_bytes}
-use Rattle.zk_items.proofs.Joined.{Hex, hex_bytes, whole_room}
+use Rattle.zk_items.proofs.{Blobs.as_bytes, Joined.Hex, Joined.hex_bytes, Joined.whole_room}
 use Rattle.zk_items.proofs.undigits.bytes_of.Goals as goal
 
 pub returns-clause-ok : goal.returns-clause-ok

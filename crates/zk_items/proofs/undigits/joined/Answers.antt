@@ -1,6 +1,5 @@
 use Rattle.std.proofs.Common.{◌≡◌, ℕ, length, refl, ap, arith}
-use Rattle.std.proofs.lemmas.List.{length-map}
-use Rattle.std.proofs.lemmas.Simd.{zip2_splat}
+use Rattle.std.proofs.{lemmas.List.length-map, lemmas.Simd.zip2_splat}
 use Rattle.zk_items.specs.Leaf.{hex_digit}
 use Rattle.zk_items.proofs.Joined.{joined_are, apart, hex_apart}
 use Rattle.zk_items.proofs.undigits.joined.Goals as goal

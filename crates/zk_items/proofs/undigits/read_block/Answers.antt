@@ -1,10 +1,8 @@
 use Rattle.std.proofs.Common.{◌≡◌, ◌*◌, ◌++◌, List, ℕ, ap, ◌∙◌, take, drop, length, length-drop, arith}
-use Rattle.std.proofs.lemmas.List.{length-take-le}
-use Rattle.std.proofs.lemmas.Simd.{take_more_put_chunk, length-put_chunk}
+use Rattle.std.proofs.{lemmas.List.length-take-le, lemmas.Simd.take_more_put_chunk, lemmas.Simd.length-put_chunk}
 use Rattle.hex.proofs.HexLemmas.{length-encode_with}
 use Rattle.hex.specs.Hex.{lower_digits, encode_lower}
-use Rattle.zk_items.proofs.Joined.{hex_take, hex_drop}
-use Rattle.zk_items.proofs.Lanes.{encoded-append}
+use Rattle.zk_items.proofs.{Joined.hex_take, Joined.hex_drop, Lanes.encoded-append}
 use Rattle.zk_items.proofs.undigits.read_block.Goals as goal
 
 pub joined-requires : goal.joined-requires

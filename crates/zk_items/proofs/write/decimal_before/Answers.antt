@@ -1,7 +1,6 @@
 use Rattle.std.proofs.Common.{rules, ◌≤◌, ◌^◌, ◌∙◌, ℕ, length, take, arith, ap, sym}
 use Rattle.std.specs.Fmt.{decimal}
-use Rattle.std.proofs.lemmas.Fmt.{decimal_nonempty, length-decimal-le}
-use Rattle.std.proofs.lemmas.List.{take-take}
+use Rattle.std.proofs.{lemmas.Fmt.decimal_nonempty, lemmas.Fmt.length-decimal-le, lemmas.List.take-take}
 use Rattle.zk_items.proofs.write.decimal_before.Goals as goal
 
 -- the digits of the longest number

@@ -1,9 +1,7 @@
 use Rattle.std.proofs.Common.{◌≡◌, ◌∷◌, ◌++◌, [], ℕ, List, OnOk, length, subst, sym}
 use Rattle.std.specs.List.{prefix_len}
 use Rattle.zk_items.specs.Leaf.{is_plain}
-use Rattle.zk_items.proofs.Kept.{on_ok}
-use Rattle.zk_items.proofs.Looks.{all_plain}
-use Rattle.zk_items.proofs.Small.{text_small}
+use Rattle.zk_items.proofs.{Kept.on_ok, Looks.all_plain, Small.text_small}
 use Rattle.zk_items.proofs.write.put_chars.Goals as goal
 
 pub returns-then-are_plain-clause-fits : goal.returns-then-are_plain-clause-fits

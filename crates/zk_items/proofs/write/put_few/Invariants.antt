@@ -1,7 +1,6 @@
 use Rattle.std.proofs.Common.{◌≡◌, ◌++◌, drop}
 use Rattle.std.specs.List.{flat_map}
-use Rattle.zk_items.specs.Form.{Keeps}
-use Rattle.zk_items.specs.Leaf.{symbol_spell}
+use Rattle.zk_items.specs.{Form.Keeps, Leaf.symbol_spell}
 use Rattle.zk_items.proofs.write.put_few.Given as goal
 
 abbrev pub invariant-loop-b : goal.invariant-loop-b

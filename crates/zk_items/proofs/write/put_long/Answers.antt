@@ -1,8 +1,7 @@
 use Rattle.std.proofs.Common.{◌≡◌, ◌+◌, ◌-◌, take, drop, length, ℕ, ap, ◌∙◌, arith, SFits, w64}
 use Rattle.std.proofs.lemmas.Int.{ints, to_z-of_z}
 use Rattle.std.specs.Fmt.{signed_decimal}
-use Rattle.zk_items.proofs.Lanes.{front_of}
-use Rattle.zk_items.proofs.Escapes.{on_piece}
+use Rattle.zk_items.proofs.{Lanes.front_of, Escapes.on_piece}
 use Rattle.zk_items.proofs.write.put_long.Goals as goal
 
 pub returns-clause-spelled : goal.returns-clause-spelled

@@ -1,9 +1,7 @@
 use Rattle.std.proofs.Common.{rules, ◌≡◌, ◌++◌, ℕ, List, take, drop, ap, ap₂, ◌∙◌, append_assoc}
 use Rattle.std.specs.List.{flat_map}
 use Rattle.zk_items.specs.Leaf.{symbol_spell}
-use Rattle.zk_items.proofs.Escapes.{spelled_further}
-use Rattle.zk_items.proofs.Kept.{keeps_more}
-use Rattle.zk_items.proofs.Looks.{plain_front}
+use Rattle.zk_items.proofs.{Escapes.spelled_further, Kept.keeps_more, Looks.plain_front}
 use Rattle.zk_items.proofs.write.put_symbols.Goals as goal
 
 pub loop-first-preserved-then-is_plain : goal.loop-first-preserved-then-is_plain

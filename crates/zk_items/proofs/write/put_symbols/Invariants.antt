@@ -1,7 +1,6 @@
 use Rattle.std.proofs.Common.{◌≡◌, ◌++◌, length}
 use Rattle.std.specs.List.{flat_map}
-use Rattle.zk_items.specs.Form.{Keeps}
-use Rattle.zk_items.specs.Leaf.{symbol_spell}
+use Rattle.zk_items.specs.{Form.Keeps, Leaf.symbol_spell}
 use Rattle.zk_items.proofs.write.put_symbols.Given as goal
 
 abbrev pub invariant-loop-first : goal.invariant-loop-first

@@ -1,6 +1,5 @@
 use Rattle.std.proofs.Common.{Ok, refl, arith}
-use Rattle.zk_jute.proofs.Known.{stands_read}
-use Rattle.zk_jute.proofs.Theorems.{read_as}
+use Rattle.zk_jute.proofs.{Known.stands_read, Theorems.read_as}
 use Rattle.zk_jute.proofs.at.known_at.Goals as goal
 
 pub view-requires : goal.view-requires

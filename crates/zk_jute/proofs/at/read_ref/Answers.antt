@@ -1,6 +1,5 @@
 use Rattle.std.proofs.Common.{Ok, refl, arith}
-use Rattle.zk_jute.proofs.Known.{value_known}
-use Rattle.zk_jute.proofs.Theorems.{found}
+use Rattle.zk_jute.proofs.{Known.value_known, Theorems.found}
 use Rattle.zk_jute.proofs.at.read_ref.Goals as goal
 
 pub view-requires : goal.view-requires

@@ -1,6 +1,5 @@
 use Rattle.std.proofs.Common.{◌-◌, ◌+◌, ◌≡◌, subst, arith}
-use Rattle.zk_jute.specs.Values.{text_items}
-use Rattle.zk_jute.specs.Shown.{Stretch}
+use Rattle.zk_jute.specs.{Values.text_items, Shown.Stretch}
 use Rattle.zk_jute.proofs.Reached.{stretch_then}
 use Rattle.zk_jute.proofs.ends.all_texts_end.Goals as goal
 

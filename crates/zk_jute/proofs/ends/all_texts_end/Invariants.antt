@@ -1,6 +1,5 @@
 use Rattle.std.proofs.Common.{◌≤◌, ◌-◌, length}
-use Rattle.zk_jute.specs.Shown.{Stretch}
-use Rattle.zk_jute.specs.Values.{text_items}
+use Rattle.zk_jute.specs.{Shown.Stretch, Values.text_items}
 use Rattle.zk_jute.proofs.ends.all_texts_end.Given as goal
 
 abbrev pub invariant-loop-left : goal.invariant-loop-left

@@ -1,9 +1,7 @@
 use Rattle.std.proofs.Common.{◌≡◌, None, Ok, subst, arith}
 use Rattle.std.specs.Prelude.{Option, ℕ}
-use Rattle.zk_jute.specs.Reading.{size_at}
-use Rattle.zk_jute.specs.Values.{text_items}
-use Rattle.zk_jute.proofs.Stretches.{none_passed}
-use Rattle.zk_jute.proofs.Reached.{one_more, null_text}
+use Rattle.zk_jute.specs.{Reading.size_at, Values.text_items}
+use Rattle.zk_jute.proofs.{Stretches.none_passed, Reached.one_more, Reached.null_text}
 use Rattle.zk_jute.proofs.ends.nulls_end.Goals as goal
 
 pub loop-passed-init : goal.loop-passed-init

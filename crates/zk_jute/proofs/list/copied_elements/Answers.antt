@@ -2,8 +2,7 @@ use Rattle.std.proofs.Common.{arith}
 use Rattle.std.specs.List.{flat_map}
 use Rattle.std.proofs.lemmas.List.{length_push}
 use Rattle.zk_jute.specs.Reading.{items_at, times_at}
-use Rattle.zk_jute.proofs.Loops.{reading_goes_on, flat_map_push}
-use Rattle.zk_jute.proofs.Known.{next_read}
+use Rattle.zk_jute.proofs.{Loops.reading_goes_on, Loops.flat_map_push, Known.next_read}
 use Rattle.zk_jute.proofs.list.copied_elements.Goals as goal
 
 pub copied-requires-clause-known : goal.copied-requires-clause-known

@@ -1,8 +1,6 @@
 use Rattle.std.proofs.Common.{[], ◌∷◌, arith}
-use Rattle.zk_jute.specs.Item.{Boolean, ABoolean}
-use Rattle.zk_jute.specs.Layout.{One, End}
-use Rattle.zk_jute.proofs.Fields.{bool_gives, bool_plain}
-use Rattle.zk_jute.proofs.Theorems.{found, plain_told}
+use Rattle.zk_jute.specs.{Item.Boolean, Item.ABoolean, Layout.One, Layout.End}
+use Rattle.zk_jute.proofs.{Fields.bool_gives, Fields.bool_plain, Theorems.found, Theorems.plain_told}
 use Rattle.zk_jute.proofs.number.bool_at.Goals as goal
 
 pub returns-clause-found : goal.returns-clause-found

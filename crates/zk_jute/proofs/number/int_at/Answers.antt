@@ -1,8 +1,6 @@
 use Rattle.std.proofs.Common.{[], ◌∷◌, arith}
-use Rattle.zk_jute.specs.Item.{Int, AnInt}
-use Rattle.zk_jute.specs.Layout.{One, End}
-use Rattle.zk_jute.proofs.Fields.{int_gives, int_plain}
-use Rattle.zk_jute.proofs.Theorems.{found, plain_told}
+use Rattle.zk_jute.specs.{Item.Int, Item.AnInt, Layout.One, Layout.End}
+use Rattle.zk_jute.proofs.{Fields.int_gives, Fields.int_plain, Theorems.found, Theorems.plain_told}
 use Rattle.zk_jute.proofs.number.int_at.Goals as goal
 
 pub returns-clause-found : goal.returns-clause-found

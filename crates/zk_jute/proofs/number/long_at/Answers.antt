@@ -1,8 +1,6 @@
 use Rattle.std.proofs.Common.{[], ◌∷◌, arith}
-use Rattle.zk_jute.specs.Item.{Long, ALong}
-use Rattle.zk_jute.specs.Layout.{One, End}
-use Rattle.zk_jute.proofs.Fields.{long_gives, long_plain}
-use Rattle.zk_jute.proofs.Theorems.{found, plain_told}
+use Rattle.zk_jute.specs.{Item.Long, Item.ALong, Layout.One, Layout.End}
+use Rattle.zk_jute.proofs.{Fields.long_gives, Fields.long_plain, Theorems.found, Theorems.plain_told}
 use Rattle.zk_jute.proofs.number.long_at.Goals as goal
 
 pub returns-clause-found : goal.returns-clause-found

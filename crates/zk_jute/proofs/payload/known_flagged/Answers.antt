@@ -1,9 +1,6 @@
 use Rattle.std.proofs.Common.{None, Some, Ok, refl, arith}
 use Rattle.zk_jute.specs.Wired.{boolean}
-use Rattle.zk_jute.proofs.Flagged.{flagged_found, flagged_only}
-use Rattle.zk_jute.proofs.Known.{stands_read, value_there, behind, flag_there, flag_is}
-use Rattle.zk_jute.proofs.Sequels.{none_left}
-use Rattle.zk_jute.proofs.Theorems.{found}
+use Rattle.zk_jute.proofs.{Flagged.flagged_found, Flagged.flagged_only, Known.stands_read, Known.value_there, Known.behind, Known.flag_there, Known.flag_is, Sequels.none_left, Theorems.found}
 use Rattle.zk_jute.proofs.payload.known_flagged.Goals as goal
 
 pub view-value-requires : goal.view-value-requires

@@ -1,7 +1,6 @@
 use Rattle.std.proofs.Common.{ap, refl}
 use Rattle.zk_jute.specs.Reading.{end_of, items_at, times_at}
-use Rattle.zk_jute.proofs.Loops.{scanning_goes_on}
-use Rattle.zk_jute.proofs.Known.{next_known}
+use Rattle.zk_jute.proofs.{Loops.scanning_goes_on, Known.next_known}
 use Rattle.zk_jute.proofs.series.elements_end.Goals as goal
 
 pub view-next-requires : goal.view-next-requires

@@ -1,8 +1,6 @@
 use Rattle.std.proofs.Common.{sym, subst, arith}
-use Rattle.zk_jute.specs.Wired.{vector}
-use Rattle.zk_jute.specs.Shown.{ListIsThere}
-use Rattle.zk_jute.proofs.Lists.{list_there, list_is}
-use Rattle.zk_jute.proofs.Known.{count_known, stands_read}
+use Rattle.zk_jute.specs.{Wired.vector, Shown.ListIsThere}
+use Rattle.zk_jute.proofs.{Lists.list_there, Lists.list_is, Known.count_known, Known.stands_read}
 use Rattle.zk_jute.proofs.series.known_list.Goals as goal
 
 pub known_size-count-requires-clause-known : goal.known_size-count-requires-clause-known

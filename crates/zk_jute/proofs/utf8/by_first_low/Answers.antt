@@ -1,6 +1,5 @@
 use Rattle.std.proofs.Common.{bit_and, arith}
-use Rattle.std.proofs.lemmas.Nat.{and_le_r}
-use Rattle.std.proofs.lemmas.Simd.{zip2_splat}
+use Rattle.std.proofs.{lemmas.Nat.and_le_r, lemmas.Simd.zip2_splat}
 use Rattle.zk_jute.specs.declared.utf8.TheConstants.{FIRST_LOW}
 use Rattle.zk_jute.proofs.Lookups.{low_ok, looked_up}
 use Rattle.zk_jute.proofs.utf8.by_first_low.Goals as goal

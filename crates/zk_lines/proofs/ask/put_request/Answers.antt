@@ -2,8 +2,7 @@ use Rattle.std.proofs.Common.{rules, ◌≡◌, ◌++◌}
 use Rattle.std.specs.Prelude.{codes}
 use Rattle.std.specs.Fmt.{signed_decimal}
 use Rattle.zk_items.proofs.Kept.{then_spelled}
-use Rattle.zk_lines.specs.Words.{word_of}
-use Rattle.zk_lines.specs.declared.word.Word.TheVariants.{Blank}
+use Rattle.zk_lines.specs.{Words.word_of, declared.word.Word.TheVariants.Blank}
 use Rattle.zk_lines.proofs.ask.put_request.Goals as goal
 
 pub returns-clause-spelled : goal.returns-clause-spelled

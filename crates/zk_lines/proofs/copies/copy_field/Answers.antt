@@ -1,5 +1,4 @@
-use Rattle.zk_items.proofs.Kept.{on_some}
-use Rattle.zk_items.proofs.Copies.{ok_is}
+use Rattle.zk_items.proofs.{Kept.on_some, Copies.ok_is}
 use Rattle.zk_lines.proofs.Appended.{field_copied}
 use Rattle.zk_lines.proofs.copies.copy_field.Goals as goal
 

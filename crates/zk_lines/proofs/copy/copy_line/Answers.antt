@@ -1,8 +1,6 @@
 use Rattle.std.proofs.Common.{subst}
-use Rattle.zk_lines.specs.Copied.{CopiedMessage}
-use Rattle.zk_lines.specs.Lines.{message_at}
-use Rattle.zk_lines.proofs.Appended.{if_some}
-use Rattle.zk_lines.proofs.CopiedLines.{line_copied}
+use Rattle.zk_lines.specs.{Copied.CopiedMessage, Lines.message_at}
+use Rattle.zk_lines.proofs.{Appended.if_some, CopiedLines.line_copied}
 use Rattle.zk_lines.proofs.copy.copy_line.Goals as goal
 
 pub returns-else-is_none-clause-copied : goal.returns-else-is_none-clause-copied

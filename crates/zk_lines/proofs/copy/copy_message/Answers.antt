@@ -3,10 +3,8 @@ use Rattle.std.specs.Prelude.{codes}
 use Rattle.zk_items.specs.Form.{word_at}
 use Rattle.zk_talk.specs.declared.message.MessageOf.TheVariants as message
 use Rattle.zk_items.proofs.Copies.{ok_is}
-use Rattle.zk_lines.specs.Copied.{CopiedMessage}
-use Rattle.zk_lines.specs.Lines.{client_at, server_at}
-use Rattle.zk_lines.proofs.Appended.{if_some}
-use Rattle.zk_lines.proofs.CopiedLines.{frame_whole, of_client, of_server}
+use Rattle.zk_lines.specs.{Copied.CopiedMessage, Lines.client_at, Lines.server_at}
+use Rattle.zk_lines.proofs.{Appended.if_some, CopiedLines.frame_whole, CopiedLines.of_client, CopiedLines.of_server}
 use Rattle.zk_lines.proofs.copy.copy_message.Goals as goal
 
 pub returns-then-passes-clause-copied : goal.returns-then-passes-clause-copied

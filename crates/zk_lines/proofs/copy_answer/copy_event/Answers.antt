@@ -1,10 +1,8 @@
 use Rattle.std.proofs.Common.{◌≡◌, ◌∷◌, [], ◌++◌}
 use Rattle.zk_jute.specs.Item.{AnInt, bytes_of, HaveBytes}
 use Rattle.zk_items.specs.Codes.{type_name}
-use Rattle.zk_items.proofs.Codes.{code_is}
-use Rattle.zk_items.proofs.Copies.{ok_is}
-use Rattle.zk_lines.proofs.Appended.{as_int}
-use Rattle.zk_lines.proofs.CopiedAnswers.{event_copied}
+use Rattle.zk_items.proofs.{Codes.code_is, Copies.ok_is}
+use Rattle.zk_lines.proofs.{Appended.as_int, CopiedAnswers.event_copied}
 use Rattle.zk_lines.proofs.copy_answer.copy_event.Goals as goal
 
 pub returns-clause-copied : goal.returns-clause-copied

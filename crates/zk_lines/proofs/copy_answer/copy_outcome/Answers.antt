@@ -1,16 +1,11 @@
 use Rattle.std.proofs.Common.{◌≡◌, ◌∷◌, [], ◌++◌, List, ℕ, ℤ, sym, ap, subst, ◌∙◌, w32, to_z, of_z}
 use Rattle.zk_jute.specs.Item.{AnInt, bytes_of, HaveBytes}
 use Rattle.zk_answers.specs.Rows.{body_items}
-use Rattle.zk_items.specs.Copied.{Copied}
-use Rattle.zk_items.specs.Form.{word_at}
-use Rattle.zk_items.specs.Codes.{error_name}
-use Rattle.zk_items.proofs.Codes.{other_code_is}
-use Rattle.zk_items.proofs.Kept.{on_some}
-use Rattle.zk_items.proofs.Copies.{ok_is}
-use Rattle.zk_lines.proofs.Appended.{as_int}
+use Rattle.zk_items.specs.{Copied.Copied, Form.word_at, Codes.error_name}
+use Rattle.zk_items.proofs.{Codes.other_code_is, Kept.on_some, Copies.ok_is}
+use Rattle.zk_lines.proofs.{Appended.as_int, CopiedAnswers.failure_copied, CopiedAnswers.done_copied}
 use Rattle.zk_lines.specs.Answers as answers
 use Rattle.zk_lines.specs.Rows.{row_at}
-use Rattle.zk_lines.proofs.CopiedAnswers.{failure_copied, done_copied}
 use Rattle.zk_lines.proofs.copy_answer.copy_outcome.Goals as goal
 
 pub returns-then-passes-clause-copied : goal.returns-then-passes-clause-copied

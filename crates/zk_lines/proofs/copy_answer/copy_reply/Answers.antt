@@ -1,9 +1,7 @@
 use Rattle.std.proofs.Common.{◌≡◌, ◌∷◌, [], ◌++◌, sym, ◌∙◌}
 use Rattle.zk_jute.specs.Item.{AnInt, bytes_of, HaveBytes}
-use Rattle.zk_items.proofs.Numbers.{int_is}
-use Rattle.zk_items.proofs.Copies.{ok_is}
-use Rattle.zk_lines.proofs.Appended.{as_int}
-use Rattle.zk_lines.proofs.CopiedAnswers.{reply_copied}
+use Rattle.zk_items.proofs.{Numbers.int_is, Copies.ok_is}
+use Rattle.zk_lines.proofs.{Appended.as_int, CopiedAnswers.reply_copied}
 use Rattle.zk_lines.proofs.copy_answer.copy_reply.Goals as goal
 
 pub returns-clause-copied : goal.returns-clause-copied

@@ -1,10 +1,7 @@
 use Rattle.std.proofs.Common.{◌≡◌, ◌∷◌, [], ◌++◌, ℤ, refl, sym, subst, ◌∙◌, w32, to_z, of_z}
 use Rattle.zk_jute.specs.Item.{AnInt, bytes_of, HaveBytes}
-use Rattle.zk_items.proofs.Kept.{on_some}
-use Rattle.zk_items.proofs.Numbers.{int_is}
-use Rattle.zk_items.proofs.Copies.{ok_is}
-use Rattle.zk_lines.proofs.Appended.{as_int, op_kind}
-use Rattle.zk_lines.proofs.CopiedAsks.{request_copied}
+use Rattle.zk_items.proofs.{Kept.on_some, Numbers.int_is, Copies.ok_is}
+use Rattle.zk_lines.proofs.{Appended.as_int, Appended.op_kind, CopiedAsks.request_copied}
 use Rattle.zk_lines.proofs.copy_ask.copy_request.Goals as goal
 
 pub returns-clause-copied : goal.returns-clause-copied

@@ -1,13 +1,10 @@
-use Rattle.std.proofs.Common.{refl}
+use Rattle.std.proofs.Common.{refl, ◌≡◌, ◌∷◌, [], ◌++◌}
 use Rattle.zk_jute.specs.Wired as wired
-use Rattle.std.proofs.Common.{◌≡◌, ◌∷◌, [], ◌++◌}
 use Rattle.zk_jute.specs.Item.{AnInt, bytes_of, HaveBytes}
 use Rattle.zk_items.specs.Codes.{error_name}
-use Rattle.zk_items.proofs.Codes.{code_is}
+use Rattle.zk_items.proofs.{Codes.code_is, Kept.on_some, Copies.ok_is}
 use Rattle.zk_asks.specs.Parts.{marked}
 use Rattle.zk_answers.specs.Results.{done_items, error_header, result_of}
-use Rattle.zk_items.proofs.Kept.{on_some}
-use Rattle.zk_items.proofs.Copies.{ok_is}
 use Rattle.zk_lines.specs.declared.word.Word.TheVariants as words
 use Rattle.zk_lines.proofs.Appended.{as_int, field_copied, headed, made, retold, value_copied}
 use Rattle.zk_lines.proofs.done.copy_failed.Goals as goal

@@ -1,7 +1,5 @@
 use Rattle.zk_lines.specs.Endings.{ending_text}
-use Rattle.zk_lines.proofs.LawsPrinted.{in_range, unbroken}
-use Rattle.zk_lines.proofs.LawsEndings.{ending_printed, ending_dotted}
-use Rattle.zk_lines.proofs.LawsApart.{ending_apart}
+use Rattle.zk_lines.proofs.{LawsPrinted.in_range, LawsPrinted.unbroken, LawsEndings.ending_printed, LawsEndings.ending_dotted, LawsApart.ending_apart}
 use Rattle.zk_lines.proofs.laws.ending_laws.Goals as goal
 
 pub returns-clause-different : goal.returns-clause-different

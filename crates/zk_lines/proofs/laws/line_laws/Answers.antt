@@ -1,8 +1,5 @@
 use Rattle.zk_lines.specs.Lines.{line}
-use Rattle.zk_lines.proofs.Lines.{line_apart}
-use Rattle.zk_lines.proofs.LawsHeld.{said_held}
-use Rattle.zk_lines.proofs.LawsPrinted.{in_range, unbroken}
-use Rattle.zk_lines.proofs.LawsShown.{line_printed, line_lettered}
+use Rattle.zk_lines.proofs.{Lines.line_apart, LawsHeld.said_held, LawsPrinted.in_range, LawsPrinted.unbroken, LawsShown.line_printed, LawsShown.line_lettered}
 use Rattle.zk_lines.proofs.laws.line_laws.Goals as goal
 
 pub returns-clause-different : goal.returns-clause-different

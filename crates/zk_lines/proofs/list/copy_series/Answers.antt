@@ -1,7 +1,6 @@
-use Rattle.zk_lines.proofs.Appended.{if_some}
+use Rattle.zk_lines.proofs.{Appended.if_some, Counted.series_empty, Counted.series_more}
 use Rattle.std.proofs.Common.{subst}
 use Rattle.zk_items.specs.Copied.{Copied}
-use Rattle.zk_lines.proofs.Counted.{series_empty, series_more}
 use Rattle.zk_lines.proofs.list.copy_series.Goals as goal
 
 pub returns-then-passes-clause-copied : goal.returns-then-passes-clause-copied

@@ -1,9 +1,6 @@
 use Rattle.std.proofs.Common.{rules, arith, ℤ, SFits, w32, w64, to_z, of_z, to_z-of_z, ◌≡◌, ◌∷◌, [], ◌++◌, ◌+◌, ◌∙◌, ap, ap₂, List, ℕ, suc, length, drop, set}
-use Rattle.std.proofs.Math.ListN.{drop_of_length-le}
-use Rattle.std.proofs.Math.Seq.{drop-cons}
-use Rattle.std.proofs.lemmas.List.{get_or-set_same, length-set}
-use Rattle.zk_lines.specs.Words.{word_of}
-use Rattle.zk_lines.specs.Records.{numbers, numbers_of}
+use Rattle.std.proofs.{Math.ListN.drop_of_length-le, Math.Seq.drop-cons, lemmas.List.get_or-set_same, lemmas.List.length-set}
+use Rattle.zk_lines.specs.{Words.word_of, Records.numbers, Records.numbers_of}
 use Rattle.zk_lines.proofs.record.write_stat.Goals as goal
 
 last : (n : ℕ) (l : List ℕ) (b : ℕ) → length l ≡ n + 1 → drop n (set l n b) ≡ b ∷ []

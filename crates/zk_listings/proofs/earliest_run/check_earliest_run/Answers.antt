@@ -1,14 +1,7 @@
 use Rattle.std.proofs.Common.{◌≡◌, ◌++◌, ◌∙◌, ap, subst}
 use Rattle.std.specs.Io.KnownBytes.{Appends}
-use Rattle.zk_listings.specs.declared.listing.Listing.TheVariants.{Last}
-use Rattle.zk_listings.specs.Earliest.{before_lines, in_lines}
-use Rattle.zk_listings.specs.Lines.{last_line}
-use Rattle.zk_listings.specs.Outcome.{HasGrownIn}
-use Rattle.zk_listings.proofs.Exits.{on-err}
-use Rattle.zk_listings.proofs.Bytes.{Appends-then}
-use Rattle.zk_listings.proofs.Found.{grown-further}
-use Rattle.zk_listings.proofs.Stopped.{stopped-in_messages, stopped-before_last_line}
-use Rattle.zk_listings.proofs.Tails.{found-with}
+use Rattle.zk_listings.specs.{declared.listing.Listing.TheVariants.Last, Earliest.before_lines, Earliest.in_lines, Lines.last_line, Outcome.HasGrownIn}
+use Rattle.zk_listings.proofs.{Exits.on-err, Bytes.Appends-then, Found.grown-further, Stopped.stopped-in_messages, Stopped.stopped-before_last_line, Tails.found-with}
 use Rattle.zk_listings.proofs.earliest_run.check_earliest_run.Goals as goal
 
 pub returns-in_err-summary-clause-begun : goal.returns-in_err-summary-clause-begun

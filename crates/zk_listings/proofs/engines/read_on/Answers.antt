@@ -1,12 +1,7 @@
 use Rattle.std.proofs.Common.{arith, ◌+◌, ◌*◌, ◌^◌, Err, IsErrOf, Option, ap, subst}
 use Rattle.std.proofs.lemmas.Result.{err_from_is_err_and}
-use Rattle.zk_listings.specs.declared.summary.Summary.{Summary}
-use Rattle.zk_listings.specs.Gathering.{ReachesBut}
-use Rattle.zk_listings.proofs.Exits.{on-err}
-use Rattle.zk_listings.proofs.Bytes.{Consumes-kept}
-use Rattle.zk_listings.proofs.Found.{found-at_end}
-use Rattle.zk_listings.proofs.Gathering.{but-follows}
-use Rattle.zk_listings.proofs.Runs.{given-last}
+use Rattle.zk_listings.specs.{declared.summary.Summary.Summary, Gathering.ReachesBut}
+use Rattle.zk_listings.proofs.{Exits.on-err, Bytes.Consumes-kept, Found.found-at_end, Gathering.but-follows, Runs.given-last}
 use Rattle.zk_listings.proofs.Reached.{HasRead, begun-but, begun-further, begun-more, found-read, reached-but, read-more}
 use Rattle.zk_listings.proofs.engines.read_on.Goals as goal
 

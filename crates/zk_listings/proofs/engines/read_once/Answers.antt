@@ -1,7 +1,6 @@
 use Rattle.std.proofs.Common.{◌≡◌, ◌++◌, List, ℕ, take, subst}
 use Rattle.std.proofs.lemmas.List.{length-take-le, take-append-le}
-use Rattle.zk_listings.specs.Gathered.{SideBytes}
-use Rattle.zk_listings.specs.Gathering.{AdvancesBut, IsNextRead}
+use Rattle.zk_listings.specs.{Gathered.SideBytes, Gathering.AdvancesBut, Gathering.IsNextRead}
 use Rattle.zk_listings.proofs.Runs.{last-only}
 use Rattle.zk_listings.proofs.engines.read_once.Goals as goal
 

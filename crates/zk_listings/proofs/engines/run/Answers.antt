@@ -1,11 +1,7 @@
 use Rattle.std.proofs.Common.{◌≡◌, ◌∙◌, subst}
 use Rattle.std.specs.Io.KnownBytes.{Appends}
-use Rattle.zk_listings.specs.Lines.{last_line}
-use Rattle.zk_listings.specs.Outcome.{HasGrownIn}
-use Rattle.zk_listings.proofs.Exits.{on-err}
-use Rattle.zk_listings.proofs.Bytes.{Appends-then}
-use Rattle.zk_listings.proofs.Found.{grown-further}
-use Rattle.zk_listings.proofs.Stopped.{stopped-in_messages, stopped-in_last_line, stopped-before_last_line}
+use Rattle.zk_listings.specs.{Lines.last_line, Outcome.HasGrownIn}
+use Rattle.zk_listings.proofs.{Exits.on-err, Bytes.Appends-then, Found.grown-further, Stopped.stopped-in_messages, Stopped.stopped-in_last_line, Stopped.stopped-before_last_line}
 use Rattle.zk_listings.proofs.engines.run.Goals as goal
 
 pub returns-in_err-summary-clause-begun : goal.returns-in_err-summary-clause-begun

@@ -1,6 +1,5 @@
 use Rattle.std.proofs.Common.{◌-◌, ◌<◌, ◌∙◌, length, FitsSigned, ap, arith, inr, rules, sym, w32}
-use Rattle.std.proofs.lemmas.Bool.{ltb-true}
-use Rattle.std.proofs.lemmas.Int.{to_z-of_z}
+use Rattle.std.proofs.{lemmas.Bool.ltb-true, lemmas.Int.to_z-of_z}
 use Rattle.zk_frames.specs.Framing.{int_bytes}
 use Rattle.zk_listings.proofs.Bytes.{int-front}
 use Rattle.zk_listings.proofs.gather.begins_long.Goals as goal

@@ -1,6 +1,5 @@
 use Rattle.std.proofs.Common.{◌≡◌, ◌∙◌, ℕ, ◌+◌, ◌≤◌, List, ◌++◌, length, take, sym, ap, arith}
-use Rattle.std.proofs.lemmas.List.{length-take-le, take-append-le}
-use Rattle.std.proofs.Math.Seq.{take-append-add}
+use Rattle.std.proofs.{lemmas.List.length-take-le, lemmas.List.take-append-le, Math.Seq.take-append-add}
 use Rattle.zk_listings.proofs.gathered.read_to.Goals as goal
 
 behind : (at' n : ℕ) (room buf post : List ℕ) → at' ≤ length room → n ≤ length buf → take (at' + n) (take at' room ++ (buf ++ post)) ≡ take at' room ++ take n buf

@@ -1,7 +1,5 @@
 use Rattle.std.proofs.Common.{◌+◌, ◌∙◌, ap, sym, subst, []}
-use Rattle.zk_talk.specs.Conversation.{sum_waiting}
-use Rattle.zk_talk.specs.Ending.{IsEnding, unwelcomed}
-use Rattle.zk_talk.specs.Good.{Good}
+use Rattle.zk_talk.specs.{Conversation.sum_waiting, Ending.IsEnding, Ending.unwelcomed, Good.Good}
 use Rattle.zk_talk.proofs.Start.{start}
 use Rattle.zk_listings.specs.Following.{Has}
 use Rattle.zk_listings.proofs.progress.ending.Goals as goal

@@ -1,7 +1,6 @@
 use Rattle.std.proofs.Common.{◌≡◌, ◌-◌, ℕ, List, length, take, None}
 use Rattle.zk_talk.specs.History.{on}
-use Rattle.zk_listings.specs.declared.listing.Listing.TheVariants.{Last}
-use Rattle.zk_listings.specs.Following.{Takes}
+use Rattle.zk_listings.specs.{declared.listing.Listing.TheVariants.Last, Following.Takes}
 use Rattle.zk_listings.proofs.progress.pass_all.Given as goal
 
 abbrev pub invariant-loop-at : goal.invariant-loop-at

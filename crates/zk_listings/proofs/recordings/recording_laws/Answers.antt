@@ -1,8 +1,5 @@
-use Rattle.zk_recordings.proofs.Any.{any}
-use Rattle.zk_listings.proofs.Lasting.{decided-more}
-use Rattle.zk_recordings.proofs.Once.{recorded, spells-once}
-use Rattle.zk_listings.proofs.Outcomes.{outcome-once}
-use Rattle.zk_listings.proofs.Comings.{some_outcome}
+use Rattle.zk_recordings.proofs.{Any.any, Once.recorded, Once.spells-once}
+use Rattle.zk_listings.proofs.{Lasting.decided-more, Outcomes.outcome-once, Comings.some_outcome}
 use Rattle.zk_listings.proofs.recordings.recording_laws.Goals as goal
 
 pub returns : goal.returns

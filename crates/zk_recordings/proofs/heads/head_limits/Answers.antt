@@ -1,7 +1,6 @@
 use Rattle.std.proofs.Common.{◌≡◌, ◌∙◌, refl, sym, subst}
 use Rattle.std.proofs.lemmas.Bool.{false≢true}
-use Rattle.zk_recordings.specs.HeadLimits.{limits_or}
-use Rattle.zk_recordings.specs.Reading.{chosen}
+use Rattle.zk_recordings.specs.{HeadLimits.limits_or, Reading.chosen}
 use Rattle.zk_recordings.proofs.Accepts.{limits-none, limits-some}
 use Rattle.zk_recordings.proofs.heads.head_limits.Goals as goal
 

@@ -1,7 +1,6 @@
 use Rattle.std.proofs.Common.{arith, [], false, true, refl, length-take}
 use Rattle.std.proofs.lemmas.Result.{IfOk-weaker, on_err_weaker}
-use Rattle.zk_listings.proofs.Exits.{on-err}
-use Rattle.zk_listings.proofs.Bytes.{Appends-none, Consumes-none, Consumes-then, Consumes-kept}
+use Rattle.zk_listings.proofs.{Exits.on-err, Bytes.Appends-none, Bytes.Consumes-none, Bytes.Consumes-then, Bytes.Consumes-kept}
 use Rattle.zk_runs.proofs.Answered.{begun-head, built-so_far, begun-so_far, built-at_end, begun-at_end, built-answer, begun-answer}
 use Rattle.zk_runs.proofs.Turns.{left-in-turn, left-after-turns, next-turn, read-none}
 use Rattle.zk_runs.proofs.build.build_run.Goals as goal

@@ -1,7 +1,6 @@
 use Rattle.std.proofs.Common.{◌*◌, ◌≤◌, List, Option, ℕ}
 use Rattle.std.specs.Io.KnownBytes.{Consumes, Appends}
-use Rattle.zk_runs.specs.Building.{head}
-use Rattle.zk_runs.specs.Accepting.{HasTaken}
+use Rattle.zk_runs.specs.{Building.head, Accepting.HasTaken}
 use Rattle.zk_runs.proofs.Turns.{IsAtTurn}
 use Rattle.zk_runs.proofs.build.build_run.Given as goal
 

@@ -1,6 +1,4 @@
-use Rattle.zk_runs.proofs.Builds.{run_once}
-use Rattle.zk_runs.proofs.Splits.{lines_once}
-use Rattle.zk_runs.proofs.Verdicts.{messages_once, alike_once, same_once}
+use Rattle.zk_runs.proofs.{Builds.run_once, Splits.lines_once, Verdicts.messages_once, Verdicts.alike_once, Verdicts.same_once}
 use Rattle.zk_runs.proofs.laws.built_once.Goals as goal
 
 pub returns : goal.returns

@@ -3,8 +3,7 @@ use Rattle.std.specs.Io.KnownBytes.{Appends}
 use Rattle.zk_recordings.specs.Reading.{IsUndamaged, place_in}
 use Rattle.zk_listings.specs.Outcome.{HasGrownIn}
 use Rattle.zk_runs.specs.Migrating.{HasMovedBy, due_of, begun_in}
-use Rattle.zk_listings.proofs.Exits.{on-err}
-use Rattle.zk_listings.proofs.Bytes.{Consumes-none, Consumes-then, Consumes-kept}
+use Rattle.zk_listings.proofs.{Exits.on-err, Bytes.Consumes-none, Bytes.Consumes-then, Bytes.Consumes-kept}
 use Rattle.zk_runs.proofs.Paid.{migrated-so_far, migrated-at_end, migrated-damaged, begun-in, begun-so_far, begun-before, paid, paid-part, let-go}
 use Rattle.zk_runs.proofs.Turns.{left-in-turn, left-after-turns, next-turn, read-none}
 use Rattle.zk_runs.proofs.migrate.migrate_run.Goals as goal

@@ -1,14 +1,8 @@
 use Rattle.std.proofs.Common.{◌≡◌, ◌≢◌, ℕ, true, false, sym, subst, ◌∙◌}
-use Rattle.std.proofs.lemmas.Result.{err_from_is_err_and}
-use Rattle.std.proofs.lemmas.Bool.{true_from_ne_false}
-use Rattle.zk_jute.specs.declared.fault.ItemFault.{ItemFault}
-use Rattle.zk_jute.specs.declared.fault.Reason.TheVariants.{NoMemory}
-use Rattle.zk_talk.specs.Judged.{TellsClient, IsNumbered}
-use Rattle.zk_talk.specs.Settled.{IsAsking}
-use Rattle.zk_talk.proofs.Seen.{payload_small, client_seen, client_told}
-use Rattle.zk_talk.proofs.Settling.{full_told, bytes_of_it}
-use Rattle.zk_talk.proofs.SayingPayloads.{not_true}
-use Rattle.zk_talk.proofs.Telling.{told_client}
+use Rattle.std.proofs.{lemmas.Result.err_from_is_err_and, lemmas.Bool.true_from_ne_false}
+use Rattle.zk_jute.specs.{declared.fault.ItemFault.ItemFault, declared.fault.Reason.TheVariants.NoMemory}
+use Rattle.zk_talk.specs.{Judged.TellsClient, Judged.IsNumbered, Settled.IsAsking}
+use Rattle.zk_talk.proofs.{Seen.payload_small, Seen.client_seen, Seen.client_told, Settling.full_told, Settling.bytes_of_it, SayingPayloads.not_true, Telling.told_client}
 use Rattle.zk_talk.proofs.frame.client_frame.Goals as goal
 
 pub returns-in_err-asked-clause-fault : goal.returns-in_err-asked-clause-fault

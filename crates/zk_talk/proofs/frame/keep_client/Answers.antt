@@ -2,10 +2,8 @@ use Rattle.std.proofs.Common.{subst, sym, ap, ◌∙◌, ◌+◌}
 use Rattle.std.proofs.lemmas.Result.{err_from_is_err_and}
 use Rattle.zk_jute.proofs.Judged.{says_more}
 use Rattle.zk_frames.specs.Framing.{frame}
-use Rattle.zk_talk.specs.Streams.{StreamState}
-use Rattle.zk_talk.specs.Viewed.{ShowsClient}
-use Rattle.zk_talk.proofs.Viewing.{client_shown}
-use Rattle.zk_talk.proofs.Seen.{payload_small, client_passes, client_told}
+use Rattle.zk_talk.specs.{Streams.StreamState, Viewed.ShowsClient}
+use Rattle.zk_talk.proofs.{Viewing.client_shown, Seen.payload_small, Seen.client_passes, Seen.client_told}
 use Rattle.zk_talk.proofs.frame.keep_client.Goals as goal
 
 pub await_ask-requires : goal.await_ask-requires

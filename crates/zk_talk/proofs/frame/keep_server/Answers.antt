@@ -2,10 +2,8 @@ use Rattle.std.proofs.Common.{◌+◌, sym, ap, subst, ◌∙◌}
 use Rattle.std.proofs.lemmas.Result.{err_from_is_err_and}
 use Rattle.zk_jute.proofs.Judged.{says_more}
 use Rattle.zk_frames.specs.Framing.{frame}
-use Rattle.zk_talk.specs.Streams.{StreamState}
-use Rattle.zk_talk.specs.Viewed.{ShowsServer}
-use Rattle.zk_talk.proofs.Seen.{server_passes, server_told}
-use Rattle.zk_talk.proofs.Viewing.{server_shown}
+use Rattle.zk_talk.specs.{Streams.StreamState, Viewed.ShowsServer}
+use Rattle.zk_talk.proofs.{Seen.server_passes, Seen.server_told, Viewing.server_shown}
 use Rattle.zk_talk.proofs.frame.keep_server.Goals as goal
 
 pub returns-in_err-answered-clause-fault : goal.returns-in_err-answered-clause-fault

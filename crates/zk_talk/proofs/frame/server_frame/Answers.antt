@@ -1,10 +1,7 @@
 use Rattle.std.proofs.Common.{◌≡◌, ap, sym, ◌∙◌}
 use Rattle.std.proofs.lemmas.Result.{err_from_is_err_and}
 use Rattle.zk_frames.specs.Framing.{frame}
-use Rattle.zk_talk.proofs.Hearing.{hears}
-use Rattle.zk_talk.proofs.Settling.{expected, tells_replied}
-use Rattle.zk_talk.proofs.Viewing.{server_shown}
-use Rattle.zk_talk.proofs.Seen.{server_seen, server_told}
+use Rattle.zk_talk.proofs.{Hearing.hears, Settling.expected, Settling.tells_replied, Viewing.server_shown, Seen.server_seen, Seen.server_told}
 use Rattle.zk_talk.proofs.frame.server_frame.Goals as goal
 
 pub returns-in_err-answer-clause-fault : goal.returns-in_err-answer-clause-fault

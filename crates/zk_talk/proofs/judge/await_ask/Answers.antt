@@ -1,7 +1,6 @@
 use Rattle.std.proofs.lemmas.Result.{err_from_is_err_and}
 use Rattle.zk_jute.proofs.Judged.{says_more, says_one}
-use Rattle.zk_talk.proofs.Settling.{full_told}
-use Rattle.zk_talk.proofs.Telling.{told_client}
+use Rattle.zk_talk.proofs.{Settling.full_told, Telling.told_client}
 use Rattle.zk_talk.proofs.judge.await_ask.Goals as goal
 
 pub put_asked-requires : goal.put_asked-requires

@@ -1,7 +1,6 @@
 use Rattle.std.proofs.Common.{subst, map}
 use Rattle.std.specs.Prelude.{Option}
-use Rattle.zk_asks.specs.Parts.{op_of_part}
-use Rattle.zk_asks.specs.declared.judge.Outline.{Outline}
+use Rattle.zk_asks.specs.{Parts.op_of_part, declared.judge.Outline.Outline}
 use Rattle.zk_talk.specs.Settled.{IsAsking}
 use Rattle.zk_talk.proofs.Settling.{few_asked, multi_asked, has_these, room_to, room_from}
 use Rattle.zk_talk.proofs.judge.has_room.Goals as goal

@@ -1,25 +1,15 @@
 use Rattle.std.proofs.Common.{rules, w32, sym, ap, ◌∙◌, subst, FitsSigned, arith, ◌≡◌, ◌≢◌, Some, None, refl}
 use Rattle.std.specs.Prelude.{List, Option, slice_get}
-use Rattle.std.proofs.lemmas.Int.{to_z-of_z, ints}
-use Rattle.std.proofs.lemmas.Result.{err_from_is_err_and}
-use Rattle.zk_jute.specs.declared.fault.ItemFault.{ItemFault}
+use Rattle.std.proofs.{lemmas.Int.to_z-of_z, lemmas.Int.ints, lemmas.Result.err_from_is_err_and}
+use Rattle.zk_jute.specs.{declared.fault.ItemFault.ItemFault, Reading.told_place}
 use Rattle.zk_jute.specs.declared.fault.Reason.TheVariants.{Unasked, XidOrder}
-use Rattle.zk_jute.specs.Reading.{told_place}
 use Rattle.zk_jute.proofs.Judged.{says_more, says_one}
-use Rattle.zk_talk.specs.declared.replied.Replied.{Replied}
+use Rattle.zk_talk.specs.{declared.replied.Replied.Replied, Fault.IsServerFault, Settled.IsDueReply}
 use Rattle.zk_records.specs.declared.op.PartOp.{PartOp}
-use Rattle.zk_answers.specs.Held.{Reply}
-use Rattle.zk_answers.specs.Faults.{IsReplyFault}
-use Rattle.zk_answers.specs.Fronts.{IsReplyUnder}
-use Rattle.zk_waiting.specs.declared.lane.Lane.{Lane}
-use Rattle.zk_waiting.specs.Lane.{lane_of}
-use Rattle.zk_waiting.specs.Waiting.{Lanes, Request, queue_on}
-use Rattle.zk_talk.specs.Fault.{IsServerFault}
-use Rattle.zk_talk.specs.Settled.{IsDueReply}
+use Rattle.zk_answers.specs.{Held.Reply, Faults.IsReplyFault, Fronts.IsReplyUnder}
+use Rattle.zk_waiting.specs.{declared.lane.Lane.Lane, Lane.lane_of, Waiting.Lanes, Waiting.Request, Waiting.queue_on}
 use Rattle.zk_talk.proofs.Judging as J
-use Rattle.zk_talk.proofs.Small.{same_signed}
-use Rattle.zk_talk.proofs.Settling.{reply_is_due}
-use Rattle.zk_talk.proofs.Telling.{told_at, told_answer, unasked_known, order_known}
+use Rattle.zk_talk.proofs.{Small.same_signed, Settling.reply_is_due, Telling.told_at, Telling.told_answer, Telling.unasked_known, Telling.order_known}
 use Rattle.zk_talk.proofs.judge.judge_answer.Goals as goal
 
 -- what is at the front of the lane, in the reply's own

@@ -1,13 +1,10 @@
 use Rattle.std.proofs.lemmas.Result.{err_from_is_err_and}
 use Rattle.zk_jute.specs.Told.{IsSurelyTold}
 use Rattle.zk_jute.proofs.Judged.{says_more}
-use Rattle.zk_asks.specs.Held.{ClientFrame}
-use Rattle.zk_asks.specs.Frames.{IsFirst, IsSent, payload}
-use Rattle.zk_asks.specs.Faults.{IsFirstFault}
+use Rattle.zk_asks.specs.{Held.ClientFrame, Frames.IsFirst, Frames.IsSent, Frames.payload, Faults.IsFirstFault}
 use Rattle.zk_asks.proofs.Knowing.{of_answer}
 use Rattle.std.proofs.Common.{◌≡◌}
-use Rattle.zk_talk.proofs.Settling.{connect_comes, ask_comes}
-use Rattle.zk_talk.proofs.Telling.{told_first, told_later, told_on}
+use Rattle.zk_talk.proofs.{Settling.connect_comes, Settling.ask_comes, Telling.told_first, Telling.told_later, Telling.told_on}
 use Rattle.zk_talk.proofs.judge.judge_client.Goals as goal
 
 pub returns-in_err-on-clause-fault : goal.returns-in_err-on-clause-fault

@@ -1,22 +1,17 @@
 use Rattle.std.proofs.Common.{w32, FitsSigned, arith, ◌≡◌, ◌∙◌, sym, negsuc}
-use Rattle.std.specs.Prelude.{ℕ}
-use Rattle.std.proofs.lemmas.Int.{ints, to_z-of_z}
-use Rattle.std.proofs.lemmas.Result.{err_from_is_err_and}
+use Rattle.std.specs.Prelude.{ℕ, List}
+use Rattle.std.proofs.{lemmas.Int.ints, lemmas.Int.to_z-of_z, lemmas.Result.err_from_is_err_and}
 use Rattle.zk_jute.specs.Told.{IsSurelyTold}
 use Rattle.zk_jute.proofs.Judged.{says_more}
 use Rattle.zk_asks.proofs.Knowing.{of_answer}
-use Rattle.zk_answers.specs.Held.{ServerFrame}
+use Rattle.zk_answers.specs.{Held.ServerFrame, Faults.IsHead, Faults.IsConnectedFault}
 use Rattle.zk_answers.specs.Frames as answers
-use Rattle.zk_answers.specs.Faults.{IsHead, IsConnectedFault}
 use Rattle.zk_waiting.specs.Lane.{lane_of}
 use Rattle.zk_waiting.specs.declared.lane.Lane.TheVariants as Lane
 use Rattle.zk_records.specs.declared.header.ReplyHeader.{ReplyHeader}
-use Rattle.std.specs.Prelude.{List}
 use Rattle.zk_talk.specs.Said.{Heard}
 use Rattle.zk_talk.proofs.Judging as J
-use Rattle.zk_talk.proofs.Hearing.{described, none_spoken, some_spoken}
-use Rattle.zk_talk.proofs.Settling.{reply_heard, event_heard, connected_heard}
-use Rattle.zk_talk.proofs.Telling.{told_server, told_on}
+use Rattle.zk_talk.proofs.{Hearing.described, Hearing.none_spoken, Hearing.some_spoken, Settling.reply_heard, Settling.event_heard, Settling.connected_heard, Telling.told_server, Telling.told_on}
 use Rattle.zk_talk.proofs.judge.judge_server.Goals as goal
 
 pub returns-in_err-judge_change-clause-fault : goal.returns-in_err-judge_change-clause-fault

@@ -3,8 +3,7 @@ use Rattle.std.specs.Int.{w32}
 use Rattle.std.proofs.lemmas.Int.{to_z-of_z}
 use Rattle.zk_records.specs.declared.op.Op.TheVariants as ops
 use Rattle.zk_asks.specs.Parts.{op_of_part}
-use Rattle.zk_waiting.specs.Lane.{lane_of}
-use Rattle.zk_waiting.specs.Waiting.{IsPut}
+use Rattle.zk_waiting.specs.{Lane.lane_of, Waiting.IsPut}
 use Rattle.zk_talk.proofs.Settling.{few_asked, fits_asked, multi_asked, has_these, room_from, put_to, put_full}
 use Rattle.zk_talk.proofs.judge.put_multi.Goals as goal
 

@@ -1,8 +1,6 @@
 use Rattle.std.proofs.lemmas.Result.{err_from_is_err_and}
 use Rattle.zk_jute.proofs.Judged.{says_more}
-use Rattle.zk_talk.proofs.Hearing.{hears}
-use Rattle.zk_talk.proofs.Judging.{due_waits}
-use Rattle.zk_talk.proofs.Settling.{expected, settled}
+use Rattle.zk_talk.proofs.{Hearing.hears, Judging.due_waits, Settling.expected, Settling.settled}
 use Rattle.zk_talk.proofs.judge.settle.Goals as goal
 
 pub returns-in_err-answer-clause-fault : goal.returns-in_err-answer-clause-fault

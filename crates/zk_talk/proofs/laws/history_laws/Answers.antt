@@ -1,8 +1,4 @@
-use Rattle.zk_talk.proofs.Deciding.{good_or_fault}
-use Rattle.zk_talk.proofs.FaultOnce.{fault_once}
-use Rattle.zk_talk.proofs.Headline.{same_good, fault_is_bad, fault_more}
-use Rattle.zk_talk.proofs.OrderOnce.{order_once}
-use Rattle.zk_talk.proofs.Small.{small_limits}
+use Rattle.zk_talk.proofs.{Deciding.good_or_fault, FaultOnce.fault_once, Headline.same_good, Headline.fault_is_bad, Headline.fault_more, OrderOnce.order_once, Small.small_limits}
 use Rattle.zk_talk.proofs.laws.history_laws.Goals as goal
 
 pub returns-clause-conversation : goal.returns-clause-conversation

@@ -1,15 +1,7 @@
-use Rattle.std.proofs.Common.{ℕ, List}
+use Rattle.std.proofs.Common.{ℕ, List, [], ◌∙◌, arith}
 use Rattle.std.specs.Borrow.{Bor}
-use Rattle.zk_talk.specs.declared.message.Side.{Side}
-use Rattle.zk_talk.specs.declared.message.Side.TheVariants.{Client}
-use Rattle.zk_talk.specs.declared.message.Ending.TheVariants.{Refused}
-use Rattle.std.proofs.Common.{[]}
-use Rattle.zk_talk.proofs.Small.{small_limits}
-use Rattle.std.proofs.Common.{◌∙◌, arith}
-use Rattle.zk_talk.specs.Answer.{history_of}
-use Rattle.zk_talk.proofs.Headline.{answer_whole, read_refused, read_more, read_ends}
-use Rattle.zk_talk.proofs.OrderOnce.{order_once}
-use Rattle.zk_talk.proofs.FaultOnce.{answer_fault}
+use Rattle.zk_talk.specs.{declared.message.Side.Side, declared.message.Side.TheVariants.Client, declared.message.Ending.TheVariants.Refused, Answer.history_of}
+use Rattle.zk_talk.proofs.{Small.small_limits, Headline.answer_whole, Headline.read_refused, Headline.read_more, Headline.read_ends, OrderOnce.order_once, FaultOnce.answer_fault}
 use Rattle.zk_talk.proofs.read.read_all.Goals as goal
 
 abbrev no_piece : Side × Bor (List ℕ)

@@ -1,6 +1,5 @@
 use Rattle.std.proofs.Common.{length, ◌-◌, ◌≡◌, ◌≤◌, ◌++◌, take}
-use Rattle.zk_talk.specs.History.{History, on}
-use Rattle.zk_talk.specs.Stands.{Stands}
+use Rattle.zk_talk.specs.{History.History, History.on, Stands.Stands}
 use Rattle.zk_talk.proofs.read.take_all.Given as goal
 
 abbrev pub invariant-loop-at : goal.invariant-loop-at

@@ -1,8 +1,7 @@
 use Rattle.std.proofs.Common.{rules, w32, sym, ap, subst, ◌∙◌, FitsSigned, arith, ◌≡◌, ◌≢◌, Some, None}
 use Rattle.std.specs.Prelude.{slice_get}
 use Rattle.std.proofs.lemmas.Int.{to_z-of_z, ints}
-use Rattle.zk_waiting.specs.Lane.{lane_of}
-use Rattle.zk_waiting.specs.Waiting.{queue_on}
+use Rattle.zk_waiting.specs.{Lane.lane_of, Waiting.queue_on}
 use Rattle.zk_talk.specs.Refused.{AnswersOp}
 use Rattle.zk_talk.proofs.Bodies as B
 use Rattle.zk_talk.proofs.refused.answered_op.Goals as goal

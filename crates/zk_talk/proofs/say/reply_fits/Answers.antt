@@ -1,8 +1,7 @@
 use Rattle.std.proofs.Common.{◌≡◌, ◌≢◌, ◌∙◌, ap, sym, rules, w32, FitsSigned, of_z, false}
 use Rattle.std.specs.Prelude.{negsuc}
 use Rattle.std.proofs.lemmas.Int.{to_z-of_z}
-use Rattle.zk_talk.proofs.Small.{same_signed}
-use Rattle.zk_talk.proofs.Saying.{unfit_other, unfit_unlike}
+use Rattle.zk_talk.proofs.{Small.same_signed, Saying.unfit_other, Saying.unfit_unlike}
 use Rattle.zk_talk.proofs.say.reply_fits.Goals as goal
 
 pub returns-then-expected-got-clause-err : goal.returns-then-expected-got-clause-err

@@ -1,8 +1,7 @@
 use Rattle.std.proofs.Common.{◌≡◌, ◌≤◌, arith, true, subst}
 use Rattle.zk_jute.specs.Item.{Fit}
 use Rattle.zk_asks.specs.Frames.{frame_items}
-use Rattle.zk_talk.proofs.Saying.{client_stands, client_said, client_full, unequal}
-use Rattle.zk_talk.proofs.Speaking.{small_payload, either_way}
+use Rattle.zk_talk.proofs.{Saying.client_stands, Saying.client_said, Saying.client_full, Saying.unequal, Speaking.small_payload, Speaking.either_way}
 use Rattle.zk_talk.proofs.say.say_client.Goals as goal
 
 pub put_request-requires-clause-small : goal.put_request-requires-clause-small

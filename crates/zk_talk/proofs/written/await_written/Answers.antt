@@ -2,8 +2,7 @@ use Rattle.std.proofs.Common.{◌≤◌, length, arith, subst}
 use Rattle.zk_records.specs.declared.profile.Profile.{Profile}
 use Rattle.zk_asks.specs.Held.{ClientFrame}
 use Rattle.zk_talk.specs.Settled.{IsAwaited}
-use Rattle.zk_talk.proofs.SayingPayloads.{spoken_frames}
-use Rattle.zk_talk.proofs.SayingWritten.{client_written}
+use Rattle.zk_talk.proofs.{SayingPayloads.spoken_frames, SayingWritten.client_written}
 use Rattle.zk_talk.proofs.written.await_written.Goals as goal
 
 pub returns-in-Ok-clause-said : goal.returns-in-Ok-clause-said

@@ -1,6 +1,5 @@
 use Rattle.std.proofs.Common.{◌≤◌, length, arith}
-use Rattle.zk_talk.proofs.Judging.{due_waits}
-use Rattle.zk_talk.proofs.SayingWritten.{server_written}
+use Rattle.zk_talk.proofs.{Judging.due_waits, SayingWritten.server_written}
 use Rattle.zk_talk.proofs.written.forget_written.Goals as goal
 
 pub forget_asked-requires : goal.forget_asked-requires

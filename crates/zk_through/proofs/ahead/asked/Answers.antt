@@ -1,7 +1,6 @@
 use Rattle.std.proofs.Common.{◌≡◌, true, subst, arith}
 use Rattle.std.specs.Option.{IfSome}
-use Rattle.zk_through.specs.LeftOut.{has_turn}
-use Rattle.zk_through.specs.Turns.{turn_of}
+use Rattle.zk_through.specs.{LeftOut.has_turn, Turns.turn_of}
 use Rattle.zk_through.proofs.Carried.{tells_request}
 use Rattle.zk_through.proofs.ahead.asked.Goals as goal
 

@@ -1,8 +1,6 @@
 use Rattle.std.proofs.Common.{◌≡◌, ℕ, List, take, subst, arith}
-use Rattle.std.proofs.lemmas.Bool.{eqb-true}
-use Rattle.std.proofs.lemmas.List.{take_all}
-use Rattle.zk_through.specs.declared.through.Went.{Went}
-use Rattle.zk_through.specs.Runs.{WentOn, GoesOnTold}
+use Rattle.std.proofs.{lemmas.Bool.eqb-true, lemmas.List.take_all}
+use Rattle.zk_through.specs.{declared.through.Went.Went, Runs.WentOn, Runs.GoesOnTold}
 use Rattle.zk_through.proofs.join.takes.Goals as goal
 
 pub returns-in-Message-clause-took : goal.returns-in-Message-clause-took

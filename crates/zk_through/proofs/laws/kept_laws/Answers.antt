@@ -1,6 +1,5 @@
 use Rattle.std.proofs.Common.{[]}
-use Rattle.zk_through.proofs.Alone.{one_kept, all_kept}
-use Rattle.zk_through.proofs.Seen.{one_seen}
+use Rattle.zk_through.proofs.{Alone.one_kept, Alone.all_kept, Seen.one_seen}
 use Rattle.zk_through.proofs.laws.kept_laws.Goals as goal
 
 pub returns-clause-one : goal.returns-clause-one

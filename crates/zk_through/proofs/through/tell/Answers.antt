@@ -1,10 +1,6 @@
 use Rattle.std.proofs.Common.{◌≡◌, ◌≤◌, ◌∙◌, ◌++◌, ℕ, inr, List, length, false, ap, subst, arith}
 use Rattle.zk_frames.proofs.Cuts.{length-frame}
-use Rattle.zk_talk.specs.declared.limits.Limits.{Limits}
-use Rattle.zk_talk.specs.declared.message.Fault.{Fault}
-use Rattle.zk_talk.specs.History.{on}
-use Rattle.zk_talk.specs.Fault.{IsFaultOf, side_limit}
-use Rattle.zk_talk.specs.Taking.{StepsOn}
+use Rattle.zk_talk.specs.{declared.limits.Limits.Limits, declared.message.Fault.Fault, History.on, Fault.IsFaultOf, Fault.side_limit, Taking.StepsOn}
 use Rattle.zk_talk.proofs.Small.{small_limits}
 use Rattle.zk_through.proofs.Telling.{told_whole}
 use Rattle.zk_through.proofs.through.tell.Goals as goal

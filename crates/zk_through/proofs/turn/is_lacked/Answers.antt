@@ -1,13 +1,9 @@
 use Rattle.std.proofs.Common.{rules, ◌≡◌, ◌∙◌, ap, w32, SFits, Bool, true, false, sym, subst}
 use Rattle.std.specs.Prelude.{MatchBool}
-use Rattle.std.proofs.lemmas.Bool.{false≢true}
-use Rattle.std.proofs.lemmas.Int.{to_z-of_z}
-use Rattle.zk_records.specs.declared.profile.Profile.{Profile}
-use Rattle.zk_records.specs.Codes.{IsNoOp}
+use Rattle.std.proofs.{lemmas.Bool.false≢true, lemmas.Int.to_z-of_z}
+use Rattle.zk_records.specs.{declared.profile.Profile.Profile, Codes.IsNoOp}
 use Rattle.zk_waiting.specs.Lane.{lane_of}
-use Rattle.zk_through.specs.declared.turn.Turn.{Turn}
-use Rattle.zk_through.specs.LeftOut.{may_be_out}
-use Rattle.zk_through.specs.Turns.{IsLacked}
+use Rattle.zk_through.specs.{declared.turn.Turn.Turn, LeftOut.may_be_out, Turns.IsLacked}
 use Rattle.zk_through.proofs.turn.is_lacked.Goals as goal
 
 lacked : (profile : Profile) (turn : Turn) (b : Bool) → b ≡ may_be_out (lane_of turn.xid) → IsNoOp profile turn.number → MatchBool b (IsLacked profile turn) (IsLacked profile turn → ⊥)

@@ -1,7 +1,6 @@
 use Rattle.std.proofs.Common.{rules, ◌∙◌, ℕ, List, sym, ap}
 use Rattle.std.proofs.lemmas.Option.{IfSome_then}
-use Rattle.zk_through.specs.LeftOut.{xid_of, zxid_of, err_of}
-use Rattle.zk_through.specs.Turns.{IsEarlier}
+use Rattle.zk_through.specs.{LeftOut.xid_of, LeftOut.zxid_of, LeftOut.err_of, Turns.IsEarlier}
 use Rattle.zk_talk.proofs.Bodies.{frame_once}
 use Rattle.zk_through.proofs.unseen.unseen.Goals as goal
 

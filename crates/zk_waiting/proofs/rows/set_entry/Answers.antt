@@ -1,8 +1,7 @@
 use Rattle.std.proofs.Common.{◌<◌, ◌∙◌, arith, refl}
 use Rattle.std.proofs.lemmas.Option.{slice_get_read}
 use Rattle.std.specs.Prelude.{length}
-use Rattle.zk_waiting.specs.declared.row.Column.TheVariants.{Plain}
-use Rattle.zk_waiting.specs.Columns.{entry_row}
+use Rattle.zk_waiting.specs.{declared.row.Column.TheVariants.Plain, Columns.entry_row}
 use Rattle.zk_waiting.proofs.Columns.{set_within, set_grown}
 use Rattle.zk_waiting.proofs.rows.set_entry.Goals as goal
 

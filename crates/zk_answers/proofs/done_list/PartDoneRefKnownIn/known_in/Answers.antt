@@ -3,9 +3,7 @@ use Rattle.std.specs.Int.{w32}
 use Rattle.std.proofs.lemmas.Int.{to_z-of_z}
 use Rattle.std.specs.Prelude.{◌≢◌}
 use Rattle.zk_jute.specs.Wired.{int}
-use Rattle.zk_records.specs.declared.op.PartOp.{PartOp}
-use Rattle.zk_records.specs.Codes.{part_number}
-use Rattle.zk_records.specs.Records.{multi_header}
+use Rattle.zk_records.specs.{declared.op.PartOp.PartOp, Codes.part_number, Records.multi_header}
 use Rattle.zk_asks.proofs.Knowing.{found_there}
 use Rattle.zk_answers.proofs.Lying.{number_only, error_there, mark_stands, own_there, result_there, done_read}
 use Rattle.zk_answers.proofs.done_list.PartDoneRefKnownIn.known_in.Goals as goal

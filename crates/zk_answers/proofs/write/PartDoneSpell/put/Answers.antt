@@ -2,8 +2,7 @@ use Rattle.std.proofs.Common.{◌++◌, ◌∷◌, [], ap, subst, ◌∙◌}
 use Rattle.std.specs.Int.{w32}
 use Rattle.std.proofs.lemmas.Int.{to_z-of_z}
 use Rattle.zk_jute.specs.Item.{AnInt, bytes_of, HaveBytes}
-use Rattle.zk_jute.proofs.Layouts.{have_parts}
-use Rattle.zk_jute.proofs.Puts.{on_ok_map, on_err_map}
+use Rattle.zk_jute.proofs.{Layouts.have_parts, Puts.on_ok_map, Puts.on_err_map}
 use Rattle.zk_records.specs.declared.header.MultiHeader.{MultiHeader}
 use Rattle.zk_asks.specs.Parts.{marked}
 use Rattle.zk_answers.specs.Results.{error_header}

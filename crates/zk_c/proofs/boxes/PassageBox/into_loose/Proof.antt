@@ -1,8 +1,7 @@
 -- `into_loose` hands over what the pointer owned.
 use Rattle.zk_c.proofs.Boxed as boxed
-use Rattle.zk_c.proofs.Pointers.{passage}
+use Rattle.zk_c.proofs.{Pointers.passage, boxes.PassageBox.into_loose.Statement.statement}
 use Rattle.zk_c.specs.contracts.boxes.PassageBox.into_loose.Key.{name as #self}
-use Rattle.zk_c.proofs.boxes.PassageBox.into_loose.Statement.{statement}
 use Rattle.zk_c.proofs.boxes.PassageBox.into_loose.Code as code
 
 pub into_loose_spec : {M : Type 1} → statement M

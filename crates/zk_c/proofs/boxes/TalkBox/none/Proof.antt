@@ -1,8 +1,7 @@
 -- `none` owns nothing.
 use Rattle.zk_c.proofs.Boxed as boxed
-use Rattle.zk_c.proofs.Pointers.{talk}
+use Rattle.zk_c.proofs.{Pointers.talk, boxes.TalkBox.none.Statement.statement}
 use Rattle.zk_c.specs.contracts.boxes.TalkBox.none.Key.{name as #self}
-use Rattle.zk_c.proofs.boxes.TalkBox.none.Statement.{statement}
 use Rattle.zk_c.proofs.boxes.TalkBox.none.Code as code
 
 pub none_spec : {M : Type 1} → statement M

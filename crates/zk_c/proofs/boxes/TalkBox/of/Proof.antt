@@ -1,8 +1,7 @@
 -- `of` takes over what the box owned.
 use Rattle.zk_c.proofs.Boxed as boxed
-use Rattle.zk_c.proofs.Pointers.{talk}
+use Rattle.zk_c.proofs.{Pointers.talk, boxes.TalkBox.of.Statement.statement}
 use Rattle.zk_c.specs.contracts.boxes.TalkBox.of.Key.{name as #self}
-use Rattle.zk_c.proofs.boxes.TalkBox.of.Statement.{statement}
 use Rattle.zk_c.proofs.boxes.TalkBox.of.Code as code
 
 pub of_spec : {M : Type 1} → statement M

@@ -1,7 +1,5 @@
 use Rattle.std.proofs.Common.{◌<◌, ◌^◌, length, arith, subst}
-use Rattle.zk_talk.specs.Held.{Message}
-use Rattle.zk_talk.specs.Stands.{TalkState, kept_on}
-use Rattle.zk_talk.specs.Viewed.{Shows}
+use Rattle.zk_talk.specs.{Held.Message, Stands.TalkState, Stands.kept_on, Viewed.Shows}
 use Rattle.zk_c.specs.Handle.{IsFields}
 use Rattle.zk_c.proofs.Keeping.{has_fields}
 use Rattle.zk_c.proofs.conversation.Conversation.fields.Goals as goal

@@ -1,10 +1,6 @@
 use Rattle.std.proofs.Common.{◌≡◌, ◌<◌, ◌^◌, true, length, arith, sym, ap, subst, ◌∙◌}
-use Rattle.zk_talk.specs.Held.{Message}
-use Rattle.zk_talk.specs.Stands.{kept_on}
-use Rattle.zk_talk.specs.Viewed.{Shows}
-use Rattle.zk_c.specs.Passage.{PassageState, newest_on}
-use Rattle.zk_c.specs.Passing.{IsFields}
-use Rattle.zk_c.specs.contracts.passage.Passage.{the_view}
+use Rattle.zk_talk.specs.{Held.Message, Stands.kept_on, Viewed.Shows}
+use Rattle.zk_c.specs.{Passage.PassageState, Passage.newest_on, Passing.IsFields, contracts.passage.Passage.the_view}
 use Rattle.zk_c.proofs.Keeping.{has_fields}
 use Rattle.zk_c.proofs.passage.Passage.fields.Goals as goal
 

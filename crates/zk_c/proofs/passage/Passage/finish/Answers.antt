@@ -1,6 +1,5 @@
 use Rattle.std.proofs.Common.{subst}
-use Rattle.zk_c.specs.Passage.{PassageState}
-use Rattle.zk_c.specs.Passing.{IsFinish}
+use Rattle.zk_c.specs.{Passage.PassageState, Passing.IsFinish}
 use Rattle.zk_c.proofs.passage.Passage.finish.Goals as goal
 
 pub returns : goal.returns

@@ -4,11 +4,7 @@ use Rattle.std.specs.Borrow.{Bor}
 use Rattle.zk_frames.specs.Framing.{frame}
 use Rattle.zk_talk.specs.declared.message.Side.{Side}
 use Rattle.zk_through.specs.Runs.{left_on}
-use Rattle.zk_c.specs.declared.answer.LineAnswer.{LineAnswer}
-use Rattle.zk_c.specs.Answer.{no_line}
-use Rattle.zk_c.specs.Handle.{TellsText}
-use Rattle.zk_c.specs.Passage.{PassageState}
-use Rattle.zk_c.specs.Passing.{IsLeftOut}
+use Rattle.zk_c.specs.{declared.answer.LineAnswer.LineAnswer, Answer.no_line, Handle.TellsText, Passage.PassageState, Passing.IsLeftOut}
 use Rattle.zk_c.proofs.Keeping.{framed_some}
 use Rattle.zk_c.proofs.passage.Passage.payload.Goals as goal
 

@@ -1,7 +1,6 @@
 use Rattle.std.proofs.Common.{Err, subst}
 use Rattle.zk_talk.specs.Viewed.{other_side}
-use Rattle.zk_c.specs.Passage.{PassageState}
-use Rattle.zk_c.specs.Passing.{IsPassing}
+use Rattle.zk_c.specs.{Passage.PassageState, Passing.IsPassing}
 use Rattle.zk_c.proofs.Handles.{same_newest}
 use Rattle.zk_c.proofs.passage.Passage.step.Goals as goal
 

@@ -1,6 +1,5 @@
 use Rattle.std.proofs.Common.{◌∙◌}
-use Rattle.zk_jute.specs.declared.fault.Reason.TheVariants.{UnknownOp}
-use Rattle.zk_jute.specs.Reading.{Fault}
+use Rattle.zk_jute.specs.{declared.fault.Reason.TheVariants.UnknownOp, Reading.Fault}
 use Rattle.zk_c.specs.Read.{refused_read, in_head, no_body}
 use Rattle.zk_c.proofs.read_answer.ReadAnswer.unknown.Goals as goal
 

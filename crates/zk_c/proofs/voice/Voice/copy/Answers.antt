@@ -1,8 +1,6 @@
 use Rattle.std.proofs.Common.{◌≡◌, ℕ, List, [], ◌∷◌, ◌++◌, ◌∙◌, ap, length}
-use Rattle.zk_c.specs.contracts.voice.Voice.{the_view}
-use Rattle.zk_c.specs.Voice.{VoiceState}
-use Rattle.zk_c.proofs.Handles.{say_of}
-use Rattle.zk_c.proofs.Copied.{copied_said}
+use Rattle.zk_c.specs.{contracts.voice.Voice.the_view, Voice.VoiceState}
+use Rattle.zk_c.proofs.{Handles.say_of, Copied.copied_said}
 use Rattle.zk_c.proofs.voice.Voice.copy.Goals as goal
 
 pub returns-clause-said : goal.returns-clause-said

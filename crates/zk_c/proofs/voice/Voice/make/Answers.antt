@@ -1,10 +1,8 @@
 use Rattle.std.proofs.Common.{ℕ, List, ◌++◌, ap, ◌∙◌}
 use Rattle.zk_frames.specs.Framing.{frame}
 use Rattle.zk_talk.specs.Said.{payload_of}
-use Rattle.zk_c.specs.Voice.{VoiceState}
-use Rattle.zk_c.specs.Saying.{say_answer, said, refused, no_line}
-use Rattle.zk_c.proofs.Copied.{voiced}
-use Rattle.zk_c.proofs.Handles.{say_of}
+use Rattle.zk_c.specs.{Voice.VoiceState, Saying.say_answer, Saying.said, Saying.refused, Saying.no_line}
+use Rattle.zk_c.proofs.{Copied.voiced, Handles.say_of}
 use Rattle.zk_c.proofs.voice.Voice.make.Goals as goal
 
 pub returns-in-Err : goal.returns-in-Err

@@ -1,8 +1,5 @@
 use Rattle.std.proofs.Common.{ℕ, length, ap, ◌∙◌, sym, subst}
-use Rattle.zk_c.specs.contracts.voice.Voice.{the_view}
-use Rattle.zk_c.specs.declared.said.SayAnswer.{SayAnswer}
-use Rattle.zk_c.specs.Voice.{VoiceState}
-use Rattle.zk_c.specs.Saying.{TellsSay, say_answer, silent}
+use Rattle.zk_c.specs.{contracts.voice.Voice.the_view, declared.said.SayAnswer.SayAnswer, Voice.VoiceState, Saying.TellsSay, Saying.say_answer, Saying.silent}
 use Rattle.zk_c.proofs.Copied.{voiced, say_silent}
 use Rattle.zk_c.proofs.voice.Voice.say.Goals as goal
 

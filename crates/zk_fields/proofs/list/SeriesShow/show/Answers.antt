@@ -1,8 +1,7 @@
 use Rattle.std.proofs.Common.{ℕ, subst}
 use Rattle.std.specs.Prelude.{[], ◌∷◌, Some}
 use Rattle.zk_jute.specs.Item.{ACount}
-use Rattle.zk_fields.specs.Fields.{Under}
-use Rattle.zk_fields.specs.Room.{Takes}
+use Rattle.zk_fields.specs.{Fields.Under, Room.Takes}
 use Rattle.zk_fields.proofs.Rooms.{takes_both}
 use Rattle.zk_fields.proofs.list.SeriesShow.show.Goals as goal
 

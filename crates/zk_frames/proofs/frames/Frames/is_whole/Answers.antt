@@ -1,6 +1,5 @@
 use Rattle.std.proofs.Common.{sym, subst, refl, arith}
-use Rattle.zk_frames.specs.Held.{IsWhole}
-use Rattle.zk_frames.specs.Advance.{Holds}
+use Rattle.zk_frames.specs.{Held.IsWhole, Advance.Holds}
 use Rattle.zk_frames.proofs.Taking.{standing_whole}
 use Rattle.zk_frames.proofs.frames.Frames.is_whole.Goals as goal
 

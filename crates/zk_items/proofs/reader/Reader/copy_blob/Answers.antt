@@ -1,10 +1,7 @@
 use Rattle.std.proofs.Common.{◌≡◌, ◌∷◌, ◌++◌, ◌/◌, List, ℕ, length, take, drop, refl, ap, sym, subst, ◌∙◌}
 use Rattle.std.specs.List.{prefix_len}
 use Rattle.zk_items.specs.Leaf.{in_hex}
-use Rattle.zk_items.proofs.Copies.{null_blob, full_blob}
-use Rattle.zk_items.proofs.Joined.{Hex}
-use Rattle.zk_items.proofs.Kept.{on_some}
-use Rattle.zk_items.proofs.Runs.{run_passes}
+use Rattle.zk_items.proofs.{Copies.null_blob, Copies.full_blob, Joined.Hex, Kept.on_some, Runs.run_passes}
 use Rattle.zk_items.proofs.reader.Reader.copy_blob.Goals as goal
 
 pub append_bytes-requires : goal.append_bytes-requires

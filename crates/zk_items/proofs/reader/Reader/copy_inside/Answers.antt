@@ -1,9 +1,7 @@
 use Rattle.std.proofs.Common.{◌≡◌, ◌∷◌, [], ◌++◌, ◌-◌, ◌+◌, List, ℕ, length, take, drop, refl, ap, sym, ◌∙◌, subst, arith, Some}
 use Rattle.std.specs.Prelude.{IsUtf8}
-use Rattle.zk_items.specs.Many.{many_at, with_front}
-use Rattle.zk_items.specs.Leaf.{symbol_at}
-use Rattle.zk_items.proofs.Copies.{chars_copied, ok_is}
-use Rattle.zk_items.proofs.Kept.{on_both}
+use Rattle.zk_items.specs.{Many.many_at, Many.with_front, Leaf.symbol_at}
+use Rattle.zk_items.proofs.{Copies.chars_copied, Copies.ok_is, Kept.on_both}
 use Rattle.zk_items.proofs.reader.Reader.copy_inside.Goals as goal
 
 pub returns-clause-copied : goal.returns-clause-copied

@@ -1,8 +1,6 @@
 use Rattle.std.proofs.Common.{ℕ, ◌*◌, List, ◌++◌, length, take, ◌∙◌, ap, length-drop, arith}
-use Rattle.zk_items.specs.Leaf.{symbol_at}
-use Rattle.zk_items.specs.Many.{many_at, with_front}
-use Rattle.zk_items.proofs.Kept.{keeps_more}
-use Rattle.zk_items.proofs.Texts.{past_plain, past_run, past_symbol, symbol_shorter}
+use Rattle.zk_items.specs.{Leaf.symbol_at, Many.many_at, Many.with_front}
+use Rattle.zk_items.proofs.{Kept.keeps_more, Texts.past_plain, Texts.past_run, Texts.past_symbol, Texts.symbol_shorter}
 use Rattle.zk_items.proofs.reader.Reader.inside.Goals as goal
 
 pub loop-first-preserved-then-is_plain : goal.loop-first-preserved-then-is_plain

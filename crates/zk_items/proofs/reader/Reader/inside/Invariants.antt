@@ -1,7 +1,5 @@
 use Rattle.std.proofs.Common.{◌≡◌, length}
-use Rattle.zk_items.specs.Leaf.{symbol_at}
-use Rattle.zk_items.specs.Form.{Keeps}
-use Rattle.zk_items.specs.Many.{many_at, with_front}
+use Rattle.zk_items.specs.{Leaf.symbol_at, Form.Keeps, Many.many_at, Many.with_front}
 use Rattle.zk_items.proofs.reader.Reader.inside.Given as goal
 
 abbrev pub invariant-loop-first : goal.invariant-loop-first

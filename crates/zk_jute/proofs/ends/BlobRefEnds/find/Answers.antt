@@ -1,9 +1,7 @@
-use Rattle.zk_jute.proofs.Fields.{run_is}
-use Rattle.zk_jute.specs.Item.{ABuffer}
-use Rattle.zk_jute.specs.Reading.{run_at}
+use Rattle.zk_jute.proofs.{Fields.run_is, Judged.one_judged}
+use Rattle.zk_jute.specs.{Item.ABuffer, Reading.run_at}
 use Rattle.std.proofs.Common.{◌∷◌, []}
 use Rattle.std.specs.Prelude.{option_copied}
-use Rattle.zk_jute.proofs.Judged.{one_judged}
 use Rattle.zk_jute.proofs.ends.BlobRefEnds.find.Goals as goal
 
 pub returns-clause-exact : goal.returns-clause-exact

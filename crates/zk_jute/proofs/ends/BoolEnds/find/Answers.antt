@@ -1,8 +1,6 @@
-use Rattle.zk_jute.proofs.Fields.{bool_is}
-use Rattle.zk_jute.specs.Item.{ABoolean}
-use Rattle.zk_jute.specs.Reading.{bool_at}
+use Rattle.zk_jute.proofs.{Fields.bool_is, Judged.one_judged}
+use Rattle.zk_jute.specs.{Item.ABoolean, Reading.bool_at}
 use Rattle.std.proofs.Common.{◌∷◌, []}
-use Rattle.zk_jute.proofs.Judged.{one_judged}
 use Rattle.zk_jute.proofs.ends.BoolEnds.find.Goals as goal
 
 pub returns-clause-exact : goal.returns-clause-exact

@@ -1,7 +1,6 @@
 use Rattle.std.proofs.lemmas.Result.{err_from_is_err_and}
 use Rattle.zk_jute.specs.Reading.{items_at, times_at}
-use Rattle.zk_jute.proofs.Loops.{scanning_goes_on}
-use Rattle.zk_jute.proofs.Judged.{elements_refused}
+use Rattle.zk_jute.proofs.{Loops.scanning_goes_on, Judged.elements_refused}
 use Rattle.zk_jute.proofs.ends.Ends.find_all.Goals as goal
 
 pub loop-preserved : goal.loop-preserved

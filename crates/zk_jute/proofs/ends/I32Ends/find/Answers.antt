@@ -1,8 +1,6 @@
-use Rattle.zk_jute.proofs.Fields.{int_is}
-use Rattle.zk_jute.specs.Item.{AnInt}
-use Rattle.zk_jute.specs.Reading.{int_at}
+use Rattle.zk_jute.proofs.{Fields.int_is, Judged.one_judged}
+use Rattle.zk_jute.specs.{Item.AnInt, Reading.int_at}
 use Rattle.std.proofs.Common.{◌∷◌, []}
-use Rattle.zk_jute.proofs.Judged.{one_judged}
 use Rattle.zk_jute.proofs.ends.I32Ends.find.Goals as goal
 
 pub returns-clause-exact : goal.returns-clause-exact

@@ -1,8 +1,6 @@
-use Rattle.zk_jute.proofs.Fields.{long_is}
-use Rattle.zk_jute.specs.Item.{ALong}
-use Rattle.zk_jute.specs.Reading.{long_at}
+use Rattle.zk_jute.proofs.{Fields.long_is, Judged.one_judged}
+use Rattle.zk_jute.specs.{Item.ALong, Reading.long_at}
 use Rattle.std.proofs.Common.{◌∷◌, []}
-use Rattle.zk_jute.proofs.Judged.{one_judged}
 use Rattle.zk_jute.proofs.ends.I64Ends.find.Goals as goal
 
 pub returns-clause-exact : goal.returns-clause-exact

@@ -1,9 +1,7 @@
-use Rattle.zk_jute.proofs.Fields.{text_is}
-use Rattle.zk_jute.specs.Item.{AUstring}
-use Rattle.zk_jute.specs.Reading.{text_at}
+use Rattle.zk_jute.proofs.{Fields.text_is, Judged.one_judged}
+use Rattle.zk_jute.specs.{Item.AUstring, Reading.text_at}
 use Rattle.std.proofs.Common.{◌∷◌, []}
 use Rattle.std.specs.Prelude.{option_copied}
-use Rattle.zk_jute.proofs.Judged.{one_judged}
 use Rattle.zk_jute.proofs.ends.TextEnds.find.Goals as goal
 
 pub returns-clause-exact : goal.returns-clause-exact

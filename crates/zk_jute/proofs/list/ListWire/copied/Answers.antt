@@ -1,7 +1,6 @@
 use Rattle.std.proofs.Common.{ℕ, Option, Ok, ap, length, ◌∙◌}
 use Rattle.std.specs.List.{flat_map}
-use Rattle.zk_jute.proofs.Fields.{list_read}
-use Rattle.zk_jute.proofs.Known.{count_known, elements_known}
+use Rattle.zk_jute.proofs.{Fields.list_read, Known.count_known, Known.elements_known}
 use Rattle.zk_jute.proofs.list.ListWire.copied.Goals as goal
 
 pub known_size-count-requires-clause-known : goal.known_size-count-requires-clause-known

@@ -1,5 +1,4 @@
-use Rattle.zk_jute.proofs.Chains.{plain_parts}
-use Rattle.zk_jute.proofs.Known.{then_known, then_known_later}
+use Rattle.zk_jute.proofs.{Chains.plain_parts, Known.then_known, Known.then_known_later}
 use Rattle.zk_jute.proofs.pair.Tuple2Wire.copied.Goals as goal
 
 pub copied-requires-clause-known : goal.copied-requires-clause-known

@@ -1,7 +1,6 @@
 use Rattle.std.proofs.Common.{ℕ, Option, Ok, ap, refl, sym, subst, ◌∙◌, Some, arith}
 use Rattle.zk_jute.specs.Shown.{ListIsThere}
-use Rattle.zk_jute.proofs.Lists.{all_there, list_shows}
-use Rattle.zk_jute.proofs.Known.{count_known, elements_known}
+use Rattle.zk_jute.proofs.{Lists.all_there, Lists.list_shows, Known.count_known, Known.elements_known}
 use Rattle.zk_jute.proofs.series.SeriesView.view.Goals as goal
 
 pub known_size-count-requires-clause-known : goal.known_size-count-requires-clause-known

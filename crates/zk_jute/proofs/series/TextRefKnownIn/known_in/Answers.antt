@@ -1,5 +1,4 @@
-use Rattle.zk_jute.specs.Wired.{ustring}
-use Rattle.zk_jute.specs.Shown.{text_value, text_is_value}
+use Rattle.zk_jute.specs.{Wired.ustring, Shown.text_value, Shown.text_is_value}
 use Rattle.zk_jute.proofs.Valued.{one_told}
 use Rattle.zk_jute.proofs.series.TextRefKnownIn.known_in.Goals as goal
 

@@ -1,6 +1,5 @@
 use Rattle.std.proofs.Common.{ap, refl}
-use Rattle.zk_jute.specs.Wired.{ustring}
-use Rattle.zk_jute.specs.Shown.{text_value, text_is_value}
+use Rattle.zk_jute.specs.{Wired.ustring, Shown.text_value, Shown.text_is_value}
 use Rattle.zk_jute.proofs.Valued.{one_told}
 use Rattle.zk_jute.proofs.series.TextRefMember.pass.Goals as goal
 

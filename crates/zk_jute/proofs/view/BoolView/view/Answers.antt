@@ -1,6 +1,5 @@
 use Rattle.std.proofs.Common.{refl}
-use Rattle.zk_jute.proofs.Fields.{bool_is}
-use Rattle.zk_jute.proofs.Known.{bool_known}
+use Rattle.zk_jute.proofs.{Fields.bool_is, Known.bool_known}
 use Rattle.zk_jute.proofs.view.BoolView.view.Goals as goal
 
 pub bool_of-requires-clause-known : goal.bool_of-requires-clause-known

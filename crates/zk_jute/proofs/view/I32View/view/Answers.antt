@@ -1,8 +1,7 @@
 use Rattle.std.proofs.Common.{refl, arith}
 use Rattle.std.specs.Int.{w32}
 use Rattle.std.proofs.lemmas.Int.{to_z-of_z, ints}
-use Rattle.zk_jute.proofs.Fields.{int_is}
-use Rattle.zk_jute.proofs.Known.{int_known, int_room}
+use Rattle.zk_jute.proofs.{Fields.int_is, Known.int_known, Known.int_room}
 use Rattle.zk_jute.proofs.view.I32View.view.Goals as goal
 
 pub int_of-requires : goal.int_of-requires

@@ -1,8 +1,7 @@
 use Rattle.std.proofs.Common.{refl, arith}
 use Rattle.std.specs.Int.{w64}
 use Rattle.std.proofs.lemmas.Int.{to_z-of_z, ints}
-use Rattle.zk_jute.proofs.Fields.{long_is}
-use Rattle.zk_jute.proofs.Known.{long_known, long_room}
+use Rattle.zk_jute.proofs.{Fields.long_is, Known.long_known, Known.long_room}
 use Rattle.zk_jute.proofs.view.I64View.view.Goals as goal
 
 pub long_of-requires : goal.long_of-requires

@@ -1,5 +1,4 @@
-use Rattle.zk_items.proofs.Kept.{on_some}
-use Rattle.zk_items.proofs.Copies.{ok_is}
+use Rattle.zk_items.proofs.{Kept.on_some, Copies.ok_is}
 use Rattle.zk_lines.proofs.Appended.{value_copied}
 use Rattle.zk_lines.proofs.copies.BoolCopies.copy.Goals as goal
 

@@ -3,8 +3,7 @@ use Rattle.std.specs.Prelude.{negsuc}
 use Rattle.zk_jute.specs.Item.{bytes_of, HaveBytes}
 use Rattle.zk_asks.specs.Parts.{marked}
 use Rattle.zk_items.proofs.Kept.{on_some}
-use Rattle.zk_lines.proofs.Appended.{part_kind}
-use Rattle.zk_lines.proofs.CopiedAsks.{part_copied}
+use Rattle.zk_lines.proofs.{Appended.part_kind, CopiedAsks.part_copied}
 use Rattle.zk_lines.proofs.copy_ask.PartCopies.copy.Goals as goal
 
 pub returns-clause-copied : goal.returns-clause-copied

@@ -1,7 +1,6 @@
 use Rattle.std.proofs.Common.{◌∷◌, [], ap, sym, ◌∙◌}
 use Rattle.zk_items.specs.Form.{word_at}
-use Rattle.zk_items.proofs.Kept.{on_some}
-use Rattle.zk_items.proofs.Copies.{ok_is}
+use Rattle.zk_items.proofs.{Kept.on_some, Copies.ok_is}
 use Rattle.zk_lines.proofs.Counted.{null_list, full_list}
 use Rattle.zk_lines.proofs.list.ListCopies.copy.Goals as goal
 

@@ -2,11 +2,8 @@ use Rattle.std.proofs.Common.{◌≡◌, ◌∙◌, ◌≤◌, Some, IfOk, refl,
 use Rattle.std.proofs.lemmas.Result.{IfOk-weaker}
 use Rattle.zk_talk.specs.Stands.{TalkState}
 use Rattle.zk_recordings.specs.Reader.{ReaderState}
-use Rattle.zk_listings.specs.declared.progress.Progress.{Progress}
-use Rattle.zk_listings.specs.Following.{Steps}
-use Rattle.zk_listings.specs.Gathering.{StepsBut}
-use Rattle.zk_listings.proofs.Pieces.{piece-steps}
-use Rattle.zk_listings.proofs.Runs.{none-begun, steps-but}
+use Rattle.zk_listings.specs.{declared.progress.Progress.Progress, Following.Steps, Gathering.StepsBut}
+use Rattle.zk_listings.proofs.{Pieces.piece-steps, Runs.none-begun, Runs.steps-but}
 use Rattle.zk_listings.proofs.progress.Progress.advance_far.Goals as goal
 use Rattle.zk_listings.proofs.progress.Progress.advance_far.Goals.{then-is_empty+in_default-next_piece, else-is_empty}
 

@@ -1,6 +1,5 @@
 use Rattle.std.proofs.Common.{arith, ◌≡◌, take, drop, length, length-drop, refl, subst, ap, sym, None, Some}
-use Rattle.std.proofs.lemmas.List.{take_all, take-append-drop}
-use Rattle.std.proofs.Math.Seq.{take-add}
+use Rattle.std.proofs.{lemmas.List.take_all, lemmas.List.take-append-drop, Math.Seq.take-add}
 use Rattle.zk_listings.specs.Gathering.{AdvancesBut, StepsBut}
 use Rattle.zk_listings.proofs.Runs.{advances-but-none, advances-but-then}
 use Rattle.zk_listings.proofs.progress.Progress.feed.Goals as goal

@@ -1,7 +1,6 @@
 use Rattle.std.proofs.Common.{◌≡◌, ◌+◌, ◌≤◌, ◌-◌, length, take, None, []}
 use Rattle.zk_recordings.specs.Reading.{place_in}
-use Rattle.zk_listings.specs.declared.listing.Listing.TheVariants.{All}
-use Rattle.zk_listings.specs.Gathering.{AdvancesBut}
+use Rattle.zk_listings.specs.{declared.listing.Listing.TheVariants.All, Gathering.AdvancesBut}
 use Rattle.zk_listings.proofs.progress.Progress.feed.Given as goal
 
 abbrev pub invariant-loop-at : goal.invariant-loop-at

@@ -1,8 +1,6 @@
 use Rattle.std.proofs.Common.{◌∙◌, [], Some, ap, subst, sym}
 use Rattle.std.proofs.lemmas.Bool.{false≢true}
-use Rattle.zk_listings.specs.Following.{ended_by}
-use Rattle.zk_listings.specs.Gathered.{SideBytes}
-use Rattle.zk_listings.specs.Gathering.{AdvancesBut}
+use Rattle.zk_listings.specs.{Following.ended_by, Gathered.SideBytes, Gathering.AdvancesBut}
 use Rattle.zk_listings.proofs.Runs.{advances-but-none, all-advances, last-only, none-begun, none-on}
 use Rattle.zk_listings.proofs.progress.Progress.give_up.Goals as goal
 

@@ -1,6 +1,5 @@
 use Rattle.std.proofs.Common.{subst}
-use Rattle.zk_listings.specs.Earliest.{TellsBody}
-use Rattle.zk_listings.specs.Following.{HasRefused}
+use Rattle.zk_listings.specs.{Earliest.TellsBody, Following.HasRefused}
 use Rattle.zk_listings.proofs.progress.Progress.refused_body.Goals as goal
 
 pub returns-in-Some-clause-tells : goal.returns-in-Some-clause-tells

@@ -1,7 +1,6 @@
 use Rattle.std.proofs.Common.{◌∙◌, [], ap, subst}
 use Rattle.zk_recordings.specs.Reading.{ReadsContent}
-use Rattle.zk_listings.specs.Gathered.{SideBytes}
-use Rattle.zk_listings.specs.Gathering.{Gathers}
+use Rattle.zk_listings.specs.{Gathered.SideBytes, Gathering.Gathers}
 use Rattle.zk_listings.proofs.Runs.{read-advances}
 use Rattle.zk_listings.proofs.progress.Progress.take_read.Goals as goal
 

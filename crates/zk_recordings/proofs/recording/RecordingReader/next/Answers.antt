@@ -1,7 +1,6 @@
 use Rattle.std.proofs.Common.{ap, ◌≡◌, ◌+◌, ◌-◌, None, sym, subst, take, length, length-take, arith}
 use Rattle.std.proofs.Math.Seq.{take-length}
-use Rattle.zk_recordings.specs.Reader.{stage_of, state_of}
-use Rattle.zk_recordings.specs.Reading.{IsAt, AtStage, IsSoundAt, ReadsOn}
+use Rattle.zk_recordings.specs.{Reader.stage_of, Reader.state_of, Reading.IsAt, Reading.AtStage, Reading.IsSoundAt, Reading.ReadsOn}
 use Rattle.zk_recordings.proofs.Stages.{content-more, content-whole, damaged-on}
 use Rattle.zk_recordings.proofs.recording.RecordingReader.next.Goals as goal
 

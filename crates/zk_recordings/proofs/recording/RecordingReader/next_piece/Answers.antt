@@ -1,6 +1,5 @@
 use Rattle.std.proofs.Common.{ap, ◌≡◌, ◌∙◌}
-use Rattle.zk_recordings.specs.declared.parts.Part.TheVariants.{SideByte}
-use Rattle.zk_recordings.specs.Reader.{Fixed, stage_of, state_of}
+use Rattle.zk_recordings.specs.{declared.parts.Part.TheVariants.SideByte, Reader.Fixed, Reader.stage_of, Reader.state_of}
 use Rattle.zk_recordings.proofs.Whole.{reads-piece}
 use Rattle.zk_recordings.proofs.recording.RecordingReader.next_piece.Goals as goal
 

@@ -1,6 +1,5 @@
 use Rattle.std.proofs.Common.{◌≡◌, ◌+◌, ◌∙◌, ap, arith, subst, sym}
-use Rattle.zk_recordings.specs.Reader.{Content, stage_of, state_of, ReaderState}
-use Rattle.zk_recordings.specs.Reading.{IsSoundAt}
+use Rattle.zk_recordings.specs.{Reader.Content, Reader.stage_of, Reader.state_of, Reader.ReaderState, Reading.IsSoundAt}
 use Rattle.zk_recordings.proofs.Contents.{takes-more, takes-whole}
 use Rattle.zk_recordings.proofs.recording.RecordingReader.take_content.Goals as goal
 

@@ -1,10 +1,6 @@
 use Rattle.std.proofs.Common.{sym, ◌≡◌, ◌∙◌, take, ap, get_or, [], ◌∷◌, ℕ, ◌+◌, List, true}
-use Rattle.zk_recordings.specs.declared.parts.Part.{Part}
+use Rattle.zk_recordings.specs.{declared.parts.Part.Part, Reader.Content, Reader.state_of, Parts.number, Parts.width, Parts.is_good, HeadLimits.limits_or, HeadLimits.profile_by, Reading.then_at}
 use Rattle.zk_recordings.specs.declared.parts.Part.TheVariants.{Letters, ClientLimit, ServerLimit, Waiting, Profile, SideByte, Size}
-use Rattle.zk_recordings.specs.Reader.{Content, state_of}
-use Rattle.zk_recordings.specs.Parts.{number, width, is_good}
-use Rattle.zk_recordings.specs.HeadLimits.{limits_or, profile_by}
-use Rattle.zk_recordings.specs.Reading.{then_at}
 use Rattle.zk_recordings.proofs.Accepts.{is-value, by-letters, by-client, by-server, by-waiting, by-profile, by-side, by-time, by-size, first-byte}
 use Rattle.zk_recordings.proofs.recording.State.accept.Goals as goal
 

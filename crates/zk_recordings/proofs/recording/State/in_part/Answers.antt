@@ -1,8 +1,5 @@
 use Rattle.std.proofs.Common.{◌≡◌, ◌<◌, subst, arith}
-use Rattle.zk_recordings.specs.declared.parts.Part.TheVariants.{SideByte}
-use Rattle.zk_recordings.specs.Parts.{width}
-use Rattle.zk_recordings.specs.Reader.{state_of}
-use Rattle.zk_recordings.specs.Reading.{AtFixed}
+use Rattle.zk_recordings.specs.{declared.parts.Part.TheVariants.SideByte, Parts.width, Reader.state_of, Reading.AtFixed}
 use Rattle.zk_recordings.proofs.Passing.{passes-head}
 use Rattle.zk_recordings.proofs.recording.State.in_part.Goals as goal
 

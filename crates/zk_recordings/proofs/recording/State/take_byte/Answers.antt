@@ -1,9 +1,7 @@
 use Rattle.std.proofs.Common.{◌≡◌, ◌∙◌, ◌++◌, ◌∷◌, [], sym, set, take, length, length-take, arith}
 use Rattle.std.proofs.Math.ListN.{length-set}
-use Rattle.zk_recordings.specs.Parts.{width}
-use Rattle.zk_recordings.specs.Reader.{state_of}
-use Rattle.zk_recordings.proofs.Accepts.{width-most, whole-value}
-use Rattle.zk_recordings.proofs.Stages.{part-more, part-bad}
+use Rattle.zk_recordings.specs.{Parts.width, Reader.state_of}
+use Rattle.zk_recordings.proofs.{Accepts.width-most, Accepts.whole-value, Stages.part-more, Stages.part-bad}
 use Rattle.zk_recordings.proofs.recording.State.take_byte.Goals as goal
 
 pub returns-then-got-width-clause-reads : goal.returns-then-got-width-clause-reads

@@ -1,6 +1,5 @@
 use Rattle.zk_jute.proofs.Valued.{one_told}
-use Rattle.zk_records.specs.Records.{acl}
-use Rattle.zk_records.specs.Shown.{acl_value, acl_is_value}
+use Rattle.zk_records.specs.{Records.acl, Shown.acl_value, Shown.acl_is_value}
 use Rattle.zk_records.proofs.acl.AclRefKnownIn.known_in.Goals as goal
 
 pub returns-clause-value : goal.returns-clause-value

@@ -1,7 +1,6 @@
 use Rattle.std.proofs.Common.{subst}
 use Rattle.std.specs.Prelude.{IsOk, IsTrue}
-use Rattle.zk_jute.specs.Layout.{takes_none}
-use Rattle.zk_jute.specs.Reading.{items_at}
+use Rattle.zk_jute.specs.{Layout.takes_none, Reading.items_at}
 use Rattle.zk_records.specs.Ordered.{stat_in_order}
 use Rattle.zk_records.proofs.stat.StatWire.copied.Goals as goal
 

@@ -1,15 +1,10 @@
 use Rattle.std.proofs.Common.{Vec, ◌≡◌, ◌≢◌, ℕ, ◌<◌, ◌+◌, List, ◌++◌, [], Bool, true, Option, sym, ap, ◌∙◌, subst, arith, length, take, eqb, eqb-true, get_or}
-use Rattle.std.specs.List.{All}
-use Rattle.std.specs.Io.KnownBytes.{append_known}
+use Rattle.std.specs.{List.All, Io.KnownBytes.append_known}
 use Rattle.std.proofs.lemmas.List.{nil_from_length}
 use Rattle.zk_talk.specs.declared.limits.Limits.{Limits}
 use Rattle.zk_listings.specs.declared.listing.RunFault.TheVariants.{Memory}
 use Rattle.zk_listings.proofs.Exits.{if-err}
-use Rattle.zk_runs.specs.declared.builder.Builder.{Builder}
-use Rattle.zk_runs.specs.declared.builder.Halt.{Halt}
-use Rattle.zk_runs.specs.declared.builder.Halt.TheVariants.{Fails}
-use Rattle.zk_runs.specs.declared.builder.Scribe.{Scribe}
-use Rattle.zk_runs.specs.Accepting.{HasTaken, HaltsIn}
+use Rattle.zk_runs.specs.{declared.builder.Builder.Builder, declared.builder.Halt.Halt, declared.builder.Halt.TheVariants.Fails, declared.builder.Scribe.Scribe, Accepting.HasTaken, Accepting.HaltsIn}
 use Rattle.zk_runs.specs.Stepping.{HasBytes, HaltsOn, TakesLine}
 use Rattle.zk_runs.proofs.Taken.{stops-more, taken-front, halts-block, taken-block, halts-same}
 use Rattle.zk_runs.proofs.builder.Builder.advance.Goals as goal

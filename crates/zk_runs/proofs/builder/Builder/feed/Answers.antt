@@ -1,8 +1,7 @@
 use Rattle.std.proofs.Common.{◌++◌, subst}
 use Rattle.std.proofs.lemmas.Result.{on_ok_weaker, IfErr-weaker}
 use Rattle.zk_listings.specs.Outcome.{HasGrownIn}
-use Rattle.zk_runs.proofs.Gathered.{taken-unput, gathered-part, takes-gathered, halts-gathered}
-use Rattle.zk_runs.proofs.Spared.{spared-result}
+use Rattle.zk_runs.proofs.{Gathered.taken-unput, Gathered.gathered-part, Gathered.takes-gathered, Gathered.halts-gathered, Spared.spared-result}
 use Rattle.zk_runs.proofs.builder.Builder.feed.Goals as goal
 
 pub returns-clause-halts : goal.returns-clause-halts

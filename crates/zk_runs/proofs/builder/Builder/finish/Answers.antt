@@ -3,10 +3,7 @@ use Rattle.std.specs.Io.KnownBytes.{Appends}
 use Rattle.std.proofs.lemmas.Bool.{false≢true}
 use Rattle.zk_listings.specs.Outcome.{HasGrownIn}
 use Rattle.zk_listings.proofs.Exits.{on-err}
-use Rattle.zk_runs.proofs.Accepted.{took-written}
-use Rattle.zk_runs.proofs.Gathered.{took-unput}
-use Rattle.zk_runs.proofs.Taken.{builds-last, begins-part, answers-last, begins-last}
-use Rattle.zk_runs.proofs.Spared.{spared-halt, open-answer}
+use Rattle.zk_runs.proofs.{Accepted.took-written, Gathered.took-unput, Taken.builds-last, Taken.begins-part, Taken.answers-last, Taken.begins-last, Spared.spared-halt, Spared.open-answer}
 use Rattle.zk_runs.proofs.builder.Builder.finish.Goals as goal
 
 not-empty : {Z : Type 0} (begun : Vec ℕ Z) (empty : Bool) → empty ≡ eqb begun.len 0 → empty ≡ false → begun.items ≢ []

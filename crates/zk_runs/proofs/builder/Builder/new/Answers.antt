@@ -1,5 +1,4 @@
-use Rattle.zk_runs.proofs.Accepted.{took-nothing}
-use Rattle.zk_runs.proofs.Taken.{taken-nothing}
+use Rattle.zk_runs.proofs.{Accepted.took-nothing, Taken.taken-nothing}
 use Rattle.zk_runs.proofs.builder.Builder.new.Goals as goal
 
 pub returns-clause-start : goal.returns-clause-start

@@ -1,11 +1,8 @@
 use Rattle.std.proofs.Common.{◌≡◌, ◌++◌, ◌∷◌, [], ◌+◌, List, ℕ, length, false, sym, ap, ◌∙◌, refl, subst}
 use Rattle.std.specs.Io.KnownBytes.{append_known}
 use Rattle.zk_talk.specs.Written.{IsWritten}
-use Rattle.zk_runs.specs.Building.{built_bytes, piece_of}
-use Rattle.zk_runs.specs.Accepting.{Took}
-use Rattle.zk_runs.proofs.Known.{known-more}
-use Rattle.zk_runs.proofs.Accepted.{took-message}
-use Rattle.zk_runs.proofs.Copied.{payload_there, piece_there}
+use Rattle.zk_runs.specs.{Building.built_bytes, Building.piece_of, Accepting.Took}
+use Rattle.zk_runs.proofs.{Known.known-more, Accepted.took-message, Copied.payload_there, Copied.piece_there}
 use Rattle.zk_runs.proofs.builder.Scribe.copy.Goals as goal
 
 pub returns-clause-goes_on : goal.returns-clause-goes_on

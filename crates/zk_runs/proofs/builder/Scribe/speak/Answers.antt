@@ -2,12 +2,9 @@ use Rattle.std.proofs.Common.{◌≡◌, ◌++◌, ◌∷◌, [], ◌+◌, sym, 
 use Rattle.std.specs.Io.KnownBytes.{append_known}
 use Rattle.zk_listings.specs.declared.listing.RunFault.TheVariants.{Memory}
 use Rattle.zk_listings.proofs.Exits.{if-err}
-use Rattle.zk_runs.specs.declared.builder.Halt.TheVariants.{Fails}
+use Rattle.zk_runs.specs.{declared.builder.Halt.TheVariants.Fails, Building.built_bytes, Building.piece_of, Accepting.Took}
 use Rattle.zk_lines.specs.Lines.{line}
-use Rattle.zk_runs.specs.Building.{built_bytes, piece_of}
-use Rattle.zk_runs.specs.Accepting.{Took}
-use Rattle.zk_runs.proofs.Known.{known-more}
-use Rattle.zk_runs.proofs.Accepted.{stops-here, took-message, halts-unsaid, piece-is}
+use Rattle.zk_runs.proofs.{Known.known-more, Accepted.stops-here, Accepted.took-message, Accepted.halts-unsaid, Accepted.piece-is}
 use Rattle.zk_runs.proofs.builder.Scribe.speak.Goals as goal
 
 pub returns-in-Err-clause-halts : goal.returns-in-Err-clause-halts

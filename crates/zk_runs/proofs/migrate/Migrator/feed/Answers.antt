@@ -1,10 +1,7 @@
 use Rattle.std.proofs.Common.{◌≡◌, ℕ, ◌+◌, List, ◌++◌, take, drop, length, length-drop, Bool, Option, sym, ap, ◌∙◌, subst, append_assoc, arith}
 use Rattle.std.proofs.Math.Seq.{take-add}
 use Rattle.zk_talk.specs.declared.limits.Limits.{Limits}
-use Rattle.zk_recordings.specs.declared.parts.DamageAt.{DamageAt}
-use Rattle.zk_recordings.specs.Reader.{ReaderState}
-use Rattle.zk_recordings.specs.Reading.{IsAt, IsDecidedBy}
-use Rattle.zk_recordings.specs.Recording.{Recording, Spells}
+use Rattle.zk_recordings.specs.{declared.parts.DamageAt.DamageAt, Reader.ReaderState, Reading.IsAt, Reading.IsDecidedBy, Recording.Recording, Recording.Spells}
 use Rattle.zk_recordings.proofs.Stages.{damaged-more}
 use Rattle.zk_listings.proofs.Stops.{rejoined}
 use Rattle.zk_runs.specs.Migrating.{migrated_at, HasMoved, HasMovedTo, HasMigratedTo, due_of, begun_in}

@@ -1,6 +1,5 @@
 use Rattle.std.proofs.Common.{ap, ◌∙◌}
-use Rattle.zk_talk.proofs.Start.{no_lanes}
-use Rattle.zk_talk.proofs.Speaking.{starts}
+use Rattle.zk_talk.proofs.{Start.no_lanes, Speaking.starts}
 use Rattle.zk_talk.proofs.speaker.Speaker.new.Goals as goal
 
 pub returns-clause-says : goal.returns-clause-says

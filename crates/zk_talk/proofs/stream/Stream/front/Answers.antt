@@ -1,11 +1,7 @@
 use Rattle.std.proofs.Common.{◌≡◌, take, sym, subst, []}
 use Rattle.std.proofs.lemmas.Option.{IfSome_then}
-use Rattle.zk_talk.specs.declared.stream.Advance.TheVariants.{Whole}
-use Rattle.zk_talk.specs.Advance.{IsAdvance}
-use Rattle.zk_talk.specs.Streams.{StreamState}
-use Rattle.zk_talk.proofs.Advancing.{front_taken}
-use Rattle.zk_talk.proofs.Lists.{front_again}
-use Rattle.zk_talk.proofs.Kept.{nothing_kept, held_all}
+use Rattle.zk_talk.specs.{declared.stream.Advance.TheVariants.Whole, Advance.IsAdvance, Streams.StreamState}
+use Rattle.zk_talk.proofs.{Advancing.front_taken, Lists.front_again, Kept.nothing_kept, Kept.held_all}
 use Rattle.zk_talk.proofs.stream.Stream.front.Goals as goal
 
 pub returns : goal.returns

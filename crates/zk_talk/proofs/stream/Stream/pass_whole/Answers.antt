@@ -1,6 +1,5 @@
 use Rattle.std.proofs.Common.{◌≡◌, [], ◌+◌, ap, ◌∙◌}
-use Rattle.zk_talk.specs.Streams.{StreamState, kept_where}
-use Rattle.zk_talk.specs.contracts.stream.Stream.{the_view}
+use Rattle.zk_talk.specs.{Streams.StreamState, Streams.kept_where, contracts.stream.Stream.the_view}
 use Rattle.zk_talk.proofs.stream.Stream.pass_whole.Goals as goal
 
 pub returns : goal.returns

@@ -1,8 +1,7 @@
 use Rattle.std.proofs.Common.{◌≡◌, ◌∙◌, sym, ap, subst, length, arith, false}
 use Rattle.std.proofs.lemmas.Bool.{false≢true}
 use Rattle.zk_frames.specs.Framing.{IsFrame}
-use Rattle.zk_talk.proofs.Bodies.{frame_once}
-use Rattle.zk_talk.proofs.Kept.{none_kept, held_all}
+use Rattle.zk_talk.proofs.{Bodies.frame_once, Kept.none_kept, Kept.held_all}
 use Rattle.zk_talk.proofs.stream.Stream.refused_payload.Goals as goal
 use Rattle.zk_talk.proofs.stream.Stream.refused_payload.Goals.{else-not-self-via-then-not-self+else-is_whole, else-not-self-via-else-not-self}
 

@@ -1,8 +1,7 @@
 use Rattle.std.proofs.Common.{◌≡◌, sym, subst, [], ◌∙◌}
 use Rattle.std.proofs.lemmas.Bool.{false≢true}
 use Rattle.zk_frames.specs.Framing.{IsBeginning}
-use Rattle.zk_talk.specs.Advance.{IsAdvance}
-use Rattle.zk_talk.specs.Streams.{StreamState, held_where}
+use Rattle.zk_talk.specs.{Advance.IsAdvance, Streams.StreamState, Streams.held_where}
 use Rattle.zk_talk.proofs.Kept.{nothing_kept, all_held, stays_open}
 use Rattle.zk_talk.proofs.stream.Stream.take.Goals as goal
 

@@ -2,8 +2,7 @@ use Rattle.std.proofs.Common.{sym, ap, subst, length, arith}
 use Rattle.zk_frames.proofs.Cuts.{length-frame}
 use Rattle.zk_frames.specs.Framing.{IsFrame}
 use Rattle.zk_talk.specs.Streams.{StreamState}
-use Rattle.zk_talk.proofs.Advancing.{never_both}
-use Rattle.zk_talk.proofs.Kept.{none_kept, held_all}
+use Rattle.zk_talk.proofs.{Advancing.never_both, Kept.none_kept, Kept.held_all}
 use Rattle.zk_talk.proofs.stream.Stream.take_back.Goals as goal
 
 pub overflow_cast-used : goal.overflow_cast-used

@@ -1,11 +1,8 @@
 use Rattle.std.proofs.Common.{◌≡◌, sym, subst, []}
 use Rattle.std.proofs.lemmas.Option.{IfSome_then}
 use Rattle.zk_frames.specs.Held.{IsFront}
-use Rattle.zk_talk.specs.declared.stream.Advance.TheVariants.{Whole}
-use Rattle.zk_talk.specs.Advance.{IsAdvance}
-use Rattle.zk_talk.specs.Streams.{StreamState, held_where}
-use Rattle.zk_talk.proofs.Advancing.{front_taken}
-use Rattle.zk_talk.proofs.Kept.{all_held, stays_open}
+use Rattle.zk_talk.specs.{declared.stream.Advance.TheVariants.Whole, Advance.IsAdvance, Streams.StreamState, Streams.held_where}
+use Rattle.zk_talk.proofs.{Advancing.front_taken, Kept.all_held, Kept.stays_open}
 use Rattle.zk_talk.proofs.stream.Stream.take_whole.Goals as goal
 
 pub returns-clause-stays : goal.returns-clause-stays

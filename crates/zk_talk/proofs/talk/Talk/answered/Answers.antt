@@ -1,9 +1,6 @@
 use Rattle.std.proofs.Common.{subst, None, arith}
-use Rattle.zk_talk.specs.contracts.talk.Talk.{the_view}
-use Rattle.zk_talk.specs.Conversation.{Conversation}
-use Rattle.zk_talk.specs.Numbers.{AnswersFrame, NewestAnswers, IsNewest}
-use Rattle.zk_talk.proofs.Headline.{stands_alone}
-use Rattle.zk_talk.proofs.Viewing.{not_none}
+use Rattle.zk_talk.specs.{contracts.talk.Talk.the_view, Conversation.Conversation, Numbers.AnswersFrame, Numbers.NewestAnswers, Numbers.IsNewest}
+use Rattle.zk_talk.proofs.{Headline.stands_alone, Viewing.not_none}
 use Rattle.zk_talk.proofs.talk.Talk.answered.Goals as goal
 
 pub returns-in-Some-clause-none : goal.returns-in-Some-clause-none

@@ -1,12 +1,8 @@
 use Rattle.std.proofs.Common.{◌≡◌, refl, ◌∙◌, [], drop, sym, ap, subst, arith}
 use Rattle.std.proofs.lemmas.Result.{err_from_is_err_and}
-use Rattle.zk_talk.specs.contracts.talk.Talk.{the_view}
+use Rattle.zk_talk.specs.{contracts.talk.Talk.the_view, Stands.TalkState, Stands.kept_on, Streams.StreamState, Describes.Describes, Judged.IsNextClient, Judged.IsNextServer}
 use Rattle.zk_talk.specs.declared.message.Side.TheVariants.{Client, Server}
 use Rattle.zk_talk.specs.declared.message.MessageOf.TheVariants.{Client as FromClient, Server as FromServer}
-use Rattle.zk_talk.specs.Stands.{TalkState, kept_on}
-use Rattle.zk_talk.specs.Streams.{StreamState}
-use Rattle.zk_talk.specs.Describes.{Describes}
-use Rattle.zk_talk.specs.Judged.{IsNextClient, IsNextServer}
 use Rattle.zk_talk.proofs.Answering.{received, goes, keeps, bad, stops}
 use Rattle.zk_talk.proofs.talk.Talk.exact.Goals as goal
 

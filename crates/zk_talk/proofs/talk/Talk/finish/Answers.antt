@@ -1,9 +1,8 @@
 use Rattle.std.proofs.Common.{◌≡◌, ◌<◌, ◌∙◌, arith}
 use Rattle.std.proofs.lemmas.List.{nil_from_length}
 use Rattle.zk_talk.specs.contracts.talk.Talk.{the_view}
-use Rattle.zk_talk.proofs.Endings.{ends_unwelcomed, ends_whole}
+use Rattle.zk_talk.proofs.{Endings.ends_unwelcomed, Endings.ends_whole, talk.Talk.finish.Goals.else-count-gt0-via-then-count-gt0+else-count-eq0, talk.Talk.finish.Goals.else-count-gt0-via-else-count-gt0}
 use Rattle.zk_talk.proofs.talk.Talk.finish.Goals as goal
-use Rattle.zk_talk.proofs.talk.Talk.finish.Goals.{else-count-gt0-via-then-count-gt0+else-count-eq0, else-count-gt0-via-else-count-gt0}
 
 pub overflow_add-result : goal.overflow_add-result
 overflow_add-result c = omega (arith, c.count-asks.ensures.within, c.self.invariant.2, c.self.inside.limits.in_range)

@@ -1,6 +1,5 @@
 use Rattle.std.proofs.Common.{◌∙◌, take, sym, ap}
-use Rattle.zk_talk.specs.Stands.{TalkState}
-use Rattle.zk_talk.specs.Taking.{given_up}
+use Rattle.zk_talk.specs.{Stands.TalkState, Taking.given_up}
 use Rattle.zk_talk.proofs.Stepping.{passes_after, refused_after, fault_stays}
 use Rattle.zk_talk.proofs.talk.Talk.pass_exact.Goals as goal
 

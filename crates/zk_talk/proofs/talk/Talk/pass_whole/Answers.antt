@@ -1,15 +1,10 @@
 use Rattle.std.proofs.Common.{◌≡◌, ◌≤◌, ℕ, List, [], ap, ◌∙◌, drop, refl, subst, take, arith}
 use Rattle.std.proofs.lemmas.List.{length-take-le}
-use Rattle.zk_talk.specs.contracts.talk.Talk.{the_view}
+use Rattle.zk_talk.specs.{contracts.talk.Talk.the_view, Stands.TalkState, Stands.kept_on, declared.stream.Advance.TheVariants.Whole, Advance.IsAdvance, Streams.StreamState, Streams.IsAtFrame, Streams.held_in}
 use Rattle.zk_talk.specs.declared.message.Side.TheVariants.{Client, Server}
 use Rattle.zk_talk.specs.declared.message.MessageOf.TheVariants.{Client as FromClient, Server as FromServer}
-use Rattle.zk_talk.specs.Stands.{TalkState, kept_on}
-use Rattle.zk_talk.specs.declared.stream.Advance.TheVariants.{Whole}
-use Rattle.zk_talk.specs.Advance.{IsAdvance}
-use Rattle.zk_talk.specs.Streams.{StreamState, IsAtFrame, held_in}
 use Rattle.zk_talk.specs.Judged.{IsNextClient, IsNextServer}
-use Rattle.zk_talk.proofs.Answering.{makes}
-use Rattle.zk_talk.proofs.Seen.{payload_small, client_passes, server_passes}
+use Rattle.zk_talk.proofs.{Answering.makes, Seen.payload_small, Seen.client_passes, Seen.server_passes}
 use Rattle.zk_talk.proofs.talk.Talk.pass_whole.Goals as goal
 
 -- a side to which the frame at the front of a piece is lent

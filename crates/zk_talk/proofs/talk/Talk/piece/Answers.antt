@@ -1,14 +1,10 @@
 use Rattle.std.proofs.Common.{◌≡◌, refl, ◌∙◌, [], inr, drop, sym, ap, subst, arith}
 use Rattle.std.proofs.lemmas.Result.{err_from_is_err_and}
-use Rattle.zk_talk.specs.contracts.talk.Talk.{the_view}
+use Rattle.zk_talk.specs.{contracts.talk.Talk.the_view, Stands.TalkState, Stands.kept_on, Describes.Describes, Judged.IsNextClient, Judged.IsNextServer}
 use Rattle.zk_talk.specs.declared.message.Side.TheVariants.{Client, Server}
 use Rattle.zk_talk.specs.declared.message.MessageOf.TheVariants.{Client as FromClient, Server as FromServer}
-use Rattle.zk_talk.specs.Stands.{TalkState, kept_on}
-use Rattle.zk_talk.specs.Describes.{Describes}
-use Rattle.zk_talk.specs.Judged.{IsNextClient, IsNextServer}
 use Rattle.zk_talk.proofs.Answering.{received, goes, makes, fails, stops}
-use Rattle.zk_talk.proofs.Lanes.{remembered_there, forgotten_there}
-use Rattle.zk_talk.proofs.Empty.{no_bytes_whole, no_bytes_refused}
+use Rattle.zk_talk.proofs.{Lanes.remembered_there, Lanes.forgotten_there, Empty.no_bytes_whole, Empty.no_bytes_refused}
 use Rattle.zk_talk.proofs.talk.Talk.piece.Goals as goal
 
 pub returns-in_default-clause-ok : goal.returns-in_default-clause-ok

@@ -1,8 +1,6 @@
 use Rattle.std.proofs.Common.{ap, ◌∙◌}
-use Rattle.zk_talk.specs.Conversation.{Conversation, number_waiting}
-use Rattle.zk_talk.specs.contracts.talk.Talk.{the_view}
-use Rattle.zk_talk.proofs.Queues.{count_is_waiting}
-use Rattle.zk_talk.proofs.Headline.{stands_alone}
+use Rattle.zk_talk.specs.{Conversation.Conversation, Conversation.number_waiting, contracts.talk.Talk.the_view}
+use Rattle.zk_talk.proofs.{Queues.count_is_waiting, Headline.stands_alone}
 use Rattle.zk_talk.proofs.talk.Talk.requests.Goals as goal
 
 pub returns-clause-stands : goal.returns-clause-stands

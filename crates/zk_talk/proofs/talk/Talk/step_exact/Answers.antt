@@ -1,9 +1,6 @@
 use Rattle.std.proofs.Common.{◌≢◌, sym, ◌∙◌, ap, subst}
 use Rattle.zk_jute.specs.declared.fault.Reason.TheVariants.{NoMemory}
-use Rattle.zk_talk.specs.declared.message.Fault.{Fault}
-use Rattle.zk_talk.specs.Sound.{IsKnown}
-use Rattle.zk_talk.specs.Stands.{TalkState}
-use Rattle.zk_talk.specs.Taking.{IsRefused}
+use Rattle.zk_talk.specs.{declared.message.Fault.Fault, Sound.IsKnown, Stands.TalkState, Taking.IsRefused}
 use Rattle.zk_talk.proofs.Stepping.{known_fault, same_fault, no_fault}
 use Rattle.zk_talk.proofs.talk.Talk.step_exact.Goals as goal
 

@@ -1,10 +1,7 @@
 use Rattle.std.proofs.Common.{refl, ◌∙◌, ap, arith, drop, inl, subst, sym}
-use Rattle.zk_talk.specs.contracts.talk.Talk.{the_view}
+use Rattle.zk_talk.specs.{contracts.talk.Talk.the_view, Sound.IsSide, Streams.StreamState, Judged.IsNextClient, Judged.IsNextServer}
 use Rattle.zk_talk.specs.declared.message.Side.TheVariants.{Client, Server}
 use Rattle.zk_talk.specs.declared.message.MessageOf.TheVariants.{Client as FromClient, Server as FromServer}
-use Rattle.zk_talk.specs.Sound.{IsSide}
-use Rattle.zk_talk.specs.Streams.{StreamState}
-use Rattle.zk_talk.specs.Judged.{IsNextClient, IsNextServer}
 use Rattle.zk_talk.proofs.Answering.{keeps}
 use Rattle.zk_talk.proofs.talk.Talk.step_whole.Goals as goal
 

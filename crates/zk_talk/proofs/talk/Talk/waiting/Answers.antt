@@ -1,8 +1,6 @@
 use Rattle.std.proofs.Common.{ap, ◌∙◌}
-use Rattle.zk_talk.specs.Conversation.{Conversation, load}
-use Rattle.zk_talk.specs.contracts.talk.Talk.{the_view}
-use Rattle.zk_talk.proofs.Queues.{weight_is_load}
-use Rattle.zk_talk.proofs.Headline.{stands_alone}
+use Rattle.zk_talk.specs.{Conversation.Conversation, Conversation.load, contracts.talk.Talk.the_view}
+use Rattle.zk_talk.proofs.{Queues.weight_is_load, Headline.stands_alone}
 use Rattle.zk_talk.proofs.talk.Talk.waiting.Goals as goal
 
 pub returns-clause-stands : goal.returns-clause-stands

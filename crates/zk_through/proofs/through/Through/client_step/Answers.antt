@@ -2,16 +2,11 @@ use Rattle.std.proofs.Common.{◌≡◌, ◌∙◌, refl, sym, ap, subst, Option
 use Rattle.std.specs.Option.{IfSome, IfNone}
 use Rattle.zk_records.specs.declared.profile.Profile.{Profile}
 use Rattle.std.proofs.lemmas.Result.{err_from_is_err_and}
-use Rattle.zk_talk.specs.declared.limits.Limits.{Limits}
-use Rattle.zk_talk.specs.declared.message.Side.TheVariants.{Client}
+use Rattle.zk_talk.specs.{declared.limits.Limits.Limits, declared.message.Side.TheVariants.Client}
 use Rattle.zk_talk.proofs.Answering.{received}
-use Rattle.zk_through.specs.contracts.through.Through.{the_view}
-use Rattle.zk_through.specs.declared.turn.Turn.{Turn}
-use Rattle.zk_through.specs.Turns.{turn_of, IsLacked}
-use Rattle.zk_through.specs.Runs.{IsAhead, IsWeighed}
+use Rattle.zk_through.specs.{contracts.through.Through.the_view, declared.turn.Turn.Turn, Turns.turn_of, Turns.IsLacked, Runs.IsAhead, Runs.IsWeighed}
 use Rattle.zk_through.proofs.AnsweringClient.{client_told, client_left, client_full, client_refused, client_weighs, out_ahead, weighs_most}
-use Rattle.zk_through.proofs.Refusals.{refused_early}
-use Rattle.zk_through.proofs.Steps.{ready, went_within, received_whole}
+use Rattle.zk_through.proofs.{Refusals.refused_early, Steps.ready, Steps.went_within, Steps.received_whole}
 use Rattle.zk_through.proofs.through.Through.client_step.Goals as goal
 
 pub returns-in_default-clause-ok : goal.returns-in_default-clause-ok

@@ -1,22 +1,14 @@
 use Rattle.std.proofs.Common.{rules, ◌≡◌, ◌∙◌, ◌+◌, ℤ, true, refl, sym, ap, subst, Option, Ok, Err, w32, w64, SFits}
 use Rattle.std.specs.Option.{IfSome, IfNone}
-use Rattle.std.proofs.lemmas.Int.{to_z-of_z}
+use Rattle.std.proofs.{lemmas.Int.to_z-of_z, lemmas.Result.err_from_is_err_and}
 use Rattle.zk_jute.specs.declared.fault.ItemFault.{ItemFault}
 use Rattle.zk_records.specs.declared.profile.Profile.{Profile}
-use Rattle.std.proofs.lemmas.Result.{err_from_is_err_and}
-use Rattle.zk_talk.specs.declared.limits.Limits.{Limits}
-use Rattle.zk_talk.specs.declared.message.Side.TheVariants.{Server}
-use Rattle.zk_talk.specs.Fault.{fault_of}
+use Rattle.zk_talk.specs.{declared.limits.Limits.Limits, declared.message.Side.TheVariants.Server, Fault.fault_of}
 use Rattle.zk_talk.proofs.Answering.{received}
-use Rattle.zk_through.specs.contracts.through.Through.{the_view}
-use Rattle.zk_through.specs.declared.turns.Due.{Due}
+use Rattle.zk_through.specs.{contracts.through.Through.the_view, declared.turns.Due.Due, Turns.Judges, Turns.TellsFrame, Turns.IsEarlier, Turns.after_answer, Turns.matched_after, Runs.TellsReply, Runs.IsHeader}
 use Rattle.zk_through.specs.declared.turns.Due.TheVariants as dues
-use Rattle.zk_through.specs.Turns.{Judges, TellsFrame, IsEarlier, after_answer, matched_after}
-use Rattle.zk_through.specs.Runs.{TellsReply, IsHeader}
-use Rattle.zk_through.proofs.Answering.{bad_known}
+use Rattle.zk_through.proofs.{Answering.bad_known, Refusals.refused_early, Steps.ready, Steps.went_within, Steps.received_whole}
 use Rattle.zk_through.proofs.AnsweringServer.{server_passed, server_left, server_over, server_bad, server_refused}
-use Rattle.zk_through.proofs.Refusals.{refused_early}
-use Rattle.zk_through.proofs.Steps.{ready, went_within, received_whole}
 use Rattle.zk_through.proofs.through.Through.server_step.Goals as goal
 
 pub returns-in_default-clause-ok : goal.returns-in_default-clause-ok

@@ -1,6 +1,5 @@
 use Rattle.std.proofs.Common.{[], arith}
-use Rattle.zk_through.specs.Came.{told}
-use Rattle.zk_through.specs.contracts.through.Through.{the_view}
+use Rattle.zk_through.specs.{Came.told, contracts.through.Through.the_view}
 use Rattle.zk_through.proofs.Waits.{waited}
 use Rattle.zk_through.proofs.through.Through.waiting.Goals as goal
 

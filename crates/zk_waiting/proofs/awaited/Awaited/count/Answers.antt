@@ -1,7 +1,6 @@
 use Rattle.std.proofs.Common.{arith, ap}
 use Rattle.zk_waiting.specs.Waiting.{Lanes}
-use Rattle.zk_waiting.proofs.Counted.{numbered_weight}
-use Rattle.zk_waiting.proofs.Weights.{length_within_weight}
+use Rattle.zk_waiting.proofs.{Counted.numbered_weight, Weights.length_within_weight}
 use Rattle.zk_waiting.proofs.awaited.Awaited.count.Goals as goal
 
 pub count-requires : goal.count-requires

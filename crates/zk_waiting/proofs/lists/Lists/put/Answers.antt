@@ -1,6 +1,5 @@
 use Rattle.std.proofs.Common.{List, ◌≤◌, ◌+◌, [], length, refl, sym, ap, subst, w32, FitsSigned, rules, arith}
-use Rattle.zk_waiting.specs.Columns.{Columns}
-use Rattle.zk_waiting.specs.Waiting.{Request, queue_weight}
+use Rattle.zk_waiting.specs.{Columns.Columns, Waiting.Request, Waiting.queue_weight}
 use Rattle.zk_waiting.proofs.Rings.{requests_put, requests_weigh}
 use Rattle.zk_waiting.proofs.lists.Lists.put.Goals as goal
 

@@ -1,6 +1,5 @@
 use Rattle.std.proofs.Common.{◌∙◌, ◌<◌, ap, sym, subst, arith}
-use Rattle.zk_waiting.specs.declared.entry.Entry.{Entry}
-use Rattle.zk_waiting.specs.Columns.{Columns, walk, count_on, IsSet}
+use Rattle.zk_waiting.specs.{declared.entry.Entry.Entry, Columns.Columns, Columns.walk, Columns.count_on, Columns.IsSet}
 use Rattle.zk_waiting.proofs.Columns.{pushed, pushed_laid, few, next_asks, next_there, next_below}
 use Rattle.zk_waiting.proofs.rows.Rows.append.Goals as goal
 

@@ -1,7 +1,5 @@
 use Rattle.std.proofs.Common.{◌<◌, length, sym, subst, arith}
-use Rattle.zk_waiting.specs.declared.entry.Entry.{Entry}
-use Rattle.zk_waiting.specs.declared.row.Column.TheVariants.{Plain}
-use Rattle.zk_waiting.specs.Columns.{Columns, entry_row, IsSet}
+use Rattle.zk_waiting.specs.{declared.entry.Entry.Entry, declared.row.Column.TheVariants.Plain, Columns.Columns, Columns.entry_row, Columns.IsSet}
 use Rattle.zk_waiting.proofs.Columns.{pushed, pushed_laid, few, next_asks, next_there, next_below}
 use Rattle.zk_waiting.proofs.rows.Rows.append_entry.Goals as goal
 
