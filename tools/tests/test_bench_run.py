@@ -89,6 +89,13 @@ class Turns(ToolCase):
             status, out, err = self.run_jobs(old, old, seed)
             self.assertEqual((status, out, "bench/run OLD NEW [SEED]" in err), (1, "", True), err)
 
+    def test_no_job(self):
+        script = pathlib.Path(shutil.copy(TOP / "bench" / "run", self.folder))
+        for text in ("", "\n \n"):
+            script.with_name("workloads.txt").write_text(text)
+            done = subprocess.run([sys.executable, script, "old", "new"], capture_output=True, text=True, check=False)
+            self.assertEqual((done.returncode, done.stdout, done.stderr), (1, "", "workloads.txt has no job\n"))
+
     def test_one_checkout_twice(self):
         run, took = runpy.run_path(str(TOP / "bench" / "run")), itertools.count(1)
         workload = run["Workload"]("check bench_jobs check SEED 20")
