@@ -13,7 +13,7 @@ use Rattle.zk_talk.specs.declared.message.Side.TheVariants.{Client, Server}
 use Rattle.zk_talk.specs.declared.message.MessageOf.TheVariants.{Client as FromClient, Server as FromServer}
 use Rattle.zk_talk.specs.declared.message.Kind.TheVariants as kinds
 use Rattle.zk_talk.specs.{Settled.IsAwaited, Settled.IsHeard, Said.SpeakerState, Said.SaysClient, Said.SaysServer, Said.side_of}
-use Rattle.zk_talk.specs.Written.{IsWritten, SaysWritten, SaysClientWritten, SaysServerWritten, kind_of}
+use Rattle.zk_talk.specs.Written.{IsWritten, SaysKind, SaysClientKind, SaysServerKind, SaysWritten, SaysClientWritten, SaysServerWritten, kind_of}
 use Rattle.zk_talk.proofs.{Judging.due_waits, Speaking.ok_client, Speaking.ok_server, SayingPayloads.client_frame_said, SayingPayloads.server_frame_said, Alike.client_known, Alike.reply_known, Alike.event_known, Alike.connected_known}
 
 -- ---- the client's
@@ -24,11 +24,19 @@ kind_now true n k kind is profile (Ask xid ask) turn = sym is
 kind_now false n k kind is profile (Connect t g) turn = sym is
 kind_now false n k kind is profile (Ask xid ask) turn = absurd (turn.0 k)
 
-pub client_written : (limits : Limits) (asked : Bool) (n : ℕ) → MatchBool asked (n ≡ 1) (n ≡ 0) → (kind : Kind) → MatchBool asked (kind ≡ kinds.Ask) (kind ≡ kinds.Connect) → (w x : Lanes) (p : List ℕ) → w.max ≡ limits.waiting → length p ≤ limits.client
-    → (f : ClientFrame) → IsAwaited limits.profile n 0 p w x f → SaysClientWritten limits asked kind w p x
-client_written limits asked n k kind is w x p room small f a = λ g written.
-    subst (λ z. SaysClient limits asked w z x) (client_known kind p f g a.sent a.is (kind_now asked n k kind is limits.profile f a.turn) written)
-    (client_frame_said limits asked n k w p f a.turn a.sent a.is x room small a.waits)
+module _ (limits : Limits) (asked : Bool) (n : ℕ) (spoken : MatchBool asked (n ≡ 1) (n ≡ 0)) (kind : Kind) (is : MatchBool asked (kind ≡ kinds.Ask) (kind ≡ kinds.Connect))
+    (w x : Lanes) (p : List ℕ) (room : w.max ≡ limits.waiting) (small : length p ≤ limits.client) (f : ClientFrame) (a : IsAwaited limits.profile n 0 p w x f) where
+  of_kind : kind_of (FromClient f) ≡ kind
+  of_kind = kind_now asked n spoken kind is limits.profile f a.turn
+
+  is_said : SaysClient limits asked w f x
+  is_said = client_frame_said limits asked n spoken w p f a.turn a.sent a.is x room small a.waits
+
+  pub client_kind : SaysClientKind limits asked kind w p x
+  client_kind = (f, of_kind, a.is, is_said)
+
+  pub client_written : SaysClientWritten limits asked kind w p x
+  client_written = λ g written. subst (λ z. SaysClient limits asked w z x) (client_known kind p f g a.sent a.is of_kind written) is_said
 
 -- ---- the server's
 
@@ -42,11 +50,16 @@ server_known kind p w (Answered r) t e due sent is written = known t (subst (λ 
     known (Event z k) written = let e : kinds.Event ≡ kinds.Answered (answers.op_of_reply r) = written.kind_is in absurd (cc)
     known (Answered q) written = reply_known due.0.op due.0.parts p r q due.2 sent is written
 
-pub server_written : (limits : Limits) (asked welcomed : Bool) (w x : Lanes) (p : List ℕ) → length p ≤ limits.server → (kind : Kind) (answer : Option (Lane × Replied)) (s : ServerFrame) → IsHeard asked welcomed p w answer s
-    → kind_of (FromServer s) ≡ kind → IsForgotten s w x → SaysServerWritten limits asked welcomed kind w p x
-server_written limits asked welcomed w x p small kind answer s h is left = λ t written.
-    subst (λ t. SaysServer limits asked welcomed w t x) (server_known kind p w s t is h.due h.sent h.is written)
-    (server_frame_said limits asked welcomed w p s h.is h.may x (due_waits w s h.due) small left)
+module _ (limits : Limits) (asked welcomed : Bool) (w x : Lanes) (p : List ℕ) (small : length p ≤ limits.server) (kind : Kind) (answer : Option (Lane × Replied)) (s : ServerFrame)
+    (h : IsHeard asked welcomed p w answer s) (of_kind : kind_of (FromServer s) ≡ kind) (left : IsForgotten s w x) where
+  is_answered : SaysServer limits asked welcomed w s x
+  is_answered = server_frame_said limits asked welcomed w p s h.is h.may x (due_waits w s h.due) small left
+
+  pub server_kind : SaysServerKind limits asked welcomed kind w p x
+  server_kind = (s, of_kind, h.is, is_answered)
+
+  pub server_written : SaysServerWritten limits asked welcomed kind w p x
+  server_written = λ t written. subst (λ t. SaysServer limits asked welcomed w t x) (server_known kind p w s t of_kind h.due h.sent h.is written) is_answered
 
 -- ---- the speaker's
 
@@ -55,6 +68,12 @@ module _ (s : SpeakerState) (kind : Kind) (p : List ℕ) (x : Lanes) (max : x.ma
   ok_client_written side all (FromClient f) w = ok_client s (FromClient f) f x refl max (all f w)
   ok_client_written side all (FromServer t) w = let e : Server ≡ Client = side (FromServer t) w.kind_is in absurd (cc)
 
+  pub ok_client_kind : SaysClientKind s.limits s.asked kind s.waiting p x → SaysKind s kind p (record { limits = s.limits; asked = true; welcomed = s.welcomed; waiting = x })
+  ok_client_kind (f, of_kind, is, said) = (FromClient f, of_kind, is, ok_client s (FromClient f) f x refl max said)
+
   pub ok_server_written : ((m : Message) → kind_of m ≡ kind → side_of m ≡ Server) → SaysServerWritten s.limits s.asked s.welcomed kind s.waiting p x → SaysWritten s kind p (record { limits = s.limits; asked = s.asked; welcomed = true; waiting = x })
   ok_server_written side all (FromClient f) w = let e : Client ≡ Server = side (FromClient f) w.kind_is in absurd (cc)
   ok_server_written side all (FromServer t) w = ok_server s (FromServer t) t x refl max (all t w)
+
+  pub ok_server_kind : SaysServerKind s.limits s.asked s.welcomed kind s.waiting p x → SaysKind s kind p (record { limits = s.limits; asked = s.asked; welcomed = true; waiting = x })
+  ok_server_kind (f, of_kind, is, said) = (FromServer f, of_kind, is, ok_server s (FromServer f) f x refl max said)

@@ -8,7 +8,7 @@ use Rattle.zk_answers.specs.Held.{ServerFrame}
 use Rattle.zk_answers.specs.declared.frame.ServerFrameOf.TheVariants as server
 use Rattle.zk_answers.specs.Frames as answers
 use Rattle.zk_waiting.specs.Waiting.{Lanes}
-use Rattle.zk_talk.specs.{Held.Message, declared.limits.Limits.Limits, declared.message.Kind.Kind, Said.SpeakerState, Said.Says, Said.MaySay, Said.SaysClient, Said.SaysServer, Said.payload_of}
+use Rattle.zk_talk.specs.{Held.Message, declared.limits.Limits.Limits, declared.message.Kind.Kind, Payloads.client_payload, Payloads.server_payload, Said.SpeakerState, Said.Says, Said.MaySay, Said.SaysClient, Said.SaysServer, Said.payload_of}
 use Rattle.zk_talk.specs.declared.message.MessageOf.TheVariants as message
 use Rattle.zk_talk.specs.declared.message.Kind.TheVariants.{Connect, Ask, Connected, Answered, Event}
 
@@ -40,6 +40,11 @@ abbrev pub SaysWritten : SpeakerState → Kind → List ℕ → SpeakerState →
 SaysWritten old kind p new = (m : Message) → IsWritten kind p m →
     (before : List Message) → Says old before → MaySay old.limits before m × Says new (before ++ m ∷ [])
 
+-- a message of this kind has the payload, which may be said after those that the speaker has said, and was said
+abbrev pub SaysKind : SpeakerState → Kind → List ℕ → SpeakerState → Type 0
+SaysKind old kind p new = (m : Message) × (kind_of m ≡ kind) × (payload_of m ≡ p) ×
+    ((before : List Message) → Says old before → MaySay old.limits before m × Says new (before ++ m ∷ []))
+
 -- whatever was heard, the client may say its message of this kind and payload, and has said it
 abbrev pub SaysClientWritten : Limits → Bool → Kind → Lanes → List ℕ → Lanes → Type 0
 SaysClientWritten limits asked kind old p new = (f : ClientFrame) → IsWritten kind p (message.Client f) → SaysClient limits asked old f new
@@ -47,3 +52,12 @@ SaysClientWritten limits asked kind old p new = (f : ClientFrame) → IsWritten 
 -- and the server
 abbrev pub SaysServerWritten : Limits → Bool → Bool → Kind → Lanes → List ℕ → Lanes → Type 0
 SaysServerWritten limits asked welcomed kind old p new = (s : ServerFrame) → IsWritten kind p (message.Server s) → SaysServer limits asked welcomed old s new
+
+-- a frame of this kind has the payload, which the client may say whatever was heard, and has said
+abbrev pub SaysClientKind : Limits → Bool → Kind → Lanes → List ℕ → Lanes → Type 0
+SaysClientKind limits asked kind old p new = (f : ClientFrame) × (kind_of (message.Client f) ≡ kind) × (client_payload f ≡ p) × SaysClient limits asked old f new
+
+-- and the server
+abbrev pub SaysServerKind : Limits → Bool → Bool → Kind → Lanes → List ℕ → Lanes → Type 0
+SaysServerKind limits asked welcomed kind old p new =
+    (s : ServerFrame) × (kind_of (message.Server s) ≡ kind) × (server_payload s ≡ p) × SaysServer limits asked welcomed old s new

@@ -2,7 +2,7 @@
 ghost use Rattle.std.specs.Prelude.{◌≡◌, ◌≢◌, ◌+◌, ◌≤◌, ◌++◌, ◌⊎◌, ◌∷◌, [], List, length, take, drop, false, IsTrue, OnOk, OnErr, IfOk, IfErr};
 ghost use Rattle.zk_frames.specs.Framing.{frame};
 ghost use Rattle.zk_talk.specs.{Held.Message, declared.say.SayFault.TheVariants.NoMemory, Ending.unanswered, declared.payload.PayloadFault.TheVariants.Say};
-ghost use Rattle.zk_talk.specs.{Said.Says, Said.MaySay, Said.MayStand, Said.IsSayFault, Said.payload_of, Said.conversation_of, Written.SaysWritten};
+ghost use Rattle.zk_talk.specs.{Said.Says, Said.MaySay, Said.MayStand, Said.IsSayFault, Said.payload_of, Said.conversation_of, Written.SaysKind, Written.SaysWritten};
 ghost use Rattle.zk_talk.specs.SaidPayload.{SaysPayload, RefusesPayload, StandsPayload, CannotSay};
 
 use crate::limits::Limits;
@@ -149,6 +149,7 @@ impl Speaker {
         ensures limits { self.new.limits ≡ self.old.limits }
         ensures small { IsTrue result → length payload.now ≤ 16777216 }
         ensures said { IsTrue result → SaysWritten self.old kind payload.now self.new }
+        ensures there { IsTrue result → SaysKind self.old kind payload.now self.new }
         ensures same { result ≡ false → self.new ≡ self.old }
     {
         match kind.side() {
@@ -183,8 +184,10 @@ impl Speaker {
         requires { start + 4 ≤ length out.old.items }
         ensures limits { self.new.limits ≡ self.old.limits }
         ensures bytes { IsTrue result → out.new.items ≡ take start out.old.items ++ frame (drop (start + 4) out.old.items) }
-        // A message of the kind that has the payload may be said, and was said.
+        // The message of the kind that has the payload may be said, and was said.
         ensures said { IsTrue result → SaysWritten self.old kind (drop (start + 4) out.old.items) self.new }
+        // There is such a message.
+        ensures there { IsTrue result → SaysKind self.old kind (drop (start + 4) out.old.items) self.new }
         ensures same { result ≡ false → (self.new ≡ self.old) × (out.new.items ≡ out.old.items) }
     {
         if !self.judge_written(kind, &out[start + 4..]) {

@@ -4,7 +4,7 @@ ghost use Rattle.zk_frames.specs.Framing.{frame};
 ghost use Rattle.zk_answers.specs.Held.{ServerFrame};
 ghost use Rattle.zk_waiting.specs.Waiting.{Lanes};
 ghost use Rattle.zk_talk.specs.declared.message.Kind.TheVariants.{Connect, Ask};
-ghost use Rattle.zk_talk.specs.{declared.message.MessageOf.TheVariants.Server, Settled.IsTurn, Settled.Answers, Written.SaysClientWritten, Written.SaysServerWritten, Written.kind_of};
+ghost use Rattle.zk_talk.specs.{declared.message.MessageOf.TheVariants.Server, Settled.IsTurn, Settled.Answers, Written.SaysClientKind, Written.SaysServerKind, Written.SaysClientWritten, Written.SaysServerWritten, Written.kind_of};
 
 use crate::judge::{await_ask, forget_asked, judge_server};
 use crate::limits::Limits;
@@ -38,6 +38,7 @@ pub fn await_written(
     ensures max { waiting.new.max ≡ waiting.old.max }
     ensures small { IsTrue result → length payload.now ≤ limits.client }
     ensures said { IsTrue result → SaysClientWritten limits asked kind waiting.old payload.now waiting.new }
+    ensures there { IsTrue result → SaysClientKind limits asked kind waiting.old payload.now waiting.new }
     ensures same { result ≡ false → waiting.new ≡ waiting.old }
 {
     if payload.len() > limits.client() as usize || !is_next(asked, kind) {
@@ -86,6 +87,7 @@ pub fn forget_written(
     ensures max { waiting.new.max ≡ waiting.old.max }
     ensures small { IsTrue result → length payload.now ≤ limits.server }
     ensures said { IsTrue result → SaysServerWritten limits asked welcomed kind waiting.old payload.now waiting.new }
+    ensures there { IsTrue result → SaysServerKind limits asked welcomed kind waiting.old payload.now waiting.new }
     ensures same { result ≡ false → waiting.new ≡ waiting.old }
 {
     if payload.len() > limits.server() as usize {
