@@ -227,12 +227,7 @@ form_differs a b zero h = absurd (h refl)
 form_differs a b (suc zero) h = absurd (h refl)
 form_differs a b (suc (suc zero)) h = absurd (h refl)
 form_differs a b (suc (suc (suc zero))) h = refl
-form_differs a b (suc (suc (suc (suc zero)))) h = absurd (h refl)
-form_differs a b (suc (suc (suc (suc (suc zero))))) h = absurd (h refl)
-form_differs a b (suc (suc (suc (suc (suc (suc zero)))))) h = absurd (h refl)
-form_differs a b (suc (suc (suc (suc (suc (suc (suc zero))))))) h = absurd (h refl)
-form_differs a b (suc (suc (suc (suc (suc (suc (suc (suc zero)))))))) h = absurd (h refl)
-form_differs a b (suc (suc (suc (suc (suc (suc (suc (suc (suc k))))))))) h = absurd (h refl)
+form_differs a b (suc (suc (suc (suc k)))) h = absurd (h refl)
 
 mark_differs : (op other : PartOp) (k : ℕ) → (get_or (part_mark op) k 0 ≡ get_or (part_mark other) k 0 → ⊥) → k ≡ 3
 mark_differs op other k h =

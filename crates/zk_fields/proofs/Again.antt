@@ -3,7 +3,7 @@ use Rattle.std.proofs.Common.{◌≡◌, ℕ, zero, suc, ◌+◌, ◌<◌, ◌�
 use Rattle.std.specs.Prelude.{Option, Some, None, Bool, true, false, pos, negsuc, Result, Ok, Err, ◌==◌, nat_lt, nat_le, unwrap_or, if◌then◌else◌}
 use Rattle.std.specs.{Option.option_map, Option.option_and_then, List.flat_map, List.slice_get, Str.Lossy.utf8_valid_len}
 use Rattle.std.proofs.{lemmas.List.append-nil, lemmas.List.take-append-drop, lemmas.Str.utf8_valid_len-IsUtf8, lemmas.Int.ints, lemmas.Option.slice_get_within, lemmas.Option.get_or_from_slice_get, lemmas.Bool.Decides.nat_tests}
-use Rattle.zk_jute.specs.Item.{Item, AnInt, ALong, ABoolean, AUstring, ABuffer, ACount, HaveBytes, bytes_of}
+use Rattle.zk_jute.specs.Item.{Item, AnInt, ABoolean, AUstring, ABuffer, ACount, HaveBytes, bytes_of}
 use Rattle.zk_jute.specs.Layout.{Groups}
 use Rattle.zk_jute.proofs.Layouts.{have_parts}
 use Rattle.zk_records.specs.{Records.multi_header, Codes.op_number}
@@ -132,20 +132,17 @@ utf8 t valid =
 one_again : (heads : Heads) (src : List ℕ) (place : ℕ) (e : Entry) (es : List Entry) → IsTold heads e es → HaveBytes (entry_items e) → HaveBytes (items_of es) → IsAt src (field_of place e) (content_of e) → place + size_of e ≤ length src
     → said heads src (field_of place e, slice_get (fields_from (place + size_of e) es) 0) ≡ Some (entry_items e)
 one_again heads src place (Under name (AnInt n)) es is have others at within = ap (option_map (λ (m : ℤ). AnInt m ∷ [])) (int_fits n have.0)
-one_again heads src place (Under name (ALong n)) es is have others at within = refl
 one_again heads src place (Under name (ABoolean true)) es is have others at within = refl
 one_again heads src place (Under name (ABoolean false)) es is have others at within = refl
-one_again heads src place (Under name (AUstring None)) es is have others at within = refl
 one_again heads src place (Under name (AUstring (Some t))) es is have others at within =
     ap (λ (o : Option (List ℕ)). option_map (λ (z : Option (List ℕ)). AUstring z ∷ []) (option_and_then utf8_said (option_map Some o))) (stretch src t (place + 4) (length t) (omega (arith, within)) have.0.1 at)
     ∙ ap (option_map (λ (z : Option (List ℕ)). AUstring z ∷ [])) (utf8 t (utf8_valid_len-IsUtf8 t have.0.0))
-one_again heads src place (Under name (ABuffer None)) es is have others at within = refl
 one_again heads src place (Under name (ABuffer (Some b))) es is have others at within =
     ap (λ (o : Option (List ℕ)). option_map (λ (z : Option (List ℕ)). ABuffer z ∷ []) (option_map Some o)) (stretch src b (place + 4) (length b) (omega (arith, within)) have.0.1 at)
-one_again heads src place (Under name (ACount None)) es is have others at within = refl
 one_again heads src place (Under name (ACount (Some n))) es is have others at within = ap (λ (o : Option ℕ). option_map (λ (z : Option ℕ). ACount z ∷ []) (option_map Some o)) (count_fits n have.0)
 one_again heads src place (Head h) es is have others at within =
     ap (λ (o : Option ℤ). option_map multi_header.items (option_and_then (head_said heads (slice_get (fields_from (place + 9) es) 0)) o)) (int_fits h.kind have.0) ∙ ap (option_map multi_header.items) (is (place + 9) others)
+one_again heads src place _ es is have others at within = refl
 
 all_again : (heads : Heads) (src : List ℕ) (place : ℕ) (es : List Entry) → ToldBefore heads [] es → HaveBytes (items_of es) → AreAt src place es → place + size_all es ≤ length src → all_said heads src (pairs (fields_from place es)) ≡ Some (items_of es)
 all_again heads src place [] are have at within = refl

@@ -4,7 +4,7 @@ use Rattle.std.specs.Prelude.{Option, Some, None, Bool, true, Ok, Err, nat_lt, n
 use Rattle.std.specs.List.{flat_map}
 use Rattle.std.proofs.lemmas.List.{append-nil, length-append, take_all, drop_at}
 use Rattle.std.proofs.lemmas.Bool.Decides.{nat_tests}
-use Rattle.zk_jute.specs.Item.{Kind, Int, Long, Boolean, Ustring, Buffer, Count, Item, ABoolean, ACount, HaveBytes, bytes_of, item_bytes, int_bytes, kind_of}
+use Rattle.zk_jute.specs.Item.{Kind, Long, Boolean, Item, ABoolean, ACount, HaveBytes, bytes_of, item_bytes, int_bytes, kind_of}
 use Rattle.zk_jute.specs.{declared.fault.Reason.TheVariants.Short, Layout.One, Layout.End, Layout.Groups}
 use Rattle.zk_jute.specs.Reading.{Fault, int_at, size_at, item_at, items_at}
 use Rattle.zk_jute.proofs.{Steps.BytesAt-from, Runs.int_again, Runs.size_again, Primitives.bool_again, Primitives.bool_len, Layouts.have_parts, Layouts.bytes_both, Layouts.items_again}
@@ -84,16 +84,13 @@ int_end src place past =
     (record { place = place; reason = Short }, rw test refl)
 
 item_end : (src : List ℕ) (place : ℕ) (kind : Kind) → length src ≤ place → (f : Fault) × (item_at kind src place ≡ Err f)
-item_end src place Int past = let n = int_end src place past in (n.0, rw n.1 refl)
 item_end src place Long past =
     let test : nat_lt (length src - place) 8 ≡ true = grind (arith, nat_tests) in
     (record { place = place; reason = Short }, rw test refl)
 item_end src place Boolean past =
     let test : nat_lt (length src - place) 1 ≡ true = grind (arith, nat_tests) in
     (record { place = place; reason = Short }, rw test refl)
-item_end src place Ustring past = let n = int_end src place past in (n.0, rw n.1 refl)
-item_end src place Buffer past = let n = int_end src place past in (n.0, rw n.1 refl)
-item_end src place Count past = let n = int_end src place past in (n.0, rw n.1 refl)
+item_end src place _ past = let n = int_end src place past in (n.0, rw n.1 refl)
 
 items_end : (src : List ℕ) (place : ℕ) (name : ℕ) (kind : Kind) → length src ≤ place → item_met name (items_at (One kind End) src place) ≡ none_met
 unfolding items_at

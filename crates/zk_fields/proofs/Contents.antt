@@ -2,9 +2,9 @@
 use Rattle.std.proofs.Common.{◌≡◌, ℕ, ◌+◌, List, [], ◌∷◌, ◌++◌, length, take, drop, refl, sym, ap, subst, ◌∙◌, append_assoc, arith}
 use Rattle.std.specs.Prelude.{Some, None, pos}
 use Rattle.std.proofs.lemmas.List.{length-append, append-nil, take_at, drop_at}
-use Rattle.zk_jute.specs.Item.{AnInt, ALong, ABoolean, AUstring, ABuffer, ACount, bytes_of, int_bytes}
+use Rattle.zk_jute.specs.Item.{AUstring, ABuffer, ACount, bytes_of, int_bytes}
 use Rattle.zk_jute.proofs.{Layouts.bytes_both, Numbers.len32}
-use Rattle.zk_fields.specs.Fields.{Entry, Under, Head, entry_items, items_of, size_of, field_of}
+use Rattle.zk_fields.specs.Fields.{Entry, Under, entry_items, items_of, size_of, field_of}
 use Rattle.zk_fields.specs.{Frames.Framed, Frames.framed_items, Contents.content_of, Contents.IsAt, Contents.AreAt}
 use Rattle.zk_fields.proofs.Same.{entry_has}
 
@@ -21,16 +21,13 @@ run before bytes after place p =
     ∙ stretch (before ++ front) bytes after (place + 4) (length bytes) (omega (arith, p, length-append before front, len32 (pos (length bytes)))) refl
 
 one_at : (e : Entry) (before after : List ℕ) (place : ℕ) → place ≡ length before → IsAt (before ++ (bytes_of (entry_items e) ++ after)) (field_of place e) (content_of e)
-one_at (Under name (AnInt n)) before after place p = stretch before (bytes_of (entry_items (Under name (AnInt n)))) after place 4 p (sym (entry_has (Under name (AnInt n))))
-one_at (Under name (ALong n)) before after place p = stretch before (bytes_of (entry_items (Under name (ALong n)))) after place 8 p (sym (entry_has (Under name (ALong n))))
-one_at (Under name (ABoolean b)) before after place p = stretch before (bytes_of (entry_items (Under name (ABoolean b)))) after place 1 p (sym (entry_has (Under name (ABoolean b))))
 one_at (Under name (AUstring None)) before after place p = tt
 one_at (Under name (AUstring (Some t))) before after place p = subst (λ (z : List ℕ). take (length t) (drop (place + 4) (before ++ (z ++ after))) ≡ t) (sym (append-nil (int_bytes (pos (length t)) ++ t))) (run before t after place p)
 one_at (Under name (ABuffer None)) before after place p = tt
 one_at (Under name (ABuffer (Some b))) before after place p = subst (λ (z : List ℕ). take (length b) (drop (place + 4) (before ++ (z ++ after))) ≡ b) (sym (append-nil (int_bytes (pos (length b)) ++ b))) (run before b after place p)
 one_at (Under name (ACount None)) before after place p = stretch before (bytes_of (entry_items (Under name (ACount None)))) after place 4 p (sym (entry_has (Under name (ACount None))))
 one_at (Under name (ACount (Some n))) before after place p = stretch before (bytes_of (entry_items (Under name (ACount (Some n))))) after place 4 p (sym (entry_has (Under name (ACount (Some n)))))
-one_at (Head h) before after place p = stretch before (bytes_of (entry_items (Head h))) after place 9 p (sym (entry_has (Head h)))
+one_at e before after place p = stretch before (bytes_of (entry_items e)) after place (size_of e) p (sym (entry_has e))
 
 all_at : (es : List Entry) (before after : List ℕ) (place : ℕ) → place ≡ length before → AreAt (before ++ (bytes_of (items_of es) ++ after)) place es
 all_at [] before after place p = tt

@@ -1,6 +1,6 @@
 -- What a room takes, one entry after the other.
 use Rattle.std.proofs.Common.{◌≡◌, ℕ, suc, ◌+◌, ◌<◌, ◌≤◌, ◌^◌, List, [], ◌∷◌, ◌++◌, length, set, refl, sym, ap, subst, ◌∙◌, arith}
-use Rattle.std.proofs.lemmas.List.{length-append}
+use Rattle.std.proofs.{lemmas.List.length-append, Math.Nat.add_assoc}
 use Rattle.std.specs.List.{flat_map}
 use Rattle.std.specs.Prelude.{pos, ℤ, Option, Some, None}
 use Rattle.zk_jute.proofs.Layouts.{have_parts}
@@ -10,17 +10,14 @@ use Rattle.zk_fields.specs.{Named.items_both, declared.field.Field.Field, declar
 use Rattle.zk_fields.specs.declared.kind.TheConstants.{TEXT, BLOB, LIST}
 use Rattle.zk_fields.specs.Fields.{Entry, Under, Head, items_of, item_size, size_of, size_all, fields_from, field_of, named, run_field, run_size}
 
-plus_assoc : (a b c : ℕ) → a + b + c ≡ a + (b + c)
-plus_assoc a b c = omega arith
-
 pub size_both : (x y : List Entry) → size_all (x ++ y) ≡ size_all x + size_all y
 size_both [] y = omega arith
-size_both (e ∷ x) y = ap (λ (n : ℕ). size_of e + n) (size_both x y) ∙ sym (plus_assoc (size_of e) (size_all x) (size_all y))
+size_both (e ∷ x) y = ap (λ (n : ℕ). size_of e + n) (size_both x y) ∙ sym (add_assoc (size_of e) (size_all x) (size_all y))
 
 pub fields_both : (place : ℕ) (x y : List Entry) → fields_from place (x ++ y) ≡ fields_from place x ++ fields_from (place + size_all x) y
 fields_both place [] y = ap (λ (n : ℕ). fields_from n y) (omega arith)
 fields_both place (e ∷ x) y =
-    ap (λ (fs : List Field). field_of place e ∷ fs) (fields_both (place + size_of e) x y ∙ ap (λ (n : ℕ). fields_from (place + size_of e) x ++ fields_from n y) (plus_assoc place (size_of e) (size_all x)))
+    ap (λ (fs : List Field). field_of place e ∷ fs) (fields_both (place + size_of e) x y ∙ ap (λ (n : ℕ). fields_from (place + size_of e) x ++ fields_from n y) (add_assoc place (size_of e) (size_all x)))
 
 pub fields_length : (place : ℕ) (x : List Entry) → length (fields_from place x) ≡ length x
 fields_length place [] = refl

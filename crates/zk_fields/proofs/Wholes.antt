@@ -2,7 +2,7 @@
 use Rattle.std.proofs.Common.{◌≡◌, ℕ, ◌+◌, ◌<◌, ◌≤◌, ◌^◌, List, [], ◌∷◌, ◌++◌, length, take, drop, set, refl, sym, ap, subst, ◌∙◌, append_assoc, arith}
 use Rattle.std.proofs.{lemmas.List.length-append, lemmas.List.length-take, lemmas.List.set_past, lemmas.Bool.Decides.nat_tests}
 use Rattle.zk_jute.specs.Item.{Item, bytes_of, HaveBytes}
-use Rattle.zk_jute.proofs.{Layouts.have_parts, Layouts.bytes_both, Steps.IsBytes, Steps.IsBytes-take}
+use Rattle.zk_jute.proofs.{Layouts.have_parts, Steps.IsBytes, Steps.IsBytes-take}
 use Rattle.zk_fields.specs.{declared.field.Field.Field, declared.field.At.At, declared.walk.Walked.Walked, Fields.Entry, Fields.items_of, Fields.fields_from, Room.written, Room.Fits, Room.Takes, declared.opened.Opened.Opened, Rows.Content}
 use Rattle.zk_fields.specs.Frames.{Framed, framed_items, framed_fields, client_framed, server_framed, client_fields, server_fields, AreWritten, Shows}
 use Rattle.zk_asks.specs.Held.{ClientFrame}
@@ -11,7 +11,7 @@ use Rattle.zk_answers.specs.Held.{ServerFrame}
 use Rattle.zk_answers.specs.Frames as answers
 use Rattle.std.specs.Prelude.{nat_le, true, false}
 use Rattle.zk_fields.specs.Walks.{content_met, Walks, opened_start, opened_content, opened_fields}
-use Rattle.zk_fields.proofs.{Rooms.fields_length, Same.size_is, Same.client_is, Same.server_is, Stood.content_stood}
+use Rattle.zk_fields.proofs.{Rooms.fields_length, Same.size_is, Same.client_is, Same.server_is, Saying.total, Stood.content_stood}
 
 -- beyond its end nothing is written
 past_end : (count : ℕ) (fs room : List Field) → length room ≤ count → written count fs room ≡ room
@@ -53,11 +53,7 @@ whole f items room new start count same starts have small shown =
     let parts = have_parts f.front (items_of f.entries ++ f.behind) (subst HaveBytes (sym same) have) in
     let inner = have_parts (items_of f.entries) f.behind parts.1 in
     let long = ap (λ (z : List Item). length (bytes_of z)) (sym same) in
-    let a = ap length (bytes_both f.front (items_of f.entries ++ f.behind)) in
-    let b = ap length (bytes_both (items_of f.entries) f.behind) in
-    let c = length-append (bytes_of f.front) (bytes_of (items_of f.entries ++ f.behind)) in
-    let d = length-append (bytes_of (items_of f.entries)) (bytes_of f.behind) in
-    let fits : Fits (record { count = 0; place = start }) f.entries = (omega arith, omega (arith, small, starts, long, a, b, c, d, size_is f.entries), inner.0) in
+    let fits : Fits (record { count = 0; place = start }) f.entries = (omega arith, omega (arith, small, starts, long, total f.front (items_of f.entries) f.behind, size_is f.entries), inner.0) in
     subst (λ (n : ℕ). AreWritten (fields_from n f.entries) room new count) starts (shown fits)
 
 pub client_written : (f : ClientFrame) (room new : List Field) (start count : ℕ) → start ≡ length (bytes_of (client_framed f).front) → Shows start (client_framed f).entries room new count → asks.IsSent f → length (asks.payload f) < 2 ^ 32

@@ -1,8 +1,8 @@
 -- Blobs are read as they are spelled.
-use Rattle.std.specs.Prelude.{◌≡◌, ℕ, zero, suc, ◌+◌, ◌*◌, ◌/◌, ◌%◌, ◌<◌, List, [], ◌∷◌, ◌++◌, length, take, drop, Option, Some, None, Result, Ok, Err, Bool, true, false, ◌==◌, ◌&&◌, refl, slice_index}
+use Rattle.std.specs.Prelude.{◌≡◌, ℕ, zero, suc, ◌+◌, ◌*◌, ◌/◌, ◌%◌, ◌<◌, List, [], ◌∷◌, ◌++◌, length, take, drop, Option, Some, None, Result, Ok, Err, Bool, true, false, ◌==◌, refl, slice_index}
 use Rattle.std.specs.List.{prefix_len, AllByRecursion}
-use Rattle.std.proofs.Common.{inl, inr, ap, sym, ◌∙◌, cond, arith, subst, eqb-true}
-use Rattle.std.proofs.{lemmas.List.take-append-drop, Math.Seq.take-append_seam, Math.Seq.drop-append_seam, lemmas.Bool.and_parts, lemmas.Bool.cases_lt}
+use Rattle.std.proofs.Common.{ap, sym, ◌∙◌, cond, arith, subst, eqb-true}
+use Rattle.std.proofs.{lemmas.List.take-append-drop, Math.Seq.take-append_seam, Math.Seq.drop-append_seam, lemmas.Bool.agree_below_at}
 use Rattle.hex.specs.Hex.{encode_lower, encode_with, lower_digits, IsBytes, decode_of, decode_pairs, hex_digit_value, value_at, digit_or_error, pair_value}
 use Rattle.hex.specs.Hex as hex
 use Rattle.hex.specs.{declared.error.FromHexError.FromHexError, declared.error.FromHexError.TheVariants.OddLength}
@@ -21,29 +21,12 @@ as_bytes [] fit i = omega arith
 as_bytes (b ∷ bytes) fit zero = fit.0
 as_bytes (b ∷ bytes) fit (suc i) = as_bytes bytes fit.1 i
 
--- the digits of the crate's table are ours, up to a place
-abbrev same_below : ℕ → Bool
-same_below zero = true
-same_below (suc n) = (slice_index lower_digits n == hex_digit n) && same_below n
-
-same_at : (n k : ℕ) → same_below n ≡ true → k < n → slice_index lower_digits k ≡ hex_digit k
-same_at zero k h small = absurd (omega arith)
-same_at (suc n) k h small =
-    let parts = and_parts (slice_index lower_digits n == hex_digit n) (same_below n) h in
-    elim (cases_lt k n) [
-      | inl below ↦ same_at n k parts.1 below
-      | inr top ↦
-          let e : k ≡ n = omega arith in
-          rw e (eqb-true (slice_index lower_digits n) (hex_digit n) parts.0)
-    ]
-
+-- the digits of the crate's table are ours
 pub digit_is : (n : ℕ) → n < 16 → slice_index lower_digits n ≡ hex_digit n
-digit_is n small = same_at 16 n refl small
+digit_is n small = eqb-true _ _ (agree_below_at (λ n. slice_index lower_digits n == hex_digit n) (λ _. true) 16 n refl small)
 
 digit_passes : (n : ℕ) → n < 16 → in_hex (slice_index lower_digits n) ≡ true
-digit_passes n small = let e = digit_is n small in ap in_hex e ∙ passes n small where
-  passes : (n : ℕ) → n < 16 → in_hex (hex_digit n) ≡ true
-  passes n small = grind arith
+digit_passes n small = agree_below_at (λ n. in_hex (slice_index lower_digits n)) (λ _. true) 16 n refl small
 
 all_hex : (bytes : List ℕ) → AllByRecursion (λ b. b < 256) bytes → AllByRecursion (λ b. in_hex b ≡ true) (encode_lower bytes)
 unfolding encode_with
@@ -57,6 +40,9 @@ all_hex (b ∷ bytes) fit =
 bind_ok : {A B : Type 0} (r : Result A FromHexError) (f : A → Result B FromHexError) (y : B) → ◌≡◌ {A = Result B FromHexError} (hex.◌>>=◌ r f) (Ok y) → (x : A) × (r ≡ Ok x) × (f x ≡ Ok y)
 bind_ok (Ok x) f y e = (x, refl, e)
 bind_ok (Err d) f y e = absurd cc
+
+ok_same : {A : Type 0} (a b : A) → ◌≡◌ {A = Result A FromHexError} (Ok a) (Ok b) → a ≡ b
+ok_same a b e = cc
 
 lower_digit : (c v : ℕ) → in_hex c ≡ true → hex_digit_value c ≡ Some v → (c ≡ hex_digit v) × (v < 16)
 lower_digit c v h e = (grind (arith, h, e), grind (arith, h, e))
@@ -78,12 +64,10 @@ pair_ok h l i v high low e =
     let y = digit_ok l (i + 1) b.0 low b.1 in
     let small_x : a.0 < 16 = x.1 in
     let small_y : b.0 < 16 = y.1 in
-    let value : a.0 * 16 + b.0 ≡ v = ok_is (a.0 * 16 + b.0) v b.2 in
+    let value : a.0 * 16 + b.0 ≡ v = ok_same (a.0 * 16 + b.0) v b.2 in
     let quotient : a.0 ≡ v / 16 = omega arith in
     let remainder : b.0 ≡ v % 16 = omega arith in
-    (x.0 ∙ ap (slice_index lower_digits) quotient, y.0 ∙ ap (slice_index lower_digits) remainder, omega arith) where
-      ok_is : (a b : ℕ) → ◌≡◌ {A = Result ℕ FromHexError} (Ok a) (Ok b) → a ≡ b
-      ok_is a b e = cc
+    (x.0 ∙ ap (slice_index lower_digits) quotient, y.0 ∙ ap (slice_index lower_digits) remainder, omega arith)
 
 lower_pairs : (run bytes : List ℕ) (i : ℕ) → AllByRecursion (λ b. in_hex b ≡ true) run → decode_pairs i run ≡ Ok bytes → (run ≡ encode_lower bytes) × AllByRecursion (λ b. b < 256) bytes
 unfolding decode_pairs encode_with
@@ -95,11 +79,9 @@ lower_pairs (h ∷ l ∷ rest) bytes i all e =
     let b = bind_ok (decode_pairs (i + 2) rest) (λ bs. Ok (a.0 ∷ bs)) bytes a.2 in
     let p = pair_ok h l i a.0 all.0 all.1.0 a.1 in
     let r = lower_pairs rest b.0 (i + 2) all.1.1 b.1 in
-    let same : a.0 ∷ b.0 ≡ bytes = ok_is (a.0 ∷ b.0) bytes b.2 in
+    let same : a.0 ∷ b.0 ≡ bytes = ok_same (a.0 ∷ b.0) bytes b.2 in
     let spelled : h ∷ l ∷ rest ≡ encode_lower (a.0 ∷ b.0) = ap (λ (c : ℕ). c ∷ l ∷ rest) p.0 ∙ ap (λ (c : ℕ). slice_index lower_digits (a.0 / 16) ∷ c ∷ rest) p.1 ∙ ap (λ (r : List ℕ). slice_index lower_digits (a.0 / 16) ∷ slice_index lower_digits (a.0 % 16) ∷ r) r.0 in
-    subst (λ (bs : List ℕ). (h ∷ l ∷ rest ≡ encode_lower bs) × AllByRecursion (λ b. b < 256) bs) same (spelled, (p.2, r.1)) where
-      ok_is : (a b : List ℕ) → ◌≡◌ {A = Result (List ℕ) FromHexError} (Ok a) (Ok b) → a ≡ b
-      ok_is a b e = cc
+    subst (λ (bs : List ℕ). (h ∷ l ∷ rest ≡ encode_lower bs) × AllByRecursion (λ b. b < 256) bs) same (spelled, (p.2, r.1))
 
 -- what is decoded of lower-case digits is written so again
 pub lower_again : (run bytes : List ℕ) → AllByRecursion (λ b. in_hex b ≡ true) run → decode_of run ≡ Ok bytes → (run ≡ encode_lower bytes) × AllByRecursion (λ b. b < 256) bytes

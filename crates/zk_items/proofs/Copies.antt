@@ -49,17 +49,17 @@ unfolding text_at
 full_text line rest behind old new front c = subst (λ (l : List ℕ). Copied text_at text_items l behind old new) (sym front) (record { value = c.value; read = c.read; have = c.have; appended = c.appended })
 
 -- what was read up to the sign, and its number of bytes
-chars_at_end : (line rest old room mid new : List ℕ) (count : ℕ) → length room ≡ 4 → with_front (old ++ room) (many_at symbol_at (length line) line) ≡ Some (mid, rest)
-    → IsUtf8 (take (length mid - (length old + 4)) (drop (length old + 4) mid)) → count ≡ length mid - (length old + 4) → count < 2 ^ 31 → new ≡ take (length old) mid ++ (int_bytes (pos count) ++ drop (length old + 4) mid)
+pub chars_copied : (line rest old room mid new : List ℕ) (start count : ℕ) → start ≡ length old → length room ≡ 4 → with_front (old ++ room) (many_at symbol_at (length line) line) ≡ Some (mid, rest)
+    → IsUtf8 (take (length mid - (start + 4)) (drop (start + 4) mid)) → count ≡ length mid - (start + 4) → count < 2 ^ 31 → new ≡ take start mid ++ (int_bytes (pos count) ++ drop (start + 4) mid)
     → Copied chars_at text_items line rest old new
-chars_at_end line rest old room mid new count four read text number small filled =
+chars_copied line rest old room mid new start count begins four read text number small filled =
     let a = bind_some (many_at symbol_at (length line) line) (λ q. Some ((old ++ room) ++ q.0, q.1)) (mid, rest) read in
     let xs = a.0.0 in
     let pair = some_is ((old ++ room) ++ xs, a.0.1) (mid, rest) a.2 in
     let whole : mid ≡ (old ++ room) ++ xs = sym pair.0 in
     let inside : drop (length old + 4) mid ≡ xs = ap (drop (length old + 4)) whole ∙ behind_room old room xs four in
     let all : take (length mid - (length old + 4)) (drop (length old + 4) mid) ≡ xs = take_all _ _ (omega (arith, length-drop (length old + 4) mid)) ∙ inside in
-    let utf8 : IsUtf8 xs = subst IsUtf8 all text in
+    let utf8 : IsUtf8 xs = subst IsUtf8 all (rw begins at text) in
     let long : length mid ≡ (length old + 4) + length xs = ap length whole ∙ length-append (old ++ room) xs ∙ omega (arith, length-append old room) in
     let same : count ≡ length xs = omega arith in
     let short : length xs < 2 ^ 31 = omega arith in
@@ -67,15 +67,8 @@ chars_at_end line rest old room mid new count four read text number small filled
       value = nullable.Full xs;
       read = ap (λ (r : Read (List ℕ)). r >>= checked) a.1 ∙ ap (λ (t : Bool). cond t (Some (nullable.Full xs, a.0.1)) None) (is_utf8-from_IsUtf8 xs utf8) ∙ ap (λ (r : List ℕ). Some (nullable.Full xs, r)) pair.1;
       have = ((utf8, short), tt);
-      appended = room_filled old room xs (int_bytes (pos count)) new mid four whole filled ∙ ap (λ (n : ℕ). old ++ (int_bytes (pos n) ++ xs)) same ∙ ap (λ (l : List ℕ). old ++ l) (sym (append-nil (int_bytes (pos (length xs)) ++ xs)));
+      appended = room_filled old room xs (int_bytes (pos count)) new mid four whole (rw begins at filled) ∙ ap (λ (n : ℕ). old ++ (int_bytes (pos n) ++ xs)) same ∙ ap (λ (l : List ℕ). old ++ l) (sym (append-nil (int_bytes (pos (length xs)) ++ xs)));
     }
-
-pub chars_copied : (line rest old room mid new : List ℕ) (start count : ℕ) → start ≡ length old → length room ≡ 4 → with_front (old ++ room) (many_at symbol_at (length line) line) ≡ Some (mid, rest)
-    → IsUtf8 (take (length mid - (start + 4)) (drop (start + 4) mid)) → count ≡ length mid - (start + 4) → count < 2 ^ 31 → new ≡ take start mid ++ (int_bytes (pos count) ++ drop (start + 4) mid)
-    → Copied chars_at text_items line rest old new
-chars_copied line rest old room mid new start count begins four read text number small filled =
-    chars_at_end line rest old room mid new count four read (subst (λ (s : ℕ). IsUtf8 (take (length mid - (s + 4)) (drop (s + 4) mid))) begins text) (subst (λ (s : ℕ). count ≡ length mid - (s + 4)) begins number) small
-    (subst (λ (s : ℕ). new ≡ take s mid ++ (int_bytes (pos count) ++ drop (s + 4) mid)) begins filled)
 
 -- ---- blobs
 

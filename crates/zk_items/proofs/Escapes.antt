@@ -1,14 +1,14 @@
 -- Escapes, made sixteen at a time.
 use Rattle.std.proofs.Common.{◌≡◌, ℕ, zero, suc, ◌+◌, ◌-◌, ◌*◌, ◌/◌, ◌%◌, ◌<◌, ◌≤◌, not, Bool, true, false, cond, eqb, List, [], ◌∷◌, ◌++◌, length, take, drop, get_or, replicate, refl, sym, ap, ap₂, subst, w8, ◌^◌, map, ◌∙◌, arith, append_assoc, Result, Ok, Err, OnOk}
 use Rattle.std.specs.List.{AllByRecursion, flat_map, prefix_len}
-use Rattle.std.proofs.{lemmas.Bool.agree_below_at, lemmas.Bool.eqb-true, lemmas.Grind.flat_map-append, lemmas.List.Sums.prefix_len-le-length, Math.Seq.take-append_seam}
+use Rattle.std.proofs.{lemmas.Bool.eqb-true, lemmas.Grind.flat_map-append, lemmas.List.Sums.prefix_len-le-length, Math.Seq.take-append_seam}
 use Rattle.std.proofs.lemmas.List.{append-nil, take_all, take_rest, take-append-drop, take-take, length-take-le, length-take, length-map}
 use Rattle.std.proofs.lemmas.Simd.{tops_compared, mask_l-mod, first_set_mask_l, length-zip2}
 use lib.Count.{count_trailing_zeros}
 use lib.Lanes.{pick_l, zip2, mask_l, top}
 use Rattle.hex.specs.Hex.{encode_with, encode_lower}
 use Rattle.zk_items.specs.{Leaf.is_plain, Leaf.hex_digit, Leaf.symbol_spell, Odd.escape, Odd.is_odd}
-use Rattle.zk_items.proofs.Lanes.{high, low}
+use Rattle.zk_items.proofs.{Blobs.digit_is, Lanes.high, Lanes.low}
 
 abbrev spelled : ℕ → List ℕ
 spelled b = 92 ∷ high b ∷ low b ∷ []
@@ -16,8 +16,9 @@ spelled b = 92 ∷ high b ∷ low b ∷ []
 digits_are : (v : List ℕ) → AllByRecursion (λ b. b < 256) v → flat_map spelled v ≡ flat_map escape v
 digits_are [] bytes = refl
 digits_are (b ∷ v) bytes =
-    let first : high b ≡ hex_digit (b / 16) = eqb-true _ _ (agree_below_at (λ b. eqb (high b) (hex_digit (b / 16))) (λ b. true) 256 b refl bytes.0) in
-    let second : low b ≡ hex_digit (b % 16) = eqb-true _ _ (agree_below_at (λ b. eqb (low b) (hex_digit (b % 16))) (λ b. true) 256 b refl bytes.0) in
+    let small : b < 256 = bytes.0 in
+    let first = digit_is (b / 16) (omega arith) in
+    let second = digit_is (b % 16) (omega arith) in
     let rest = digits_are v bytes.1 in
     λ t. 92 ∷ first t ∷ second t ∷ rest t
 
@@ -61,9 +62,6 @@ odd_spelled [] odd = refl
 odd_spelled (b ∷ v) odd =
     let rest = odd_spelled v odd.1 in
     ap (λ l. escape b ++ l) rest ∙ ap (λ (t : Bool). cond t (b ∷ []) (92 ∷ hex_digit (b / 16) ∷ hex_digit (b % 16) ∷ []) ++ flat_map symbol_spell v) (sym odd.0)
-
-pub odd_front : (v more : List ℕ) → AllByRecursion (λ b. is_plain b ≡ false) v → take (3 * length v) (flat_map escape (v ++ more)) ≡ flat_map symbol_spell v
-odd_front v more odd = front_escapes v more ∙ odd_spelled v odd
 
 pub one_spelled : (v : List ℕ) → 0 < length v → flat_map symbol_spell (take 1 v) ≡ symbol_spell (get_or v 0 0)
 one_spelled [] some = absurd (omega arith)
@@ -128,7 +126,7 @@ pub spelled_front : (n : ℕ) (v : List ℕ) → n ≤ length v → AllByRecursi
 spelled_front n v within odd =
     let length_n : length (take n v) ≡ n = length-take-le n v within in
     ap (λ m. take (3 * m) (flat_map escape v)) (sym length_n) ∙ ap (λ l. take (3 * length (take n v)) (flat_map escape l)) (sym (take-append-drop n v))
-    ∙ odd_front (take n v) (drop n v) odd
+    ∙ front_escapes (take n v) (drop n v) ∙ odd_spelled (take n v) odd
 
 -- what is spelled again as it stood was the spelling
 pub respelled : (chars whole v : List ℕ) (same n : ℕ) → whole ≡ take 16 (flat_map escape v) → take same chars ≡ take same whole → same ≤ 16 → length v ≡ 16 → n ≤ same / 3 → n ≤ prefix_len is_odd v

@@ -116,11 +116,6 @@ pub whole_room : (len : ℕ) (new old : List ℕ) → length new ≡ length old 
 whole_room len new old same long =
     ap (λ (r : List ℕ). take len (new ++ r)) (drop_all (length new) old (omega arith)) ∙ ap (take len) (append-nil new) ∙ take_all len new (omega arith)
 
-pub hex_take : (n : ℕ) (v : List ℕ) → Hex v → Hex (take n v)
-hex_take zero v h = tt
-hex_take (suc n) [] h = tt
-hex_take (suc n) (b ∷ v) h = (h.0, hex_take n v h.1)
-
 pub hex_drop : (n : ℕ) (v : List ℕ) → Hex v → Hex (drop n v)
 hex_drop zero v h = h
 hex_drop (suc n) [] h = tt

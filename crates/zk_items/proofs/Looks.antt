@@ -6,13 +6,9 @@ use Rattle.std.proofs.{lemmas.List.Folds.prefix_len-append, lemmas.List.Sums.pre
 use Rattle.std.proofs.lemmas.Simd.{chunk-drop, length-chunk, map-map, mask_l-mod, first_set_mask_l}
 use Rattle.std.specs.List.{prefix_len, flat_map}
 use lib.Count.{count_trailing_zeros}
-use Rattle.std.proofs.Math.Seq.{drop-cons}
+use Rattle.std.proofs.Math.{Bool.not-not, Seq.drop-cons}
 use lib.Lanes.{chunk, Each1, mask_l, pick_l, top}
 use Rattle.zk_items.specs.Leaf.{is_plain, symbol_spell, hex_digit}
-
-twice : (b : Bool) → not (not b) ≡ b
-twice true = refl
-twice false = refl
 
 module _ (q : ℕ → Bool) where
   -- what doesn't pass
@@ -21,7 +17,7 @@ module _ (q : ℕ → Bool) where
 
   not_odd : (v : List ℕ) → prefix_len (λ b. not (odd b)) v ≡ prefix_len q v
   not_odd [] = refl
-  not_odd (b ∷ v) = ap₂ (λ t n. cond t (1 + n) 0) (twice (q b)) (not_odd v)
+  not_odd (b ∷ v) = ap₂ (λ t n. cond t (1 + n) 0) (not-not (q b)) (not_odd v)
 
   -- each lane's answer is that of its byte
   each_lane : (f : ℕ → ℕ) (v : List ℕ) → agree_below (λ b. top 7 (f b)) odd 256 ≡ true → Each1 (Fits w8) v → map (λ b. top 7 (f b)) v ≡ map odd v

@@ -57,17 +57,16 @@ no_front None = refl
 no_front (Some q) = refl
 
 module _ {X : Type 0} (at : List ℕ → Read (Option X)) where
-  pub step_some : (front : List X) (n m : ℕ) (bytes rest : List ℕ) (x : X) → n ≡ suc m → at bytes ≡ Some (Some x, rest) → with_front front (many_at at n bytes) ≡ with_front (front ++ (x ∷ [])) (many_at at m rest)
-  step_some front n m bytes rest x is e =
+  step : (front : List X) (n m : ℕ) (bytes : List ℕ) (r : Read (Option X)) → n ≡ suc m → at bytes ≡ r → with_front front (many_at at n bytes) ≡ with_front front (r >>= then_more (many_at at m))
+  step front n m bytes r is e =
       ap (λ (n : ℕ). with_front front (many_at at n bytes)) is
-      ∙ ap (λ (r : Read (Option X)). with_front front (r >>= then_more (many_at at m))) e ∙ front_of_first front x (many_at at m rest)
+      ∙ ap (λ (r : Read (Option X)). with_front front (r >>= then_more (many_at at m))) e
+
+  pub step_some : (front : List X) (n m : ℕ) (bytes rest : List ℕ) (x : X) → n ≡ suc m → at bytes ≡ Some (Some x, rest) → with_front front (many_at at n bytes) ≡ with_front (front ++ (x ∷ [])) (many_at at m rest)
+  step_some front n m bytes rest x is e = step front n m bytes (Some (Some x, rest)) is e ∙ front_of_first front x (many_at at m rest)
 
   pub step_end : (front : List X) (n m : ℕ) (bytes rest : List ℕ) → n ≡ suc m → at bytes ≡ Some (None, rest) → with_front front (many_at at n bytes) ≡ Some (front ++ [], rest)
-  step_end front n m bytes rest is e =
-      ap (λ (n : ℕ). with_front front (many_at at n bytes)) is
-      ∙ ap (λ (r : Read (Option X)). with_front front (r >>= then_more (many_at at m))) e
+  step_end front n m bytes rest is e = step front n m bytes (Some (None, rest)) is e
 
   pub step_none : (front : List X) (n m : ℕ) (bytes : List ℕ) → n ≡ suc m → at bytes ≡ None → with_front front (many_at at n bytes) ≡ None
-  step_none front n m bytes is e =
-      ap (λ (n : ℕ). with_front front (many_at at n bytes)) is
-      ∙ ap (λ (r : Read (Option X)). with_front front (r >>= then_more (many_at at m))) e
+  step_none front n m bytes is e = step front n m bytes None is e

@@ -1,10 +1,11 @@
 -- Numbers are read as they are written.
 use Rattle.std.specs.Prelude.{◌≡◌, ◌≢◌, ℕ, suc, ◌^◌, ◌<◌, ◌≤◌, List, [], ◌∷◌, ◌++◌, length, take, drop, Some, None, Result, Ok, Bool, true, false, ◌==◌, ◌&&◌, ◌||◌, nat_le, ℤ, pos, negsuc, IsUtf8, bytes_eq, refl}
-use Rattle.std.specs.{List.prefix_len, List.AllByRecursion, Fmt.signed_decimal, Fmt.decimal, Str.IsAscii}
+use Rattle.std.specs.{List.prefix_len, List.AllByRecursion, Fmt.signed_decimal, Fmt.decimal}
 use Rattle.std.specs.Str.Parse.{signed_digits_value, digits_value, AllDigits, ParsesSigned, without_leading_sign, without_leading_plus}
-use Rattle.std.proofs.Common.{ap, sym, ◌∙◌, cond, arith, subst, ltb-true, lt-ltb, le-leb, ne_eqb, neg_ℤ, w64}
+use Rattle.std.proofs.Common.{ap, sym, ◌∙◌, cond, arith, subst, ltb-true, lt-ltb, le-leb, ne_eqb, neg_ℤ, SFits, w32, w64}
 use Rattle.std.proofs.{lemmas.List.take-append-drop, Math.Seq.take-append_seam, Math.Seq.drop-append_seam, lemmas.Fmt.decimal_is_IsNumeral, lemmas.Fmt.IsAscii-signed, lemmas.Fmt.parse-signed_decimal, lemmas.Str.IsUtf8-from_ascii}
 use Rattle.std.proofs.{lemmas.Str.Parse.digit_from_value, lemmas.Slice.Eq.bytes_eq-Decides}
+use lib.Signed.{mag}
 use Rattle.zk_items.specs.{Form.Read, Form.in_item, Leaf.in_number, Leaf.in_range, Leaf.num_of, Leaf.num_at, Leaf.int, Leaf.long, Laws.Lawful}
 use Rattle.zk_items.proofs.{Forms.if_some, Forms.some_is, Runs.run_is, Runs.run_ends, Runs.stops_end_run}
 
@@ -25,6 +26,24 @@ plain_value (c ∷ cs) h some =
     let sign : without_leading_sign (c ∷ cs) ≡ c ∷ cs = ap (λ (t : Bool). cond t (drop 1 (c ∷ cs)) (without_leading_plus (c ∷ cs))) minus ∙ front in
     ap (λ (t : Bool). cond t (neg_ℤ (pos (digits_value 10 (without_leading_sign (c ∷ cs))))) (pos (digits_value 10 (without_leading_sign (c ∷ cs))))) minus
     ∙ ap (λ (ds : List ℕ). pos (digits_value 10 ds)) sign
+
+-- a number in range, by its magnitude
+pub range_small : (k : ℕ) (z : ℤ) → in_range k z ≡ true → mag z < 2 ^ k
+range_small k (pos n) fit = ltb-true n (2 ^ k) fit
+range_small k (negsuc n) fit = ltb-true n (2 ^ k) fit
+
+pub small_range : (k : ℕ) (z : ℤ) → mag z < 2 ^ k → in_range k z ≡ true
+small_range k (pos n) small = lt-ltb n (2 ^ k) small
+small_range k (negsuc n) small = lt-ltb n (2 ^ k) small
+
+pub wide : (z : ℤ) → in_range 31 z ≡ true → in_range 63 z ≡ true
+wide z fit = let small = range_small 31 z fit in small_range 63 z (omega arith)
+
+pub int_fits : (z : ℤ) → in_range 31 z ≡ true → SFits w32 z
+int_fits z fit = record { sfits = range_small 31 z fit }
+
+pub long_fits : (z : ℤ) → in_range 63 z ≡ true → SFits w64 z
+long_fits z fit = record { sfits = range_small 63 z fit }
 
 pub written_value : (x : ℤ) → in_range 63 x ≡ true → (signed_digits_value 10 (signed_decimal x) ≡ x) × AllByRecursion (λ b. in_number b ≡ true) (signed_decimal x)
 written_value (pos n) fit =
@@ -71,16 +90,13 @@ num_of_sound k run rest x behind e =
 pub num_again : (k : ℕ) (small : (n : ℕ) → n < 2 ^ k → n < 2 ^ 63) (x : ℤ) (rest : List ℕ) → in_range k x ≡ true → run_ends in_number rest ≡ true → num_at k (signed_decimal x ++ rest) ≡ Some (x, rest)
 unfolding num_at
 num_again k small x rest fit stop =
-    let wide = widen k small x fit in
+    let wide = small_range 63 x (small (mag x) (range_small k x fit)) in
     let w = written_value x wide in
     let len : prefix_len in_number (signed_decimal x ++ rest) ≡ length (signed_decimal x) = run_is in_number (signed_decimal x) rest w.1 stop in
     ap (λ (n : ℕ). num_of k (take n (signed_decimal x ++ rest)) (drop n (signed_decimal x ++ rest))) len
     ∙ ap (λ (r : List ℕ). num_of k r (drop (length (signed_decimal x)) (signed_decimal x ++ rest))) (take-append_seam (signed_decimal x) rest)
     ∙ ap (λ (r : List ℕ). num_of k (signed_decimal x) r) (drop-append_seam (signed_decimal x) rest)
-    ∙ num_of_some k x (signed_decimal x) rest wide fit refl where
-      widen : (k : ℕ) (small : (n : ℕ) → n < 2 ^ k → n < 2 ^ 63) (x : ℤ) → in_range k x ≡ true → in_range 63 x ≡ true
-      widen k small (pos n) fit = lt-ltb n (2 ^ 63) (small n (ltb-true n (2 ^ k) fit))
-      widen k small (negsuc n) fit = lt-ltb n (2 ^ 63) (small n (ltb-true n (2 ^ k) fit))
+    ∙ num_of_some k x (signed_decimal x) rest wide fit refl
 
 pub num_sound : (k : ℕ) (bytes : List ℕ) (x : ℤ) (rest : List ℕ) → num_at k bytes ≡ Some (x, rest) → (bytes ≡ signed_decimal x ++ rest) × (in_range k x ≡ true)
 unfolding num_at
@@ -104,15 +120,7 @@ num_none k run rest h = pick (num_of k run rest) refl where
   pick (Some q) e = let s = num_of_sound k run rest q.0 q.1 e in absurd (h q.0 s.1 s.0)
 
 pub number_text : (z : ℤ) (run : List ℕ) → in_range 63 z ≡ true → run ≡ signed_decimal z → IsUtf8 run
-number_text z run fit e = subst (λ (r : List ℕ). IsUtf8 r) (sym e) (IsUtf8-from_ascii (signed_decimal z) (ascii z fit)) where
-  ascii : (z : ℤ) → in_range 63 z ≡ true → IsAscii (signed_decimal z)
-  ascii (pos n) fit = let small : n < 2 ^ 63 = ltb-true n (2 ^ 63) fit in IsAscii-signed (pos n) small
-  ascii (negsuc n) fit = let small : n < 2 ^ 63 = ltb-true n (2 ^ 63) fit in IsAscii-signed (negsuc n) small
-
-pub wide : (z : ℤ) → in_range 31 z ≡ true → in_range 63 z ≡ true
-wide (pos n) fit = let small : n < 2 ^ 31 = ltb-true n (2 ^ 31) fit in lt-ltb n (2 ^ 63) (omega arith)
-wide (negsuc n) fit = let small : n < 2 ^ 31 = ltb-true n (2 ^ 31) fit in lt-ltb n (2 ^ 63) (omega arith)
+number_text z run fit e = subst (λ (r : List ℕ). IsUtf8 r) (sym e) (IsUtf8-from_ascii (signed_decimal z) (IsAscii-signed z (range_small 63 z fit)))
 
 pub parse_long : {E : Type 0} (z : ℤ) (run : List ℕ) (r : Result ℤ E) → in_range 63 z ≡ true → run ≡ signed_decimal z → ParsesSigned w64 10 run r → r ≡ Ok z
-parse_long (pos n) run r fit e h = let small : n < 2 ^ 63 = ltb-true n (2 ^ 63) fit in parse-signed_decimal w64 (pos n) run r (record { sfits = small }) (omega arith) e h
-parse_long (negsuc n) run r fit e h = let small : n < 2 ^ 63 = ltb-true n (2 ^ 63) fit in parse-signed_decimal w64 (negsuc n) run r (record { sfits = small }) (omega arith) e h
+parse_long z run r fit e h = parse-signed_decimal w64 z run r (long_fits z fit) (range_small 63 z fit) e h

@@ -1,12 +1,12 @@
 -- Numbers told from their digits alone.
-use Rattle.std.proofs.Common.{◌≡◌, ℕ, zero, suc, ◌+◌, ◌-◌, ◌*◌, ◌^◌, ◌<◌, ◌≤◌, Some, true, false, List, ◌∷◌, length, take, drop, get_or, ap, sym, ◌∙◌, arith, lt-ltb, ltb-true, SFits, w32, w64, to_z, of_z}
+use Rattle.std.proofs.Common.{◌≡◌, ℕ, zero, suc, ◌+◌, ◌-◌, ◌*◌, ◌^◌, ◌<◌, ◌≤◌, Some, true, false, List, ◌∷◌, length, take, drop, get_or, ap, sym, ◌∙◌, arith, lt-ltb, SFits, w32, w64, to_z, of_z}
 use Rattle.std.specs.Prelude.{◌≢◌, ℤ, pos, negsuc, neg_ℤ}
 use Rattle.std.specs.{List.prefix_len, Fmt.decimal, Fmt.signed_decimal, Str.Parse.AllDigits, Str.Parse.digits_value, Str.Parse.signed_digits_value}
 use Rattle.std.proofs.{lemmas.Int.to_z-of_z, lemmas.Int.Digits.digits_more, lemmas.Int.Digits.digits_value_more, lemmas.Fmt.decimal-digits_value, lemmas.List.length-take-le, lemmas.List.get_or-take, lemmas.List.Sums.prefix_len_is}
 use Rattle.std.proofs.lemmas.Str.{digit_value_digit}
 use Rattle.std.proofs.lemmas.Str.Parse.{IsNumeralModel, numerals_by_value, tells_digits, digits_value_short, digit_at}
 use Rattle.zk_items.specs.Leaf.{in_number, in_range, num_of, num_at}
-use Rattle.zk_items.proofs.Numbers.{num_of_some, num_of_sound, wide, written_value}
+use Rattle.zk_items.proofs.Numbers.{num_of_some, num_of_sound, wide, int_fits, long_fits, written_value}
 
 own : IsNumeralModel (AllDigits 10) (digits_value 10)
 own = numerals_by_value (AllDigits 10) tells_digits
@@ -77,14 +77,6 @@ read_minus bytes rest (suc value) len n front is run (same, some, small) =
     ap (num_at 63) front ∙ below rest value len is run (omega (arith, small))
     ∙ ap (λ (z : ℤ). Some (z, drop (suc len) (45 ∷ rest))) (sym (to_z-of_z w64 (negsuc value) fits)) ∙ ap (λ (z : ℤ). Some (to_z w64 (of_z w64 z), drop (suc len) (45 ∷ rest))) (sym same)
     ∙ ap (λ (k : ℕ). Some (to_z w64 (of_z w64 n), drop k (45 ∷ rest))) one ∙ ap (λ (b : List ℕ). Some (to_z w64 (of_z w64 n), drop (len + 1) b)) (sym front)
-
-int_fits : (m : ℤ) → in_range 31 m ≡ true → SFits w32 m
-int_fits (pos n) fit = let small : n < 2 ^ 31 = ltb-true n (2 ^ 31) fit in record { sfits = small }
-int_fits (negsuc n) fit = let small : n < 2 ^ 31 = ltb-true n (2 ^ 31) fit in record { sfits = small }
-
-long_fits : (m : ℤ) → in_range 63 m ≡ true → SFits w64 m
-long_fits (pos n) fit = let small : n < 2 ^ 63 = ltb-true n (2 ^ 63) fit in record { sfits = small }
-long_fits (negsuc n) fit = let small : n < 2 ^ 63 = ltb-true n (2 ^ 63) fit in record { sfits = small }
 
 -- a long that is an int is read as an int too
 pub read_narrow : (bytes rest : List ℕ) (n m : ℤ) → num_at 63 bytes ≡ Some (n, rest) → (m ≡ to_z w64 (of_z w64 n)) × (in_range 31 m ≡ true) → num_at 31 bytes ≡ Some (to_z w32 (of_z w32 m), rest)

@@ -1,5 +1,5 @@
 -- The longest run of bytes that pass a test.
-use Rattle.std.proofs.Common.{◌≡◌, ℕ, suc, ◌+◌, List, [], ◌∷◌, ◌++◌, length, take, Bool, true, false, refl, ap, subst, ◌∙◌, cond, arith}
+use Rattle.std.proofs.Common.{◌≡◌, ℕ, zero, suc, ◌+◌, List, [], ◌∷◌, ◌++◌, length, take, Bool, true, false, refl, ap, subst, ◌∙◌, cond, arith}
 use Rattle.std.specs.List.{prefix_len, AllByRecursion}
 use Rattle.zk_items.specs.Form.{stops, in_item}
 
@@ -34,3 +34,14 @@ run_passes p (b ∷ bytes) = pick (p b) refl (run_passes p bytes) where
       let one : suc (prefix_len p bytes) ≡ 1 + prefix_len p bytes = omega arith in
       subst (λ (n : ℕ). AllByRecursion (λ b. p b ≡ true) (take n (b ∷ bytes))) one (is, others)
   pick false is others = tt
+
+-- ---- what holds of each byte
+
+pub all_joined : {X : Type 0} (P : X → Type 0) (xs ys : List X) → AllByRecursion P xs → AllByRecursion P ys → AllByRecursion P (xs ++ ys)
+all_joined P [] ys h k = k
+all_joined P (x ∷ xs) ys h k = (h.0, all_joined P xs ys h.1 k)
+
+pub all_front : {X : Type 0} (P : X → Type 0) (n : ℕ) (xs : List X) → AllByRecursion P xs → AllByRecursion P (take n xs)
+all_front P zero xs h = tt
+all_front P (suc n) [] h = tt
+all_front P (suc n) (x ∷ xs) h = (h.0, all_front P n xs h.1)

@@ -1,16 +1,13 @@
 -- The bytes of a text are numbers below 256.
-use Rattle.std.proofs.Common.{◌≡◌, ℕ, ◌+◌, ◌/◌, ◌%◌, ◌<◌, List, [], ◌∷◌, ◌++◌, Bool, true, false, inl, inr, refl, subst, cond, arith, ltb-true}
+use Rattle.std.proofs.Common.{◌≡◌, ℕ, ◌+◌, ◌/◌, ◌%◌, ◌<◌, List, [], ◌∷◌, Bool, true, false, inl, inr, refl, subst, cond, arith, ltb-true}
 use Rattle.std.specs.Prelude.{IsUtf8, nat_lt}
 use Rattle.std.specs.List.{AllByRecursion}
 use Rattle.std.proofs.Math.Utf8.{encode, encodes, scalar, scalars, scalar_cases}
 use Rattle.std.proofs.lemmas.Bool.{and_parts}
+use Rattle.zk_items.proofs.Runs.{all_joined}
 
 abbrev Small : List ℕ → Type 0
 Small bytes = AllByRecursion (λ b. b < 256) bytes
-
-joined : (xs ys : List ℕ) → Small xs → Small ys → Small (xs ++ ys)
-joined [] ys h k = k
-joined (x ∷ xs) ys h k = (h.0, joined xs ys h.1 k)
 
 either : (t : Bool) (xs ys : List ℕ) → (t ≡ true → Small xs) → Small ys → Small (cond t xs ys)
 either true xs ys f g = f refl
@@ -38,7 +35,7 @@ char_small c ok =
 
 chars_small : (cs : List ℕ) → scalars cs ≡ true → Small (encodes cs)
 chars_small [] ok = tt
-chars_small (c ∷ cs) ok = let p = and_parts (scalar c) (scalars cs) ok in joined (encode c) (encodes cs) (char_small c p.0) (chars_small cs p.1)
+chars_small (c ∷ cs) ok = let p = and_parts (scalar c) (scalars cs) ok in all_joined (λ b. b < 256) (encode c) (encodes cs) (char_small c p.0) (chars_small cs p.1)
 
 pub text_small : (bytes : List ℕ) → IsUtf8 bytes → Small bytes
 text_small bytes h = subst (λ (b : List ℕ). Small b) h.1.1 (chars_small h.0 h.1.0)

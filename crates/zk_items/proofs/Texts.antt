@@ -8,7 +8,7 @@ use Rattle.zk_jute.specs.declared.value.Nullable.TheVariants as nullable
 use Rattle.zk_items.specs.Form.{Read, ◌>>=◌, stops}
 use Rattle.zk_items.specs.{Many.many_at, Many.then_more, Many.with_first, Many.with_front, Laws.Lawful}
 use Rattle.zk_items.specs.Leaf.{is_plain, hex_digit, hex_value, symbol_spell, text_spell, text_fits, symbol_at, text_at, text, checked, escape_at}
-use Rattle.zk_items.proofs.{Forms.bind_some, Forms.some_is, Forms.if_some, Forms.if_not, Many.many_again, Many.many_sound, Many.no_front, Many.step_some}
+use Rattle.zk_items.proofs.{Forms.bind_some, Forms.some_is, Forms.if_some, Forms.if_not, Many.many_again, Many.many_sound, Many.no_front, Many.step_some, Runs.all_front}
 
 hex_back : (n : ℕ) → n < 16 → hex_value (hex_digit n) ≡ Some n
 hex_back n small = grind arith
@@ -57,48 +57,36 @@ escape_is (h ∷ l ∷ r) o rest e =
       small = omega arith;
     }
 
-symbol_sound : (bytes : List ℕ) (b : ℕ) (rest : List ℕ) → symbol_at bytes ≡ Some (Some b, rest) → (bytes ≡ symbol_spell b ++ rest) × (b < 256)
+-- the sign at the end, or a byte
+abbrev IsSymbol : List ℕ → Option ℕ → List ℕ → Type 0
+IsSymbol bytes None rest = bytes ≡ 34 ∷ rest
+IsSymbol bytes (Some b) rest = (bytes ≡ symbol_spell b ++ rest) × (b < 256)
+
+symbol_is : (bytes : List ℕ) (o : Option ℕ) (rest : List ℕ) → symbol_at bytes ≡ Some (o, rest) → IsSymbol bytes o rest
 unfolding symbol_at
-symbol_sound [] b rest e = absurd cc
-symbol_sound (c ∷ bytes) b rest e = first (c == 34) e where
-  third : (t : Bool) → is_plain c ≡ t → cond {A = Read (Option ℕ)} t (Some (Some c, bytes)) None ≡ Some (Some b, rest) → (c ∷ bytes ≡ symbol_spell b ++ rest) × (b < 256)
-  third true is e =
-      let h = some_is (Some c, bytes) (Some b, rest) e in
-      let same : c ≡ b = let k = h.0 in cc in
-      let plain : is_plain b ≡ true = ap is_plain (sym same) ∙ is in
-      let small : b < 256 = grind (arith, plain) in
-      (ap (λ (c : ℕ). c ∷ bytes) same ∙ ap (λ (r : List ℕ). b ∷ r) h.1 ∙ sym (ap (λ (t : Bool). cond t (b ∷ []) (92 ∷ hex_digit (b / 16) ∷ hex_digit (b % 16) ∷ []) ++ rest) plain), small)
+symbol_is [] o rest e = absurd cc
+symbol_is (c ∷ bytes) o rest e = first (c == 34) refl e where
+  third : (t : Bool) → is_plain c ≡ t → cond {A = Read (Option ℕ)} t (Some (Some c, bytes)) None ≡ Some (o, rest) → IsSymbol (c ∷ bytes) o rest
+  third true plain e =
+      let h = some_is (Some c, bytes) (o, rest) e in
+      let small : c < 256 = grind (arith, plain) in
+      subst (λ (o : Option ℕ). IsSymbol (c ∷ bytes) o rest) h.0
+      (ap (λ (r : List ℕ). c ∷ r) h.1 ∙ sym (ap (λ (t : Bool). cond t (c ∷ []) (92 ∷ hex_digit (c / 16) ∷ hex_digit (c % 16) ∷ []) ++ rest) plain), small)
   third false is e = absurd cc
 
-  second : (t : Bool) → (c == 92) ≡ t → cond {A = Read (Option ℕ)} t (escape_at bytes) (cond {A = Read (Option ℕ)} (is_plain c) (Some (Some c, bytes)) None) ≡ Some (Some b, rest) → (c ∷ bytes ≡ symbol_spell b ++ rest) × (b < 256)
+  second : (t : Bool) → (c == 92) ≡ t → cond {A = Read (Option ℕ)} t (escape_at bytes) (cond {A = Read (Option ℕ)} (is_plain c) (Some (Some c, bytes)) None) ≡ Some (o, rest) → IsSymbol (c ∷ bytes) o rest
   second true is e =
-      let h = escape_is bytes (Some b) rest e in
-      let same : h.byte ≡ b = let k = h.is in cc in
-      let spelled : bytes ≡ hex_digit (b / 16) ∷ hex_digit (b % 16) ∷ rest = h.spelled ∙ ap (λ (b : ℕ). hex_digit (b / 16) ∷ hex_digit (b % 16) ∷ rest) same in
-      let odd : is_plain b ≡ false = ap is_plain (sym same) ∙ h.odd in
-      let small : b < 256 = let k = h.small in omega arith in
-      (ap (λ (c : ℕ). c ∷ bytes) (eqb-true c 92 is) ∙ ap (λ (r : List ℕ). 92 ∷ r) spelled ∙ sym (ap (λ (t : Bool). cond t (b ∷ []) (92 ∷ hex_digit (b / 16) ∷ hex_digit (b % 16) ∷ []) ++ rest) odd), small)
+      let h = escape_is bytes o rest e in
+      let b = h.byte in
+      subst (λ (o : Option ℕ). IsSymbol (c ∷ bytes) o rest) (sym h.is)
+      (ap (λ (c : ℕ). c ∷ bytes) (eqb-true c 92 is) ∙ ap (λ (r : List ℕ). 92 ∷ r) h.spelled ∙ sym (ap (λ (t : Bool). cond t (b ∷ []) (92 ∷ hex_digit (b / 16) ∷ hex_digit (b % 16) ∷ []) ++ rest) h.odd), h.small)
   second false is e = third (is_plain c) refl e
 
-  first : (t : Bool) → cond {A = Read (Option ℕ)} t (Some (None, bytes)) (cond (c == 92) (escape_at bytes) (cond {A = Read (Option ℕ)} (is_plain c) (Some (Some c, bytes)) None)) ≡ Some (Some b, rest) → (c ∷ bytes ≡ symbol_spell b ++ rest) × (b < 256)
-  first true e = let h = some_is (None, bytes) (Some b, rest) e in let k = h.0 in absurd cc
-  first false e = second (c == 92) refl e
-
-symbol_end : (bytes rest : List ℕ) → symbol_at bytes ≡ Some (None, rest) → bytes ≡ 34 ∷ rest
-unfolding symbol_at
-symbol_end [] rest e = absurd cc
-symbol_end (c ∷ bytes) rest e = first (c == 34) refl e where
-  third : (t : Bool) → cond {A = Read (Option ℕ)} t (Some (Some c, bytes)) None ≡ Some (None, rest) → c ∷ bytes ≡ 34 ∷ rest
-  third true e = let h = some_is (Some c, bytes) (None, rest) e in let k = h.0 in absurd cc
-  third false e = absurd cc
-
-  second : (t : Bool) → cond {A = Read (Option ℕ)} t (escape_at bytes) (cond {A = Read (Option ℕ)} (is_plain c) (Some (Some c, bytes)) None) ≡ Some (None, rest) → c ∷ bytes ≡ 34 ∷ rest
-  second true e = let h = escape_is bytes None rest e in let k = h.is in absurd cc
-  second false e = third (is_plain c) e
-
-  first : (t : Bool) → (c == 34) ≡ t → cond {A = Read (Option ℕ)} t (Some (None, bytes)) (cond (c == 92) (escape_at bytes) (cond {A = Read (Option ℕ)} (is_plain c) (Some (Some c, bytes)) None)) ≡ Some (None, rest) → c ∷ bytes ≡ 34 ∷ rest
-  first true is e = let h = some_is (None, bytes) (None, rest) e in ap (λ (c : ℕ). c ∷ bytes) (eqb-true c 34 is) ∙ ap (λ (r : List ℕ). 34 ∷ r) h.1
-  first false is e = second (c == 92) e
+  first : (t : Bool) → (c == 34) ≡ t → cond {A = Read (Option ℕ)} t (Some (None, bytes)) (cond (c == 92) (escape_at bytes) (cond {A = Read (Option ℕ)} (is_plain c) (Some (Some c, bytes)) None)) ≡ Some (o, rest) → IsSymbol (c ∷ bytes) o rest
+  first true is e =
+      let h = some_is (None, bytes) (o, rest) e in
+      subst (λ (o : Option ℕ). IsSymbol (c ∷ bytes) o rest) h.0 (ap (λ (c : ℕ). c ∷ bytes) (eqb-true c 34 is) ∙ ap (λ (r : List ℕ). 34 ∷ r) h.1)
+  first false is e = second (c == 92) refl e
 
 end_again : (rest : List ℕ) → symbol_at (34 ∷ rest) ≡ Some (None, rest)
 unfolding symbol_at
@@ -131,7 +119,7 @@ text_sound (c ∷ bytes) x rest e = first (c == 126) refl e where
   second false is e = absurd cc
   second true is e =
       let a = bind_some (many_at symbol_at (length bytes) bytes) checked (x, rest) e in
-      let s = many_sound symbol_at symbol_spell (λ b. b < 256) 34 symbol_sound symbol_end (length bytes) bytes a.0.0 a.0.1 a.1 in
+      let s = many_sound symbol_at symbol_spell (λ b. b < 256) 34 (λ bytes b. symbol_is bytes (Some b)) (λ bytes. symbol_is bytes None) (length bytes) bytes a.0.0 a.0.1 a.1 in
       let k = if_some (is_utf8 a.0.0) (Some (nullable.Full a.0.0, a.0.1)) (x, rest) a.2 in
       let pair = some_is (nullable.Full a.0.0, a.0.1) (x, rest) k.1 in
       let same : c ≡ 34 = eqb-true c 34 is in
@@ -165,7 +153,7 @@ utf8_false bs h = pick (is_utf8 bs) refl where
 -- ---- the loop that reads what stands within a text, a run of plain bytes at a time
 
 pub symbol_shorter : (d rest : List ℕ) (b : ℕ) → symbol_at d ≡ Some (Some b, rest) → length rest < length d
-symbol_shorter d rest b e = pick (is_plain b) (symbol_sound d b rest e).0 where
+symbol_shorter d rest b e = pick (is_plain b) (symbol_is d (Some b) rest e).0 where
   pick : (t : Bool) → d ≡ cond t (b ∷ []) (92 ∷ hex_digit (b / 16) ∷ hex_digit (b % 16) ∷ []) ++ rest → length rest < length d
   pick true is = let n = ap length is in omega arith
   pick false is = let n = ap length is in omega arith
@@ -223,11 +211,6 @@ past_symbol front d rest b e =
     let one : length d ≡ suc (length d - 1) = omega arith in
     ap (with_front (front ++ (b ∷ []))) (enough (length rest) (length d - 1) rest (omega arith) (omega arith)) ∙ sym (step_some symbol_at front (length d) (length d - 1) d rest b one e)
 
-bytes_front : (n : ℕ) (v : List ℕ) → AllByRecursion (λ b. b < 256) v → AllByRecursion (λ b. b < 256) (take n v)
-bytes_front zero v h = tt
-bytes_front (suc n) [] h = tt
-bytes_front (suc n) (b ∷ v) h = (h.0, bytes_front n v h.1)
-
 -- a run of symbols by their spellings
 run_read : (run front rest : List ℕ) → AllByRecursion (λ b. b < 256) run
     → with_front (front ++ run) (many_at symbol_at (length rest) rest) ≡ with_front front (many_at symbol_at (length (flat_map symbol_spell run ++ rest)) (flat_map symbol_spell run ++ rest))
@@ -241,5 +224,5 @@ run_read (b ∷ run) front rest small =
 pub past_run : (front seen d ahead v : List ℕ) (n : ℕ) → AllByRecursion (λ b. b < 256) v → seen ≡ front ++ take n v → take (3 * n) d ≡ flat_map symbol_spell (take n v) → ahead ≡ drop (3 * n) d
     → with_front seen (many_at symbol_at (length ahead) ahead) ≡ with_front front (many_at symbol_at (length d) d)
 past_run front seen d ahead v n small s e a =
-    ap₂ (λ (l a : List ℕ). with_front l (many_at symbol_at (length a) a)) s a ∙ run_read (take n v) front (drop (3 * n) d) (bytes_front n v small)
+    ap₂ (λ (l a : List ℕ). with_front l (many_at symbol_at (length a) a)) s a ∙ run_read (take n v) front (drop (3 * n) d) (all_front (λ b. b < 256) n v small)
     ∙ ap (λ (d : List ℕ). with_front front (many_at symbol_at (length d) d)) (ap (λ (l : List ℕ). l ++ drop (3 * n) d) (sym e) ∙ take-append-drop (3 * n) d)

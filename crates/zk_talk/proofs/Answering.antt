@@ -2,7 +2,7 @@
 use Rattle.std.proofs.Common.{◌≡◌, ◌≢◌, true, ℕ, ◌+◌, ◌⊎◌, inl, inr, List, [], ◌∷◌, ◌++◌, length, take, drop, Option, Some, Ok, refl, sym, ap, ◌∙◌, subst}
 use Rattle.std.proofs.lemmas.List.{length-take-le}
 use Rattle.zk_jute.specs.{declared.fault.ItemFault.ItemFault, declared.fault.Reason.Reason}
-use Rattle.zk_jute.specs.declared.fault.Reason.TheVariants.{NoMemory, LengthRange, StreamEnd}
+use Rattle.zk_jute.specs.declared.fault.Reason.TheVariants.{NoMemory}
 use Rattle.zk_waiting.specs.Waiting.{Lanes}
 use Rattle.zk_talk.specs.{declared.message.Fault.Fault, declared.message.Side.Side, declared.stream.Advance.Advance, declared.replied.Replied.Replied, Numbers.IsNewest, Held.Message, History.History}
 use Rattle.zk_talk.specs.declared.message.Side.TheVariants.{Client, Server}
@@ -17,19 +17,17 @@ lacking : (r : Reason) → (r ≡ NoMemory) ⊎ (r ≡ NoMemory → ⊥)
 lacking NoMemory = inl refl
 lacking _ = inr (λ (e : _). cc)
 
-no_end : StreamEnd ≡ NoMemory → ⊥
-no_end e = cc
-
-no_range : LengthRange ≡ NoMemory → ⊥
-no_range e = cc
-
 stop_known : (limit size : ℕ) (held piece : List ℕ) (used : ℕ) (reason : Reason) → IsStop limit size held piece used reason → reason ≡ NoMemory → ⊥
-stop_known limit size held piece used reason (too_many k u l full begin r) e = no_end (sym r ∙ e)
-stop_known limit size held piece used reason (out_of_range some l fits few bad r) e = no_range (sym r ∙ e)
+stop_known limit size held piece used reason (too_many k u l full begin r) e = cc
+stop_known limit size held piece used reason (out_of_range some l fits few bad r) e = cc
 
 -- what a side received, by what the answer holds
 pub received : (side : Side) (old : StreamState) (piece : List ℕ) (kept : Option Fault) (new : StreamState) (keeps : Option Fault) {a b : Option ℕ} → a ≡ b → IsReceived side old piece kept (Ok a) new keeps → IsReceived side old piece kept (Ok b) new keeps
 received side old piece kept new keeps e r = subst (λ z. IsReceived side old piece kept (Ok z) new keeps) e r
+
+-- the side of which nothing is kept is this one
+pub none_kept : {own side : Side} {u t : TalkState} → u ≡ t → side ≡ own → kept_on side t ≡ [] → kept_on own u ≡ []
+none_kept {own} {side} {u} {t} same is none = ap (kept_on own) same ∙ subst (λ (z : Side). kept_on z t ≡ []) is none
 
 -- what is kept is of no weight for the history
 pub rekept : (t : TalkState) (a b : List ℕ) (h : History) (M : List Message) (st : Stands t h M) → ((b ≡ [] → ⊥) → IsNewest st.conversation t.answered) → Stands (record t { client_kept = a; server_kept = b }) h M

@@ -7,27 +7,24 @@ use Rattle.zk_jute.specs.{declared.fault.ItemFault.ItemFault, declared.fault.Rea
 use Rattle.zk_jute.specs.declared.fault.Reason.TheVariants.{StreamEnd, LengthRange, QueueFull, Unasked, XidOrder}
 use Rattle.zk_jute.proofs.Steps.{IsBytes, IsBytes-drop}
 use Rattle.zk_records.specs.declared.profile.Profile.{Profile}
-use Rattle.zk_asks.specs.{Held.ClientFrame, Codes.event_xid, Frames.IsFirst, Frames.IsLater, Frames.IsOfProfile, Frames.ops_of_ask, Rows.op_of_ask, Faults.IsAskFault}
+use Rattle.zk_asks.specs.{Held.ClientFrame, Codes.event_xid, Frames.IsFirst, Frames.IsOfProfile, Faults.IsAskFault}
 use Rattle.zk_asks.specs.declared.frame.ClientFrameOf.TheVariants.{Connect, Ask}
-use Rattle.zk_asks.specs.Frames as asks
 use Rattle.zk_asks.proofs.{Choices.int_decided, Deciding.first_decided, Deciding.ask_decided, Deciding.FirstIs, Deciding.LaterIs}
 use Rattle.zk_answers.specs.Held.{ServerFrame}
-use Rattle.zk_answers.specs.declared.frame.ServerFrameOf.TheVariants.{Connected, Answered, Event}
-use Rattle.zk_answers.specs.Frames as answers
+use Rattle.zk_answers.specs.declared.frame.ServerFrameOf.TheVariants.{Answered}
 use Rattle.zk_answers.proofs.Deciding.{connected_decided, head_decided, Heads, event_decided, reply_decided}
 use Rattle.zk_frames.specs.Framing.{IsBeginning, IsFrame, IsBadLength}
 use Rattle.zk_frames.proofs.Extending.{extended}
-use Rattle.zk_waiting.specs.{declared.lane.Lane.Lane, Lane.lane_of}
-use Rattle.zk_waiting.specs.declared.lane.Lane.TheVariants as lanes
-use Rattle.zk_waiting.specs.Waiting.{Lanes, Request, queue_on, weight_of, IsPut, IsDropped}
-use Rattle.zk_talk.specs.{declared.limits.Limits.Limits, declared.message.Side.Side, declared.message.Fault.Fault, Held.Message, Payloads.client_payload, Payloads.server_payload, History.History, History.on, Conversation.weight}
+use Rattle.zk_waiting.specs.Lane.{lane_of}
+use Rattle.zk_waiting.specs.Waiting.{Lanes, Request, queue_on, weight_of}
+use Rattle.zk_talk.specs.{declared.limits.Limits.Limits, declared.message.Side.Side, declared.message.Fault.Fault, Held.Message, History.History, History.on, Conversation.weight}
 use Rattle.zk_talk.specs.declared.message.Side.TheVariants.{Client, Server}
 use Rattle.zk_talk.specs.declared.message.Ending.TheVariants as ending
 use Rattle.zk_talk.specs.declared.message.MessageOf.TheVariants.{Client as FromClient, Server as FromServer}
-use Rattle.zk_talk.specs.{Good.IsGood, Fault.IsFaultOf, Fault.fault_of, Fault.side_limit, Answer.AreMessages, Judged.IsNextClient, Judged.IsNextServer, Judged.IsNumbered, Judged.IsForgotten, Judged.HasRoomFor}
+use Rattle.zk_talk.specs.{Good.IsGood, Fault.IsFaultOf, Fault.fault_of, Fault.side_limit, Answer.AreMessages, Judged.IsNextClient, Judged.IsNextServer, Judged.HasRoomFor}
 use Rattle.zk_talk.specs.Stands.{TalkState, Stands, Refuses, held_on, frames_on, size_on}
 use Rattle.zk_talk.specs.Advance.IsStop.{too_many, out_of_range}
-use Rattle.zk_talk.proofs.{Small.small_limits, Start.start_state, Start.start, Talks.grown, Talks.counted, Talks.refusing, Headline.messages_more}
+use Rattle.zk_talk.proofs.{Lanes.remembered_there, Lanes.forgotten_there, Payloads.client_is, Payloads.server_is, Small.small_limits, Start.start_state, Start.start, Talks.grown, Talks.counted, Talks.refusing, Headline.messages_more}
 use Rattle.zk_talk.proofs.Sides.{IsNextOn, TellsOn, told_nothing, goes_within, stopped, goes_whole, judged}
 use Rattle.zk_talk.proofs.Judging.{later_may, first_refused, ask_refused, full, too_early, connected_refused, connected_may, head_refused, event_refused, event_may, nothing_waits, wrong, reply_refused, reply_may, reply_due, due_waits, connected_due, event_due}
 
@@ -39,27 +36,13 @@ item_fault place reason = record { place = told_place place; reason = reason }
 
 -- ---- the client's payloads
 
-pays_client : (f : ClientFrame) (p : List ℕ) → asks.payload f ≡ p → client_payload f ≡ p
-unfolding client_payload
-pays_client f p e = e
+first_has_room : (f : ClientFrame) (w : Lanes) → IsFirst f → HasRoomFor f w
+first_has_room (Connect hello flag) w first = tt
+first_has_room (Ask xid ask) w first = absurd first
 
-pays_server : (s : ServerFrame) (p : List ℕ) → answers.payload s ≡ p → server_payload s ≡ p
-unfolding server_payload
-pays_server s p e = e
-
-first_waits : (number : ℕ) (f : ClientFrame) (w : Lanes) → IsFirst f → HasRoomFor f w × IsNumbered number f w w
-first_waits number (Connect hello flag) w first = (tt, refl)
-first_waits number (Ask xid ask) w first = absurd first
-
-put : (lane : Lane) (r : Request) (w : Lanes) → (x : Lanes) × IsPut lane r w x × (x.max ≡ w.max)
-put lanes.Ping r w = (record w { ping = w.ping ++ r ∷ [] }, refl, refl)
-put lanes.Auth r w = (record w { auth = w.auth ++ r ∷ [] }, refl, refl)
-put lanes.Watches r w = (record w { watches = w.watches ++ r ∷ [] }, refl, refl)
-put lanes.Plain r w = (record w { plain = w.plain ++ r ∷ [] }, refl, refl)
-
-later_waits : (number : ℕ) (f : ClientFrame) (w : Lanes) → IsLater f → weight_of w + weight f ≤ w.max → HasRoomFor f w × (x : Lanes) × IsNumbered number f w x × (x.max ≡ w.max)
-later_waits number (Connect hello flag) w later room = absurd later
-later_waits number (Ask xid ask) w later room = let x = put (lane_of xid) (record { xid = xid; op = op_of_ask ask; parts = ops_of_ask ask; frame = number }) w in (room, x.0, (room, x.1), x.2)
+later_has_room : (f : ClientFrame) (w : Lanes) → weight_of w + weight f ≤ w.max → HasRoomFor f w
+later_has_room (Connect hello flag) w fits = tt
+later_has_room (Ask xid ask) w fits = fits
 
 -- the next message of the side, and what waits then; or the fault
 abbrev NextDecided : Side → Profile → ℕ → ℕ → Lanes → List ℕ → Type 0
@@ -69,9 +52,10 @@ NextDecided side profile asked count w p =
 module _ (profile : Profile) (asked count : ℕ) (w : Lanes) (p : List ℕ) where
   first_next : count ≡ 0 → FirstIs p → NextDecided Client profile asked count w p
   first_next none f =
-      let k = first_waits count f.0 w f.1 in
-      let next : IsNextClient profile count w p f.0 = record { turn = ((λ _. f.1), (λ some. absurd (some none))); sent = f.2; is = pays_client f.0 p f.3; room = k.0 } in
-      inl (FromClient f.0, w, (next, k.1), refl)
+      let room = first_has_room f.0 w f.1 in
+      let x = remembered_there count f.0 w room in
+      let next : IsNextClient profile count w p f.0 = record { turn = ((λ _. f.1), (λ some. absurd (some none))); sent = f.2; is = client_is f.0 p (sym f.3); room = room } in
+      inl (FromClient f.0, x.0, (next, x.1), x.2)
 
   later_next : (count ≡ 0 → ⊥) → LaterIs profile p → NextDecided Client profile asked count w p
   later_next some f = elim (cases_lt w.max (weight_of w + weight f.0)) [
@@ -79,12 +63,13 @@ module _ (profile : Profile) (asked count : ℕ) (w : Lanes) (p : List ℕ) wher
       item_fault 0 QueueFull,
       λ limits m v waits same d.
           let of = subst (λ (q : Profile). IsOfProfile q f.0) (sym same) f.2 in
-          (0, full count m w v d limits p f.0 (later_may count m w v d limits.profile f.0 some f.1 f.3 of) f.1 (pays_client f.0 p f.4) (omega (arith, over, waits)), refl),
+          (0, full count m w v d limits p f.0 (later_may count m w v d limits.profile f.0 some f.1 f.3 of) f.1 (client_is f.0 p (sym f.4)) (omega (arith, over, waits)), refl),
     )
-    | inr room ↦
-        let k = later_waits count f.0 w f.1 room in
-        let next : IsNextClient profile count w p f.0 = record { turn = ((λ none. absurd (some none)), (λ _. (f.1, f.2))); sent = f.3; is = pays_client f.0 p f.4; room = k.0 } in
-        inl (FromClient f.0, k.1, (next, k.2), k.3)
+    | inr fits ↦
+        let room = later_has_room f.0 w fits in
+        let x = remembered_there count f.0 w room in
+        let next : IsNextClient profile count w p f.0 = record { turn = ((λ none. absurd (some none)), (λ _. (f.1, f.2))); sent = f.3; is = client_is f.0 p (sym f.4); room = room } in
+        inl (FromClient f.0, x.0, (next, x.1), x.2)
   ]
 
   client_decided : IsBytes p → NextDecided Client profile asked count w p
@@ -101,26 +86,15 @@ module _ (profile : Profile) (asked count : ℕ) (w : Lanes) (p : List ℕ) wher
 
 -- ---- the server's payloads
 
-drops : (lane : Lane) (w : Lanes) → (x : Lanes) × IsDropped lane w x × (x.max ≡ w.max)
-drops lanes.Ping w = (record w { ping = drop 1 w.ping }, refl, refl)
-drops lanes.Auth w = (record w { auth = drop 1 w.auth }, refl, refl)
-drops lanes.Watches w = (record w { watches = drop 1 w.watches }, refl, refl)
-drops lanes.Plain w = (record w { plain = drop 1 w.plain }, refl, refl)
-
-forgets : (s : ServerFrame) (w : Lanes) → (x : Lanes) × IsForgotten s w x × (x.max ≡ w.max)
-forgets (Connected hello flag) w = (w, refl, refl)
-forgets (Answered reply) w = drops (lane_of reply.xid) w
-forgets (Event zxid event) w = (w, refl, refl)
-
 module _ (profile : Profile) (asked count : ℕ) (w : Lanes) (p : List ℕ) where
   server_next : (s : ServerFrame) → IsNextServer asked count w p s → NextDecided Server profile asked count w p
-  server_next s next = let x = forgets s w in inl (FromServer s, x.0, (next, x.1), x.2)
+  server_next s next = let x = forgotten_there s w in inl (FromServer s, x.0, (next, x.1), x.2)
 
   welcome_decided : IsBytes p → count ≡ 0 → NextDecided Server profile asked count w p
   welcome_decided fits none = elim (cases_eq asked 0) [
     | inl early ↦ inr (item_fault 0 Unasked, λ v d. (0, too_early asked count w v d p none early, refl))
     | inr late ↦ elim (connected_decided p fits) [
-      | inl s ↦ server_next s.0 (record { due = due_waits w s.0 (connected_due w s.0 s.1); is = pays_server s.0 p s.3; may = λ v d. connected_may asked count w v d s.0 none late s.1 s.2 })
+      | inl s ↦ server_next s.0 (record { due = due_waits w s.0 (connected_due w s.0 s.1); is = server_is s.0 p (sym s.3); may = λ v d. connected_may asked count w v d s.0 none late s.1 s.2 })
       | inr f ↦ inr (item_fault f.0 f.1, λ v d. (f.0, connected_refused asked count w v d p f.0 f.1 none late f.2, refl))
     ]
   ]
@@ -128,7 +102,7 @@ module _ (profile : Profile) (asked count : ℕ) (w : Lanes) (p : List ℕ) wher
   module _ (some : count ≡ 0 → ⊥) (k : Heads p) where
     told_event : k.header.xid ≡ event_xid → NextDecided Server profile asked count w p
     told_event x = elim (event_decided p k x) [
-      | inl s ↦ server_next s.0 (record { due = due_waits w s.0 (event_due w s.0 s.1); is = pays_server s.0 p s.3; may = λ v d. event_may asked count w v d s.0 some s.1 s.2 })
+      | inl s ↦ server_next s.0 (record { due = due_waits w s.0 (event_due w s.0 s.1); is = server_is s.0 p (sym s.3); may = λ v d. event_may asked count w v d s.0 some s.1 s.2 })
       | inr f ↦ inr (item_fault f.0 f.1, λ v d. (f.0, event_refused asked count w v d p f.0 f.1 k.header k.rest some k.is x f.2, refl))
     ]
 
@@ -136,7 +110,7 @@ module _ (profile : Profile) (asked count : ℕ) (w : Lanes) (p : List ℕ) wher
     answered_by x r oldest same = elim (reply_decided r.op r.parts p k x) [
       | inl q ↦
           let s = Answered q.reply in
-          let pay = pays_server s p q.is in
+          let pay = server_is s p (sym q.is) in
           server_next s (record {
             due = due_waits w s (reply_due w p k.header k.rest r s k.is oldest q.fits q.sent pay);
             is = pay;

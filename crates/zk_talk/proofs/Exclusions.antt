@@ -18,7 +18,7 @@ use Rattle.zk_talk.specs.Conversation.{Conversation, IsConversation, asks_on, re
 use Rattle.zk_talk.specs.Said.{SpeakerState, Says, AreSaid, MayAsk, MaySay, IsSayFault, IsSaidClient, IsSaidServer, IsClientRefusal, IsServerRefusal, conversation_of}
 use Rattle.zk_talk.specs.Said.IsClientRefusal.{not_allowed, too_long, queue_full, second_connect, before_connect}
 use Rattle.zk_talk.specs.Said.IsServerRefusal.{no_connect, long_connected, long_event, event_xid, unasked, xid_order, misfit, long_reply, second_connected, before_connected}
-use Rattle.zk_talk.proofs.{Lists.EachAfter-nil, Loads.load_ask, Steps.conversation_client, Steps.conversation_server, Refusals.may_first, Refusals.may_later, Refusals.sent_first, FaultOnce.next_once, FaultOnce.next_exists}
+use Rattle.zk_talk.proofs.{Judging.first_or_later, Lists.EachAfter-nil, Loads.load_ask, Steps.conversation_client, Steps.conversation_server, Refusals.may_first, Refusals.may_later, Refusals.sent_first, FaultOnce.next_once, FaultOnce.next_exists}
 use Rattle.zk_talk.proofs.Speaking.{one_client, one_server}
 
 -- ---- Messages that were said are a conversation.
@@ -38,10 +38,6 @@ pub are_conversation : (limits : Limits) (M : List Message) → AreSaid limits M
 are_conversation limits M are = conversation_from limits [] M (record { client = EachAfter-nil (ClientMay limits.profile); server = EachAfter-nil (ServerMay []) }) are
 
 -- ---- What may be said has no refusal.
-pub first_or_later : (f : ClientFrame) → IsFirst f → IsLater f → ⊥
-first_or_later (Connect t g) a b = b
-first_or_later (Ask xid ask) a b = a
-
 sent_client : (profile : Profile) (C : List ClientFrame) (f : ClientFrame) → ClientMay profile C f → asks.IsSent f × IsOfProfile profile f
 sent_client profile [] (Connect t g) m = (m.1, tt)
 sent_client profile [] (Ask xid ask) m = absurd m.0

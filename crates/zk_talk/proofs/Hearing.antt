@@ -3,7 +3,7 @@ use Rattle.std.proofs.Common.{◌≡◌, ℕ, List, [], ◌∷◌, length, refl,
 use Rattle.zk_answers.specs.{Held.ServerFrame, Frames.IsConnected, Frames.IsEvent}
 use Rattle.zk_answers.specs.declared.frame.ServerFrameOf.TheVariants.{Connected, Answered, Event}
 use Rattle.zk_waiting.specs.Waiting.{Lanes}
-use Rattle.zk_talk.specs.{Conversation.Conversation, Describes.Describes, Said.Heard, Said.HasSpoken}
+use Rattle.zk_talk.specs.{Conversation.Conversation, Describes.Describes, Said.Heard, Said.HasSpoken, Settled.IsTurn, Settled.IsTurnAfter}
 
 pub described : (asked welcomed : Bool) (w : Lanes) (v : Conversation) → Heard asked welcomed w v → Describes (length v.client) (length v.server) w v
 described asked welcomed w v heard = record { client = refl; server = refl; may = heard.may; queues = heard.queues }
@@ -17,11 +17,11 @@ some_spoken true [] h e n = h refl
 some_spoken true (x ∷ xs) h e n = omega (arith, n)
 some_spoken false xs h e n = absurd (cc)
 
-pub turn_first : (welcomed : Bool) (s : ServerFrame) → welcomed ≡ false → IsConnected s → MatchBool welcomed (IsConnected s → ⊥) (IsConnected s)
+pub turn_first : (welcomed : Bool) (s : ServerFrame) → welcomed ≡ false → IsConnected s → IsTurn welcomed s
 turn_first true s e c = absurd (cc)
 turn_first false s e c = c
 
-pub turn_later : (welcomed : Bool) (s : ServerFrame) → welcomed ≡ true → (IsConnected s → ⊥) → MatchBool welcomed (IsConnected s → ⊥) (IsConnected s)
+pub turn_later : (welcomed : Bool) (s : ServerFrame) → welcomed ≡ true → (IsConnected s → ⊥) → IsTurn welcomed s
 turn_later true s e n = n
 turn_later false s e n = absurd (cc)
 
@@ -44,6 +44,6 @@ hears asked welcomed n m w v a b d = record {
   queues = d.queues;
 }
 
-pub turned : (spoken : Bool) (count : ℕ) (s : ServerFrame) → MatchBool spoken (count ≡ 0 → ⊥) (count ≡ 0) → MatchBool spoken (IsConnected s → ⊥) (IsConnected s) → (count ≡ 0 → IsConnected s) × ((count ≡ 0 → ⊥) → IsConnected s → ⊥)
+pub turned : (spoken : Bool) (count : ℕ) (s : ServerFrame) → MatchBool spoken (count ≡ 0 → ⊥) (count ≡ 0) → IsTurn spoken s → IsTurnAfter count s
 turned true count s k x = ((λ z. absurd (k z)), (λ n. x))
 turned false count s k x = ((λ z. x), (λ n. absurd (n k)))

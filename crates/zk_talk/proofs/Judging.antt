@@ -17,7 +17,7 @@ use Rattle.zk_talk.specs.Fault.IsClientFault.{connect_fault, ask_fault, queue_fu
 use Rattle.zk_talk.specs.Fault.IsServerFault.{no_connect, connected_fault, head_fault, event_fault, unasked, wrong_xid, reply_fault}
 use Rattle.std.proofs.lemmas.Bool.{cases_order}
 use Rattle.zk_talk.specs.Judged.{Tells, IsInTurn, IsNumbered, HasRoomFor, IsDue, HasAsk}
-use Rattle.zk_talk.proofs.{Turns.first_left, Loads.load_ask, Loads.lanes_same, Queues.weight_is_load, Queues.requests-head, Queues.requests-length, Lanes.front_some, Payloads.reply_head_is, Payloads.same_head}
+use Rattle.zk_talk.proofs.{Turns.first_left, Loads.load_ask, Loads.lanes_same, Queues.weight_is_load, Queues.requests-head, Queues.requests-length, Lanes.front_some, Payloads.reply_head_is, Payloads.xid_of}
 
 some_of : {X : Type 0} (n : ℕ) (xs : List X) → n ≡ length xs → (n ≡ 0 → ⊥) → xs ≢ []
 some_of n xs e h z = h (e ∙ ap length z)
@@ -25,6 +25,10 @@ some_of n xs e h z = h (e ∙ ap length z)
 none_of : {X : Type 0} (n : ℕ) (xs : List X) → n ≡ length xs → n ≡ 0 → xs ≡ []
 none_of n [] e h = refl
 none_of n (x ∷ xs) e h = absurd (omega arith)
+
+pub first_or_later : (f : ClientFrame) → IsFirst f → IsLater f → ⊥
+first_or_later (Connect t g) a b = b
+first_or_later (Ask xid ask) a b = a
 
 pub front_none : {X : Type 0} (xs : List X) → slice_get xs 0 ≡ None → xs ≡ []
 front_none [] e = refl
@@ -65,11 +69,7 @@ module _ (n m : ℕ) (w : Lanes) (v : Conversation) (d : Describes n m w v) wher
   full limits p f may later e l = go v.client refl may
     where
       go : (C : List ClientFrame) → v.client ≡ C → ClientMay limits.profile C f → IsClientFault limits v p 0 QueueFull
-      go [] q may = absurd (apart f may.0 later)
-        where
-          apart : (f : ClientFrame) → IsFirst f → IsLater f → ⊥
-          apart (Connect t g) a b = b
-          apart (Ask xid ask) a b = a
+      go [] q may = absurd (first_or_later f may.0 later)
       go (c ∷ cs) q may = queue_full (λ z. absurd (nothing (sym q ∙ z))) f may.0 may.1 may.2 e (omega (arith, l, weight_is_load v w d.queues)) refl refl
         where
           nothing : (c ∷ cs) ≡ [] → ⊥
@@ -166,7 +166,7 @@ module _ (n m : ℕ) (w : Lanes) (v : Conversation) (d : Describes n m w v) wher
   reply_may p header rest r (Answered q) y h some same a sent e = go v.server (some_of m v.server d.server y) answered
     where
       xids : q.xid ≡ header.xid
-      xids = let k = reply_head_is p q sent e in sym k.xid_is ∙ ap (λ z. z.xid) (same_head p k.header header k.rest rest k.is h)
+      xids = xid_of p q.xid header rest (reply_head_is p q sent e) h
 
       answered : IsAnswered v.client v.server q
       answered =
@@ -195,8 +195,7 @@ pub reply_due : (w : Lanes) (p : List ℕ) (header : ReplyHeader) (rest : List �
 reply_due w p header rest r (Connected t g) h some a sent e = absurd a
 reply_due w p header rest r (Event t g) h some a sent e = absurd a
 reply_due w p header rest r (Answered q) h some a sent e =
-    let k = reply_head_is p q sent e in
-    let xids : q.xid ≡ header.xid = sym k.xid_is ∙ ap (λ z. z.xid) (same_head p k.header header k.rest rest k.is h) in
+    let xids = xid_of p q.xid header rest (reply_head_is p q sent e) h in
     (r, subst (λ z. slice_get (queue_on (lane_of z) w) 0 ≡ Some r) (sym xids) some, a)
 
 pub due_waits : (w : Lanes) (s : ServerFrame) → IsDue s w → HasAsk s w

@@ -62,24 +62,24 @@ module _ (n m : ℕ) (w x : Lanes) (v : Conversation) (d : Describes n m w v) wh
   forgotten (Answered r) a e k =
       with_drop (IsQueue k (with_server v (Answered r))) k (lane_of r.xid) w x a.0 a.1 e (λ q rest is. queue_pop k v a.0 rest (Answered r) q (subst (IsQueue k v) is (d.queues k))) (λ q. queue_keep k v (queue_on k w) (Answered r) q (d.queues k))
 
--- there are lanes with one request more, and with one less
-put_there : (lane : Lane) (r : Request) (w : Lanes) → (x : Lanes) × IsPut lane r w x
-put_there Ping r w = (record w { ping = w.ping ++ r ∷ [] }, refl)
-put_there Auth r w = (record w { auth = w.auth ++ r ∷ [] }, refl)
-put_there Watches r w = (record w { watches = w.watches ++ r ∷ [] }, refl)
-put_there Plain r w = (record w { plain = w.plain ++ r ∷ [] }, refl)
+-- there are lanes with one request more, and with one less, of the same limit
+put_there : (lane : Lane) (r : Request) (w : Lanes) → (x : Lanes) × IsPut lane r w x × (x.max ≡ w.max)
+put_there Ping r w = (record w { ping = w.ping ++ r ∷ [] }, refl, refl)
+put_there Auth r w = (record w { auth = w.auth ++ r ∷ [] }, refl, refl)
+put_there Watches r w = (record w { watches = w.watches ++ r ∷ [] }, refl, refl)
+put_there Plain r w = (record w { plain = w.plain ++ r ∷ [] }, refl, refl)
 
-drop_there : (lane : Lane) (w : Lanes) → (x : Lanes) × IsDropped lane w x
-drop_there Ping w = (record w { ping = drop 1 w.ping }, refl)
-drop_there Auth w = (record w { auth = drop 1 w.auth }, refl)
-drop_there Watches w = (record w { watches = drop 1 w.watches }, refl)
-drop_there Plain w = (record w { plain = drop 1 w.plain }, refl)
+drop_there : (lane : Lane) (w : Lanes) → (x : Lanes) × IsDropped lane w x × (x.max ≡ w.max)
+drop_there Ping w = (record w { ping = drop 1 w.ping }, refl, refl)
+drop_there Auth w = (record w { auth = drop 1 w.auth }, refl, refl)
+drop_there Watches w = (record w { watches = drop 1 w.watches }, refl, refl)
+drop_there Plain w = (record w { plain = drop 1 w.plain }, refl, refl)
 
-pub remembered_there : (number : ℕ) (f : ClientFrame) (w : Lanes) → HasRoomFor f w → (x : Lanes) × IsNumbered number f w x
-remembered_there number (Connect t g) w room = (w, refl)
-remembered_there number (Ask xid ask) w room = let x = put_there (lane_of xid) (record { xid = xid; op = op_of_ask ask; parts = ops_of_ask ask; frame = number }) w in (x.0, (room, x.1))
+pub remembered_there : (number : ℕ) (f : ClientFrame) (w : Lanes) → HasRoomFor f w → (x : Lanes) × IsNumbered number f w x × (x.max ≡ w.max)
+remembered_there number (Connect t g) w room = (w, refl, refl)
+remembered_there number (Ask xid ask) w room = let x = put_there (lane_of xid) (record { xid = xid; op = op_of_ask ask; parts = ops_of_ask ask; frame = number }) w in (x.0, (room, x.1), x.2)
 
-pub forgotten_there : (s : ServerFrame) (w : Lanes) → (x : Lanes) × IsForgotten s w x
-forgotten_there (Connected t g) w = (w, refl)
+pub forgotten_there : (s : ServerFrame) (w : Lanes) → (x : Lanes) × IsForgotten s w x × (x.max ≡ w.max)
+forgotten_there (Connected t g) w = (w, refl, refl)
 forgotten_there (Answered r) w = drop_there (lane_of r.xid) w
-forgotten_there (Event z k) w = (w, refl)
+forgotten_there (Event z k) w = (w, refl, refl)

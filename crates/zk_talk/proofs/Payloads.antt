@@ -1,5 +1,5 @@
 -- What the payload crates prove of their forms, as it is used here.
-use Rattle.std.proofs.Common.{◌≡◌, ◌≢◌, ℕ, ◌≤◌, List, length, ℤ, refl, sym, subst}
+use Rattle.std.proofs.Common.{◌≡◌, ◌≢◌, ℕ, ◌≤◌, List, length, ℤ, refl, sym, ap, ◌∙◌, subst}
 use Rattle.zk_jute.specs.{Item.bytes_of, declared.fault.Reason.Reason}
 use Rattle.zk_jute.proofs.Decided.{one_fault}
 use Rattle.zk_records.specs.{Records.reply_header, Records.watcher_event, declared.header.ReplyHeader.ReplyHeader, declared.op.Op.Op, declared.profile.Profile.Profile, declared.op.PartOp.PartOp}
@@ -75,6 +75,10 @@ head_excluded p place reason fault header rest h = head_excludes p header rest p
 
 pub same_head : (p : List ℕ) (a b : ReplyHeader) (r s : List ℕ) → IsHead p a r → IsHead p b s → a ≡ b
 same_head p a b r s x y = (head_unique p a b r s x y).0
+
+-- two headers of one payload have one xid
+pub xid_of : (p : List ℕ) (xid : ℤ) (header : ReplyHeader) (rest : List ℕ) → HasHead p xid → IsHead p header rest → xid ≡ header.xid
+xid_of p xid header rest h k = sym h.xid_is ∙ ap (λ z. z.xid) (same_head p h.header header h.rest rest h.is k)
 
 -- ---- replies
 

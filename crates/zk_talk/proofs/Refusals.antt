@@ -1,7 +1,7 @@
 -- Why a history is not good with one more frame.
 use Rattle.std.proofs.Common.{◌≡◌, ◌≢◌, ℕ, ◌≤◌, List, [], ◌∷◌, ◌++◌, length, refl, sym, ap, ◌∙◌, subst, arith, ℤ}
 use Rattle.zk_asks.specs.{Held.ClientFrame, Held.Ask as Asked, declared.frame.ClientFrameOf.TheVariants.Ask, Codes.event_xid, Frames.IsFirst, Frames.IsLater, Frames.IsOfProfile, Frames.ops_of_ask, Rows.op_of_ask}
-use Rattle.zk_answers.specs.{Held.ServerFrame, Held.Reply, Frames.IsConnected, Frames.IsEvent, Frames.Fits, Faults.IsHead}
+use Rattle.zk_answers.specs.{Held.ServerFrame, Held.Reply, Frames.IsConnected, Frames.IsEvent, Frames.Fits}
 use Rattle.zk_answers.specs.declared.frame.ServerFrameOf.TheVariants.{Connected, Answered, Event}
 use Rattle.zk_talk.specs.{Payloads.client_payload, Payloads.server_payload, declared.message.Side.Side, declared.limits.Limits.Limits, Splits.EachAfter, History.History, Good.Good, Good.IsGood}
 use Rattle.zk_talk.specs.declared.message.Side.TheVariants.{Client, Server}
@@ -10,11 +10,11 @@ use Rattle.zk_waiting.specs.Lane.{lane_of, same_lane}
 use Rattle.zk_talk.specs.Conversation.{asks_on, replies_on, ClientMay, ServerMay, IsAnswered, Conversation, load, is_ask_on}
 use Rattle.zk_talk.proofs.{Small.AreSmall, Turns.count_split, Turns.nth_passing, Turns.same_lane-itself, Loads.load_ask, GoodSteps.found_client, GoodSteps.found_server}
 use Rattle.zk_jute.specs.declared.fault.Reason.{Reason}
-use Rattle.zk_records.specs.{declared.header.ReplyHeader.ReplyHeader, declared.profile.Profile.Profile}
+use Rattle.zk_records.specs.declared.profile.Profile.{Profile}
 use Rattle.zk_asks.specs.Frames as asks
 use Rattle.zk_answers.specs.Frames as answers
 use Rattle.zk_asks.proofs.Later.{ask_injective}
-use Rattle.zk_talk.proofs.Payloads.{HasHead, first_excluded, connected_excluded, ask_excluded, asks_alike, head_excluded, reply_excluded, event_excluded, same_head, reply_head_is, reply_no_event, event_head_is}
+use Rattle.zk_talk.proofs.Payloads.{first_excluded, connected_excluded, ask_excluded, asks_alike, head_excluded, reply_excluded, event_excluded, xid_of, reply_head_is, reply_no_event, event_head_is}
 use Rattle.zk_talk.specs.Fault.{IsNext, IsClientFault, IsServerFault, IsPayloadFault, side_limit, rest_on}
 use Rattle.zk_talk.specs.Fault.IsClientFault.{connect_fault, ask_fault, queue_full}
 use Rattle.zk_talk.specs.Fault.IsServerFault.{no_connect, connected_fault, head_fault, event_fault, unasked, wrong_xid, reply_fault}
@@ -57,10 +57,6 @@ client_alone limits v p place reason each (queue_full n g later sent of pay over
     let t = may_later limits.profile v.client f n may in
     let same = ask_injective g f later t.0 sent t.1 (asks_alike g f (pay ∙ sym e)) in
     omega (arith, over, fits, ap (λ z. load (v.client ++ z ∷ []) v.server) same, load_ask v g each)
-
--- two headers of one payload have one xid
-xid_of : (p : List ℕ) (xid : ℤ) (header : ReplyHeader) (rest : List ℕ) → HasHead p xid → IsHead p header rest → xid ≡ header.xid
-xid_of p xid header rest h k = sym h.xid_is ∙ ap (λ z. z.xid) (same_head p h.header header h.rest rest h.is k)
 
 -- the next ask of the lane is the one that the reply answers
 next_is : (v : Conversation) (r : Reply) (next xid : ℤ) (ask : Asked) → r.xid ≡ xid → IsNext v (lane_of xid) next ask → (w : IsAnswered v.client v.server r) → (next ≡ r.xid) × (ask ≡ w.ask)

@@ -6,9 +6,6 @@ use Rattle.zk_talk.specs.{declared.message.Fault.Fault, declared.message.Side.Si
 use Rattle.zk_talk.specs.{Refused.HasBody, Refused.IsInBody, Refused.IsRefusedBody, Refused.TellsRefusedBody, Stands.TalkState, Stands.Refuses, Stands.held_on}
 use Rattle.zk_talk.proofs.Bodies.{frame_once}
 
-some_same : {X : Type 0} (o : Option X) (x y : X) → o ≡ Some x → o ≡ Some y → x ≡ y
-some_same o x y a b = cc
-
 module _ (t : TalkState) (h : History) (M : List Message) (f : Fault) (r : Refuses t h M f) where
   abbrev now : Conversation
   now = r.is.conversation
@@ -36,7 +33,7 @@ module _ (t : TalkState) (h : History) (M : List Message) (f : Fault) (r : Refus
   pub body_there : (g : Fault) → t.fault ≡ Some g → (side : Side) → g.side ≡ side → IsInBody g → (p : List ℕ) → held_on side t ≡ frame p → (o : Option (Layout × Bor (List ℕ))) →
       MatchOption o ((layout : Layout) (body : List ℕ) → HasBody now p side layout body → ⊥) (λ b. HasBody now p side b.0 b.1.now) → TellsRefusedBody t.limits h f r.is o
   body_there g kept side at inside p is o found =
-      let same : f ≡ g = some_same t.fault f g r.kept kept in
+      let same : f ≡ g = cc (r.kept) in
       let side' : f.side ≡ side = ap (λ (z : Fault). z.side) same ∙ at in
       body_either p (ap (λ z. held_on z t) side' ∙ is) o (subst IsInBody (sym same) inside)
       (subst (λ z. MatchOption o ((layout : Layout) (body : List ℕ) → HasBody now p z layout body → ⊥) (λ b. HasBody now p z b.0 b.1.now)) (sym side') found)

@@ -1,6 +1,7 @@
 -- What one message more does to what is known of those before it.
 use Rattle.std.proofs.Common.{◌≡◌, ◌≢◌, ◌+◌, ◌<◌, ◌≤◌, ◌⊎◌, inl, inr, List, [], ◌∷◌, ◌++◌, length, filter, refl, sym, ap, ◌∙◌, subst, arith, Some, ℤ, Bool, true, false, MatchBool, IsTrue, length-drop}
 use Rattle.std.specs.Prelude.{slice_get, negsuc}
+use Rattle.std.proofs.lemmas.Bool.{both_ways}
 use Rattle.zk_jute.specs.Item.{Fit}
 use Rattle.zk_asks.specs.{Held.ClientFrame, Frames.IsFirst, Frames.IsLater, Frames.ops_of_ask, Rows.op_of_ask}
 use Rattle.zk_asks.specs.declared.frame.ClientFrameOf.TheVariants.{Connect, Ask}
@@ -17,7 +18,7 @@ use Rattle.zk_talk.specs.Said.{Heard, HasSpoken, MayAsk, ClientMayStand, IsSaidC
 use Rattle.zk_talk.specs.Said.IsClientRefusal.{queue_full}
 use Rattle.zk_talk.specs.Said.IsServerRefusal.{no_connect, long_connected, long_event, event_xid, unasked, xid_order, misfit, long_reply}
 use Rattle.zk_talk.specs.Said.IsUnfit.{not_a_reply, none_waits, other_waits, unlike}
-use Rattle.zk_talk.proofs.{Lists.not_empty, Lists.EachAfter-push, Steps.each_still, Queues.weight_is_load, Queues.requests-length, Lanes.remembered, Lanes.forgotten, Loads.load_ask}
+use Rattle.zk_talk.proofs.{Hearing.described, Lists.not_empty, Lists.EachAfter-push, Steps.each_still, Queues.weight_is_load, Queues.requests-length, Lanes.remembered, Lanes.forgotten, Loads.load_ask}
 use mathlib.Core.Bool.{beq}
 use Rattle.zk_talk.proofs.Judging.{first_may, later_may, heavier, connected_may, event_may, next_waits, front_none}
 
@@ -51,15 +52,11 @@ unfit_other w r lane q expected got same n some e g other =
 
 pub unfit_unlike : (w : Lanes) (r : Reply) (lane : Lane) (q : Request) (fits : Bool) → lane ≡ lane_of r.xid → r.xid ≢ negsuc 0 → slice_get (queue_on lane w) 0 ≡ Some q → q.xid ≡ r.xid → asked_parts q ≡ q.parts → (Fits q.op (asked_parts q) r → IsTrue fits) → fits ≡ false → IsUnfit w r Misfit
 unfit_unlike w r lane q fits same n some x parts tells off =
-    unlike n q (subst (λ l. slice_get (queue_on l w) 0 ≡ Some q) same some) x (λ f. never fits off (tells (subst (λ z. Fits q.op z r) (sym parts) f))) refl
-  where
-    never : (b : Bool) → b ≡ false → IsTrue b → ⊥
-    never true e t = absurd (cc)
-    never false e t = absurd (cc)
+    unlike n q (subst (λ l. slice_get (queue_on l w) 0 ≡ Some q) same some) x (λ f. both_ways fits off (tells (subst (λ z. Fits q.op z r) (sym parts) f))) refl
 
 module _ (limits : Limits) (asked welcomed : Bool) (w : Lanes) (v : Conversation) (heard : Heard asked welcomed w v) where
   describes : Describes (length v.client) (length v.server) w v
-  describes = record { client = refl; server = refl; may = heard.may; queues = heard.queues }
+  describes = described asked welcomed w v heard
 
   clients_none : asked ≡ false → v.client ≡ []
   clients_none e = subst (λ b. HasSpoken b v.client) e heard.client

@@ -1,5 +1,5 @@
 -- What a speaker knows of a payload that it says or refuses.
-use Rattle.std.proofs.Common.{◌≡◌, ◌≢◌, ℕ, ◌≤◌, ◌<◌, ◌⊎◌, inl, inr, List, [], ◌∷◌, length, refl, sym, ◌∙◌, subst, arith, Bool, true, false, MatchBool, IsTrue}
+use Rattle.std.proofs.Common.{◌≡◌, ◌≢◌, ℕ, ◌≤◌, ◌<◌, ◌⊎◌, inl, inr, List, [], ◌∷◌, length, refl, sym, ◌∙◌, subst, arith, Bool, true, false, MatchBool}
 use Rattle.std.specs.Int.{from_bool}
 use Rattle.zk_jute.specs.{declared.fault.ItemFault.ItemFault, Item.Fit}
 use Rattle.zk_records.specs.declared.profile.Profile.{Profile}
@@ -22,14 +22,11 @@ use Rattle.zk_talk.specs.Said.{SpeakerState, Heard, HasSpoken, MayAsk, MaySay, S
 use Rattle.zk_talk.specs.Said.IsServerRefusal.{long_connected, long_event, long_reply}
 use Rattle.zk_talk.specs.SaidPayload.{HasPayload, IsClientPayloadRefusal, IsPayloadRefusal, SaysPayload, RefusesPayload, StandsPayload, CannotSay, HearsFault, SaysClientPayload, RefusesClientPayload, StandsClientPayload, SaysServerPayload, RefusesServerPayload, StandsServerPayload}
 use Rattle.zk_talk.proofs.{Hearing.described, Hearing.none_spoken, Hearing.some_spoken, Lists.not_empty, Lists.EachAfter-push, Payloads.first_excluded, Payloads.ask_excluded, Turns.client_inj, Turns.server_inj, Queues.weight_is_load}
-use Rattle.zk_talk.proofs.{Lanes.forgotten, Judging.first_may, Judging.later_may, Judging.no_room, Refusals.may_first, Refusals.may_later, Refusals.server_alone, Saying.client_stands, Saying.client_said}
-use Rattle.zk_talk.proofs.Exclusions.{first_or_later, client_apart, server_apart, answered_next}
+use Rattle.zk_talk.proofs.{Lanes.forgotten, Judging.first_may, Judging.first_or_later, Judging.later_may, Judging.no_room, Refusals.may_first, Refusals.may_later, Refusals.server_alone, Saying.client_stands, Saying.client_said}
+use Rattle.zk_talk.proofs.Exclusions.{client_apart, server_apart, answered_next}
 use Rattle.zk_talk.proofs.Speaking.{ok_client, ok_server}
 
 -- ---- the client's payloads
-pub not_true : (b : Bool) → b ≡ false → IsTrue b → ⊥
-not_true true e t = absurd (cc)
-not_true false e t = absurd (cc)
 
 -- the number of frames by which a side's turn is told
 pub spoken_frames : (spoken : Bool) (n : ℕ) → n ≡ from_bool spoken → MatchBool spoken (n ≡ 1) (n ≡ 0)

@@ -18,8 +18,8 @@ use Rattle.zk_waiting.specs.Waiting.{Lanes, Request, queue_on, weight_of, IsPut,
 use Rattle.zk_waiting.specs.declared.waiting.PutFault.TheVariants as put
 use Rattle.zk_talk.specs.{Payloads.client_payload, Conversation.ClientMay, declared.replied.Replied.Replied}
 use Rattle.zk_talk.specs.Judged.{IsInTurn, TellsClient, HasRoomFor, IsNumbered, IsForgotten, TellsReplied}
-use Rattle.zk_talk.specs.Settled.{IsAsking, IsComing, IsDueReply, IsHeard, IsExpected, IsSettled, Answers, replied_of}
-use Rattle.zk_talk.proofs.Payloads.{client_is, server_is, few_parts}
+use Rattle.zk_talk.specs.Settled.{IsAsking, IsComing, IsDueReply, IsHeard, IsSettled, Answers, replied_of}
+use Rattle.zk_talk.proofs.Payloads.{asks_are, client_is, server_is, few_parts}
 use Rattle.zk_talk.proofs.Judging as J
 use Rattle.zk_talk.proofs.Hearing.{described, none_spoken, some_spoken, turn_later, turn_first, no_welcome, hears, turned}
 
@@ -69,12 +69,8 @@ abbrev pub HasParts : List PartOp → ClientFrame → Type 0
 HasParts ps (Connect hello read_only) = Unit {0}
 HasParts ps (Ask xid ask) = ops_of_ask ask ≡ ps
 
-pub bytes_of_it : (f : ClientFrame) (p : List ℕ) → client_payload f ≡ p → p ≡ asks.payload f
-unfolding client_payload
-bytes_of_it f p e = sym e
-
 pub judged_as : (asked : Option Outline) (p : List ℕ) (f : ClientFrame) → IsAsking asked p f → AsksFor asked p f
-judged_as asked p f k = (k.0, k.1, bytes_of_it f p k.2)
+judged_as asked p f k = (k.0, k.1, sym (asks_are f p k.2))
 
 module _ (of : Outline) where
   module _ (ps : List PartOp) (w : Lanes) where
@@ -199,24 +195,14 @@ module _ (asked welcomed : Bool) (p : List ℕ) (w : Lanes) where
   }
 
   -- by the numbers of frames
-  pub expected : (n m : ℕ) → MatchBool asked (n ≡ 0 → ⊥) (n ≡ 0) → MatchBool welcomed (m ≡ 0 → ⊥) (m ≡ 0) → (answer : Option (Lane × Replied)) (s : ServerFrame) → IsHeard asked welcomed p w answer s → IsExpected n m p w answer s
-  expected n m a b answer s h = record {
+  pub settled : (n m : ℕ) → MatchBool asked (n ≡ 0 → ⊥) (n ≡ 0) → MatchBool welcomed (m ≡ 0 → ⊥) (m ≡ 0) → (answer : Option (Lane × Replied)) (told : Option Replied) (new : Lanes) (s : ServerFrame) → IsHeard asked welcomed p w answer s
+      → told ≡ replied_of answer → ((t : ServerFrame) → Answers t w answer → IsForgotten t w new) → IsSettled n m p told w new s
+  settled n m a b answer told new s h tells forgotten = record {
     turn = turned welcomed m s b h.turn;
-    replies = h.replies;
+    told = tells_replied s w answer told tells h.replies;
     due = h.due;
     sent = h.sent;
     is = h.is;
+    forgotten = forgotten s h.replies;
     may = λ v d. h.may v (hears asked welcomed n m w v a b d);
   }
-
-pub settled : (asked count : ℕ) (p : List ℕ) (answer : Option (Lane × Replied)) (told : Option Replied) (old new : Lanes) (s : ServerFrame) → IsExpected asked count p old answer s
-    → told ≡ replied_of answer → ((t : ServerFrame) → Answers t old answer → IsForgotten t old new) → IsSettled asked count p told old new s
-settled asked count p answer told old new s x tells forgotten = record {
-  turn = x.turn;
-  told = tells_replied s old answer told tells x.replies;
-  due = x.due;
-  sent = x.sent;
-  is = x.is;
-  forgotten = forgotten s x.replies;
-  may = x.may;
-}

@@ -9,7 +9,7 @@ use Rattle.zk_talk.specs.{Payloads.client_payload, Payloads.server_payload, Spli
 use Rattle.zk_answers.specs.Frames as answers
 use Rattle.zk_asks.proofs.{First.first_injective, Later.ask_injective}
 use Rattle.zk_answers.proofs.{Connected.connected_injective, Replies.reply_injective, Events.event_injective}
-use Rattle.zk_talk.proofs.Payloads.{asks_alike, answers_alike, reply_head_is, reply_no_event, event_head_is, same_head}
+use Rattle.zk_talk.proofs.Payloads.{asks_alike, answers_alike, reply_head_is, reply_no_event, event_head_is, xid_of}
 use Rattle.zk_waiting.specs.{declared.lane.Lane.Lane, Lane.lane_of, Lane.same_lane}
 use Rattle.zk_waiting.specs.declared.lane.Lane.TheVariants.{Ping, Auth, Watches, Plain}
 use Rattle.zk_talk.specs.Conversation.{is_ask_on, asks_on, replies_on, ClientMay, ServerMay, IsAnswered}
@@ -92,13 +92,13 @@ pub reply_xid : (r q : Reply) → answers.IsSent (Answered r) → answers.IsSent
 reply_xid r q a b e =
     let h = reply_head_is (server_payload (Answered q)) r a e in
     let k = reply_head_is (server_payload (Answered q)) q b refl in
-    sym h.xid_is ∙ ap (λ z. z.xid) (same_head (server_payload (Answered q)) h.header k.header h.rest k.rest h.is k.is) ∙ k.xid_is
+    xid_of (server_payload (Answered q)) r.xid k.header k.rest h k.is ∙ k.xid_is
 
 reply_or_event : (r : Reply) (s : ServerFrame) → answers.IsSent (Answered r) → IsEvent s → answers.IsSent s → server_payload (Answered r) ≡ server_payload s → ⊥
 reply_or_event r s a b c e =
     let h = reply_head_is (server_payload s) r a e in
     let k = event_head_is (server_payload s) s b c refl in
-    reply_no_event r a (sym h.xid_is ∙ ap (λ z. z.xid) (same_head (server_payload s) h.header k.header h.rest k.rest h.is k.is) ∙ k.xid_is)
+    reply_no_event r a (xid_of (server_payload s) r.xid k.header k.rest h k.is ∙ k.xid_is)
 
 pub server_inj : (client : List ClientFrame) (before : List ServerFrame) (x y : ServerFrame) → ServerMay client before x → ServerMay client before y → server_payload x ≡ server_payload y → x ≡ y
 server_inj client [] (Connected s f) (Connected t g) p q e = connected_injective (Connected s f) (Connected t g) tt tt p.0 q.0 (answers_alike (Connected s f) (Connected t g) e)

@@ -14,6 +14,7 @@ use Rattle.zk_talk.specs.{Payloads.client_payload, Payloads.server_payload, decl
 use Rattle.zk_frames.proofs.Cuts.{length-frame}
 use Rattle.zk_talk.specs.declared.message.Side.TheVariants.{Client, Server}
 use Rattle.zk_talk.specs.declared.message.MessageOf.TheVariants.{Client as FromClient, Server as FromServer}
+use Rattle.zk_talk.specs.Settled.{IsTurnAfter}
 use Rattle.zk_talk.specs.Viewed.{Shows, ShowsClient, ShowsServer, IsShownAs}
 use Rattle.zk_talk.proofs.Bodies.{frame_once}
 
@@ -35,13 +36,12 @@ fits_its_own : (o : Outcome) → (op : Op) (parts : List _) → answers.OutcomeF
 fits_its_own (outcome.Done b) op parts fits = (refl, fits.1)
 fits_its_own (outcome.Failed o e) op parts fits = refl
 
-kind_of : (n : ℕ) (s : ServerFrame) (w : Lanes) (told : Option Replied) → TellsReplied s w told → IsDue s w → (n ≡ 0 → answers.IsConnected s) × ((n ≡ 0 → ⊥) → answers.IsConnected s → ⊥) → IsShownAs (n + 1) told s
+kind_of : (n : ℕ) (s : ServerFrame) (w : Lanes) (told : Option Replied) → TellsReplied s w told → IsDue s w → IsTurnAfter n s → IsShownAs (n + 1) told s
 kind_of n (Connected hello read_only) w told tells due turn = subst (λ o. IsShownAs (n + 1) o (Connected hello read_only)) (sym tells) ((λ e. tt), (λ not. absurd (turn.1 (λ e. not (one_more n e)) tt)))
 kind_of n (Answered reply) w told tells due turn = subst (λ o. IsShownAs (n + 1) o (Answered reply)) (sym tells.2) (due.0.parts, fits_its_own reply.outcome due.0.op due.0.parts due.2)
 kind_of n (Event zxid event) w told tells due turn = subst (λ o. IsShownAs (n + 1) o (Event zxid event)) (sym tells) ((λ e. absurd (turn.0 (one_less n e))), (λ not. tt))
 
-pub server_shown : (n : ℕ) (kept : List ℕ) (s : ServerFrame) (w : Lanes) (told : Option Replied) → TellsReplied s w told → IsDue s w → (n ≡ 0 → answers.IsConnected s) × ((n ≡ 0 → ⊥) → answers.IsConnected s → ⊥) → answers.IsSent s
-    → kept ≡ frame (server_payload s) → ShowsServer (n + 1) told kept s
+pub server_shown : (n : ℕ) (kept : List ℕ) (s : ServerFrame) (w : Lanes) (told : Option Replied) → TellsReplied s w told → IsDue s w → IsTurnAfter n s → answers.IsSent s → kept ≡ frame (server_payload s) → ShowsServer (n + 1) told kept s
 server_shown n kept s w told tells due turn sent is = record { kind = kind_of n s w told tells due turn; sent = sent; is = is }
 
 -- ---- what the payload of a kept frame is

@@ -56,6 +56,10 @@ Answers (Event zxid event) w answer = answer ≡ None
 abbrev pub IsTurn : Bool → ServerFrame → Type 0
 IsTurn welcomed s = MatchBool welcomed (answers.IsConnected s → ⊥) (answers.IsConnected s)
 
+-- the same, after `count` frames of the server
+abbrev pub IsTurnAfter : ℕ → ServerFrame → Type 0
+IsTurnAfter count s = (count ≡ 0 → answers.IsConnected s) × ((count ≡ 0 → ⊥) → answers.IsConnected s → ⊥)
+
 -- the server's frame with this payload may come now, whatever was heard, and replies to this, or to nothing
 pub record IsHeard (asked welcomed : Bool) (p : List ℕ) (waiting : Lanes) (answer : Option (Lane × Replied)) (s : ServerFrame) : Type 0 where
   pub turn : IsTurn welcomed s
@@ -65,19 +69,10 @@ pub record IsHeard (asked welcomed : Bool) (p : List ℕ) (waiting : Lanes) (ans
   pub is : server_payload s ≡ p
   pub may : (v : Conversation) → Heard asked welcomed waiting v → ServerMay v.client v.server s
 
--- the same, after `asked` frames of the client and `count` of the server
-pub record IsExpected (asked count : ℕ) (p : List ℕ) (waiting : Lanes) (answer : Option (Lane × Replied)) (s : ServerFrame) : Type 0 where
-  pub turn : (count ≡ 0 → answers.IsConnected s) × ((count ≡ 0 → ⊥) → answers.IsConnected s → ⊥)
-  pub replies : Answers s waiting answer
-  pub due : IsDue s waiting
-  pub sent : answers.IsSent s
-  pub is : server_payload s ≡ p
-  pub may : (v : Conversation) → Describes asked count waiting v → ServerMay v.client v.server s
-
 -- the server's frame with this payload, after `asked` frames of the client and `count` of the server, may come now; it
 -- answers this request, which is dropped, or none
 pub record IsSettled (asked count : ℕ) (p : List ℕ) (answered : Option Replied) (old new : Lanes) (s : ServerFrame) : Type 0 where
-  pub turn : (count ≡ 0 → answers.IsConnected s) × ((count ≡ 0 → ⊥) → answers.IsConnected s → ⊥)
+  pub turn : IsTurnAfter count s
   pub told : TellsReplied s old answered
   pub due : IsDue s old
   pub sent : answers.IsSent s

@@ -73,7 +73,10 @@ pub fn client_frame(
 {
     let count = stream.count();
     let payload = stream.payload();
-    let asked = judge_client::<ItemFault>(profile, count, payload)?;
+    let asked = match judge_client::<ItemFault>(profile, count, payload) {
+        Ok(asked) => asked,
+        Err(item) => return Err(item),
+    };
     if !has_room(waiting, payload, asked) {
         return Err(ItemFault::at(0, Reason::QueueFull));
     }
@@ -133,7 +136,15 @@ pub fn server_frame(
 {
     let count = stream.count();
     let payload = stream.payload();
-    let answer = judge_server::<ItemFault>(has_spoken(asked), has_spoken(count), waiting, payload)?;
+    let answer = match judge_server::<ItemFault>(
+        has_spoken(asked),
+        has_spoken(count),
+        waiting,
+        payload,
+    ) {
+        Ok(answer) => answer,
+        Err(item) => return Err(item),
+    };
     let told = replied(answer);
     let seen = shown_server(count + 1, told, payload);
     match seen.own(alloc) {

@@ -11,7 +11,8 @@ use crate::talk::Talk;
 use std::alloc::{AllocError, Global};
 use zk_jute::Reason;
 
-fn keep(messages: &mut Vec<Message>, message: Option<Message>) -> Result<(), AllocError>
+// Over any type: a proof about one of many fields is longer.
+fn keep<M: Drop>(messages: &mut Vec<M>, message: Option<M>) -> Result<(), AllocError>
     ensures { OnOk result (messages.new.items ≡ messages.old.items ++ option_to_list message) }
 {
     if let Some(message) = message {

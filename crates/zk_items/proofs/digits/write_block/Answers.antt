@@ -1,5 +1,5 @@
 use Rattle.std.proofs.Common.{◌≡◌, ◌*◌, ◌++◌, List, ℕ, ap, ◌∙◌, take, drop, length, length-drop, arith}
-use Rattle.std.proofs.{lemmas.List.length-take-le, lemmas.Simd.take_more_put_chunk, lemmas.Simd.length-put_chunk}
+use Rattle.std.proofs.{lemmas.List.length-take-le, lemmas.Simd.take_more_put_chunk}
 use Rattle.hex.proofs.HexLemmas.{length-encode_with}
 use Rattle.hex.specs.Hex.{lower_digits}
 use Rattle.zk_items.proofs.digits.write_block.Goals as goal

@@ -1,4 +1,4 @@
-use Rattle.std.proofs.lemmas.List.{take-append-le, take-take}
+use Rattle.std.proofs.lemmas.List.{take-take}
 use Rattle.zk_items.proofs.escape.block_of.Goals as goal
 
 pub returns-then-bytes-ge16 : goal.returns-then-bytes-ge16

@@ -1,5 +1,5 @@
 use Rattle.std.proofs.Common.{arith}
-use Rattle.std.proofs.lemmas.Simd.{take_more_put_chunk, length-put_chunk}
+use Rattle.std.proofs.lemmas.Simd.{take_more_put_chunk}
 use Rattle.zk_items.proofs.escape.lay.Goals as goal
 
 pub returns-clause-written : goal.returns-clause-written

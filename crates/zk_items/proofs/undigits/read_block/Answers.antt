@@ -1,12 +1,13 @@
-use Rattle.std.proofs.Common.{◌≡◌, ◌*◌, ◌++◌, List, ℕ, ap, ◌∙◌, take, drop, length, length-drop, arith}
-use Rattle.std.proofs.{lemmas.List.length-take-le, lemmas.Simd.take_more_put_chunk, lemmas.Simd.length-put_chunk}
+use Rattle.std.proofs.Common.{◌≡◌, ◌*◌, ◌++◌, List, ℕ, true, ap, ◌∙◌, take, drop, length, length-drop, arith}
+use Rattle.std.proofs.{lemmas.List.length-take-le, lemmas.Simd.take_more_put_chunk}
 use Rattle.hex.proofs.HexLemmas.{length-encode_with}
 use Rattle.hex.specs.Hex.{lower_digits, encode_lower}
-use Rattle.zk_items.proofs.{Joined.hex_take, Joined.hex_drop, Lanes.encoded-append}
+use Rattle.zk_items.specs.Leaf.{in_hex}
+use Rattle.zk_items.proofs.{Joined.hex_drop, Lanes.encoded-append, Runs.all_front}
 use Rattle.zk_items.proofs.undigits.read_block.Goals as goal
 
 pub joined-requires : goal.joined-requires
-joined-requires c = hex_take 32 (drop (2 * c.args.at) c.args.digits.now) (hex_drop (2 * c.args.at) c.args.digits.now c.requires.hex)
+joined-requires c = all_front (λ c. in_hex c ≡ true) 32 (drop (2 * c.args.at) c.args.digits.now) (hex_drop (2 * c.args.at) c.args.digits.now c.requires.hex)
 
 pub returns-clause-read : goal.returns-clause-read
 returns-clause-read c =

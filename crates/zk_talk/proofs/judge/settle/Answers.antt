@@ -1,6 +1,6 @@
 use Rattle.std.proofs.lemmas.Result.{err_from_is_err_and}
 use Rattle.zk_jute.proofs.Judged.{says_more}
-use Rattle.zk_talk.proofs.{Hearing.hears, Judging.due_waits, Settling.expected, Settling.settled}
+use Rattle.zk_talk.proofs.{Hearing.hears, Judging.due_waits, Settling.settled}
 use Rattle.zk_talk.proofs.judge.settle.Goals as goal
 
 pub returns-in_err-answer-clause-fault : goal.returns-in_err-answer-clause-fault
@@ -15,6 +15,4 @@ forget_asked-requires g c = let k = c.in_ok-answer.ensures.found in (k.0, k.1.re
 pub returns-clause-found : goal.returns-clause-found
 returns-clause-found g c =
     let k = c.in_ok-answer.ensures.found in
-    let answer = c.in_ok-answer.answer in
-    let next = expected c.has_spoken.result c.has_spoken-2.result c.args.payload.now c.args.waiting.now c.args.asked c.args.count c.has_spoken.ensures c.has_spoken-2.ensures answer k.0 k.1 in
-    (k.0, settled c.args.asked c.args.count c.args.payload.now answer c.replied-told.result c.args.waiting.now c.forget_asked.new.waiting k.0 next c.replied-told.ensures c.forget_asked.ensures.forgotten)
+    (k.0, settled c.has_spoken.result c.has_spoken-2.result c.args.payload.now c.args.waiting.now c.args.asked c.args.count c.has_spoken.ensures c.has_spoken-2.ensures c.in_ok-answer.answer c.replied-told.result c.forget_asked.new.waiting k.0 k.1 c.replied-told.ensures c.forget_asked.ensures.forgotten)

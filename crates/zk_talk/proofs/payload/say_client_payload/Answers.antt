@@ -1,8 +1,8 @@
 use Rattle.std.proofs.Common.{◌≤◌, ◌<◌, length, arith, subst, inr}
-use Rattle.std.proofs.lemmas.Bool.{true_from_ne_false}
+use Rattle.std.proofs.lemmas.Bool.{both_ways, true_from_ne_false}
 use Rattle.zk_records.specs.declared.profile.Profile.{Profile}
 use Rattle.zk_talk.specs.Judged.{IsInTurn, IsTurnFault, HasRoomFor}
-use Rattle.zk_talk.proofs.SayingPayloads.{client_payload_said, client_payload_stands, client_payload_long, client_payload_full, client_payload_item, not_true, spoken_frames}
+use Rattle.zk_talk.proofs.SayingPayloads.{client_payload_said, client_payload_stands, client_payload_long, client_payload_full, client_payload_item, spoken_frames}
 use Rattle.zk_talk.proofs.payload.say_client_payload.Goals as goal
 
 pub returns-in-Err-clause-err : goal.returns-in-Err-clause-err
@@ -27,7 +27,7 @@ returns-then-not-has_room-clause-err c =
     let k = c.in-Ok.ensures.found in
     let turn = subst (λ (z : Profile). IsInTurn z n k.0) c.profile.ensures k.1.turn in
     let small : length c.args.payload.now ≤ c.args.limits.client = omega (arith, c.if-payload-client.false, c.client.ensures) in
-    let none : HasRoomFor k.0 c.args.waiting.now → ⊥ = λ room. not_true c.has_room.result (cc) ((c.has_room.ensures k.0 (k.1.asks, k.1.sent, k.1.is)).1 room) in
+    let none : HasRoomFor k.0 c.args.waiting.now → ⊥ = λ room. both_ways c.has_room.result (cc) ((c.has_room.ensures k.0 (k.1.asks, k.1.sent, k.1.is)).1 room) in
     inr (client_payload_full c.args.limits c.args.asked n (spoken_frames c.args.asked n c.from-count.ensures) c.args.waiting.now c.args.payload.now k.0 turn k.1.sent k.1.is c.requires.room small none)
 
 pub returns-in_default-clause-lacks : goal.returns-in_default-clause-lacks

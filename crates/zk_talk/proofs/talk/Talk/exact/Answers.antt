@@ -1,18 +1,17 @@
-use Rattle.std.proofs.Common.{◌≡◌, refl, ◌∙◌, [], drop, sym, ap, subst, arith}
+use Rattle.std.proofs.Common.{refl, ◌∙◌, drop, sym, ap, subst, arith}
 use Rattle.std.proofs.lemmas.Result.{err_from_is_err_and}
-use Rattle.zk_talk.specs.{contracts.talk.Talk.the_view, Stands.TalkState, Stands.kept_on, Streams.StreamState, Describes.Describes, Judged.IsNextClient, Judged.IsNextServer}
+use Rattle.zk_talk.specs.{contracts.talk.Talk.the_view, Stands.TalkState, Streams.StreamState, Describes.Describes, Judged.IsNextClient, Judged.IsNextServer}
 use Rattle.zk_talk.specs.declared.message.Side.TheVariants.{Client, Server}
 use Rattle.zk_talk.specs.declared.message.MessageOf.TheVariants.{Client as FromClient, Server as FromServer}
-use Rattle.zk_talk.proofs.Answering.{received, goes, keeps, bad, stops}
+use Rattle.zk_talk.proofs.Answering.{none_kept, received, goes, keeps, bad, stops}
 use Rattle.zk_talk.proofs.talk.Talk.exact.Goals as goal
 
 pub returns-in_default-clause-ok : goal.returns-in_default-clause-ok
 returns-in_default-clause-ok c =
     let T = the_view c.self.inside in
     let r = received c.args.side _ _ _ _ _ c.in_default.is c.in_ok-used-in-Client.ensures.received in
-    let none : T.client_kept ≡ [] = ap (λ (z : TalkState). z.client_kept) c.self.view_is ∙ subst (λ side. kept_on side c.args.self.now ≡ []) c.in-Client.is c.requires.given_up in
     let more = goes Client T c.args.piece.now (record c.self.inside.client { held = r.0.held }) c.receive.new.stream c.self.invariant.0.same refl r.0.advance r.0.is in
-    rw (c.in-Client.is, ← c.self.view_is, r.1) (ap (λ (z : TalkState). z.fault) c.self.view_is ∙ c.requires.good, (omega arith, (λ l. l), (more, ap (λ (z : StreamState). z.kept) r.0.is ∙ none)))
+    rw (c.in-Client.is, ← c.self.view_is, r.1) (ap (λ (z : TalkState). z.fault) c.self.view_is ∙ c.requires.good, (omega arith, (λ l. l), (more, ap (λ (z : StreamState). z.kept) r.0.is ∙ (none_kept c.self.view_is c.in-Client.is c.requires.given_up))))
 
 pub returns-in-Ok-clause-ok : goal.returns-in-Ok-clause-ok
 returns-in-Ok-clause-ok c =
@@ -43,9 +42,8 @@ pub returns-in_default-2-clause-ok : goal.returns-in_default-2-clause-ok
 returns-in_default-2-clause-ok c =
     let T = the_view c.self.inside in
     let r = received c.args.side _ _ _ _ _ c.in_default-2.is c.in_ok-used-in-Server.ensures.received in
-    let none : T.server_kept ≡ [] = ap (λ (z : TalkState). z.server_kept) c.self.view_is ∙ subst (λ side. kept_on side c.args.self.now ≡ []) c.in-Server.is c.requires.given_up in
     let more = goes Server T c.args.piece.now (record c.self.inside.server { held = r.0.held }) c.receive-in-Server.new.stream c.self.invariant.1.same refl r.0.advance r.0.is in
-    rw (c.in-Server.is, ← c.self.view_is, r.1) (ap (λ (z : TalkState). z.fault) c.self.view_is ∙ c.requires.good, (omega arith, (λ l. l), (more, ap (λ (z : StreamState). z.kept) r.0.is ∙ none)))
+    rw (c.in-Server.is, ← c.self.view_is, r.1) (ap (λ (z : TalkState). z.fault) c.self.view_is ∙ c.requires.good, (omega arith, (λ l. l), (more, ap (λ (z : StreamState). z.kept) r.0.is ∙ (none_kept c.self.view_is c.in-Server.is c.requires.given_up))))
 
 pub returns-in-Ok-keep_server-clause-ok : goal.returns-in-Ok-keep_server-clause-ok
 returns-in-Ok-keep_server-clause-ok c =

@@ -1,10 +1,10 @@
-use Rattle.std.proofs.Common.{◌≡◌, ◌≤◌, ℕ, List, [], ap, ◌∙◌, drop, refl, subst, take, arith}
+use Rattle.std.proofs.Common.{◌≡◌, ◌≤◌, ℕ, List, drop, refl, subst, take, arith}
 use Rattle.std.proofs.lemmas.List.{length-take-le}
-use Rattle.zk_talk.specs.{contracts.talk.Talk.the_view, Stands.TalkState, Stands.kept_on, declared.stream.Advance.TheVariants.Whole, Advance.IsAdvance, Streams.StreamState, Streams.IsAtFrame, Streams.held_in}
+use Rattle.zk_talk.specs.{contracts.talk.Talk.the_view, declared.stream.Advance.TheVariants.Whole, Advance.IsAdvance, Streams.StreamState, Streams.IsAtFrame, Streams.held_in}
 use Rattle.zk_talk.specs.declared.message.Side.TheVariants.{Client, Server}
 use Rattle.zk_talk.specs.declared.message.MessageOf.TheVariants.{Client as FromClient, Server as FromServer}
 use Rattle.zk_talk.specs.Judged.{IsNextClient, IsNextServer}
-use Rattle.zk_talk.proofs.{Answering.makes, Seen.payload_small, Seen.client_passes, Seen.server_passes}
+use Rattle.zk_talk.proofs.{Answering.makes, Answering.none_kept, Seen.payload_small, Seen.client_passes, Seen.server_passes}
 use Rattle.zk_talk.proofs.talk.Talk.pass_whole.Goals as goal
 
 -- a side to which the frame at the front of a piece is lent
@@ -28,8 +28,7 @@ returns-in-Ok-clause-some c =
     let f = client_passes s used c.count-count.result whole c.carried.result.now c.carried.ensures c.count-count.ensures T.waiting c.profile.result c.await_ask.new.waiting k in
     let a = c.in_ok-used-in-Client.ensures.1 in
     let next = subst (λ z. IsNextClient z s.count T.waiting (drop 4 s.held) k.0) c.profile.ensures f.0 in
-    let none : T.client_kept ≡ [] = ap (λ (z : TalkState). z.client_kept) c.self.view_is ∙ subst (λ side. kept_on side c.args.self.now ≡ []) c.in-Client.is c.requires.given_up in
-    rw (c.in-Client.is, ← c.self.view_is) (FromClient k.0, (a.1, (λ l. a.0), makes Client T c.args.piece.now s c.pass_whole.new.self c.self.invariant.0.same refl used a c.self.invariant.2 (FromClient k.0) c.await_ask.new.waiting (next, f.1) none c.pass_whole.ensures))
+    rw (c.in-Client.is, ← c.self.view_is) (FromClient k.0, (a.1, (λ l. a.0), makes Client T c.args.piece.now s c.pass_whole.new.self c.self.invariant.0.same refl used a c.self.invariant.2 (FromClient k.0) c.await_ask.new.waiting (next, f.1) (none_kept c.self.view_is c.in-Client.is c.requires.given_up) c.pass_whole.ensures))
 
 pub returns-in-Ok-settle-clause-some : goal.returns-in-Ok-settle-clause-some
 returns-in-Ok-settle-clause-some c =
@@ -41,5 +40,4 @@ returns-in-Ok-settle-clause-some c =
     let f = server_passes s used c.count-frames.result whole c.carried-in-Server.result.now c.carried-in-Server.ensures c.count-frames.ensures T.waiting c.count.result _ c.settle.new.waiting k in
     let a = c.in_ok-used-in-Server.ensures.1 in
     let next = subst (λ z. IsNextServer z s.count T.waiting (drop 4 s.held) k.0) c.count.ensures f.0 in
-    let none : T.server_kept ≡ [] = ap (λ (z : TalkState). z.server_kept) c.self.view_is ∙ subst (λ side. kept_on side c.args.self.now ≡ []) c.in-Server.is c.requires.given_up in
-    rw (c.in-Server.is, ← c.self.view_is) (FromServer k.0, (a.1, (λ l. a.0), makes Server T c.args.piece.now s c.pass_whole-in-Ok-settle.new.self c.self.invariant.1.same refl used a c.self.invariant.2 (FromServer k.0) c.settle.new.waiting (next, f.1) none c.pass_whole-in-Ok-settle.ensures))
+    rw (c.in-Server.is, ← c.self.view_is) (FromServer k.0, (a.1, (λ l. a.0), makes Server T c.args.piece.now s c.pass_whole-in-Ok-settle.new.self c.self.invariant.1.same refl used a c.self.invariant.2 (FromServer k.0) c.settle.new.waiting (next, f.1) (none_kept c.self.view_is c.in-Server.is c.requires.given_up) c.pass_whole-in-Ok-settle.ensures))
