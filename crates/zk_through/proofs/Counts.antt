@@ -2,9 +2,9 @@
 use Rattle.std.proofs.Common.{◌≡◌, ◌≢◌, ℕ, ◌+◌, ◌-◌, ◌≤◌, ℤ, List, [], ◌∷◌, ◌++◌, length, filter, refl, ap, ◌∙◌, arith, append_assoc, length-append, Bool, true, false, cond}
 use Rattle.std.specs.Prelude.{negsuc, if◌then◌else◌}
 use Rattle.std.specs.Ordering.{int_eq}
-use Rattle.std.proofs.{lemmas.Bool.le-leb, lemmas.Bool.Decides.Decides-int_eq, lemmas.List.length-drop, lemmas.List.Elements.filter-append, lemmas.List.Sums.sum_by-cons}
+use Rattle.std.proofs.{lemmas.Bool.le-leb, lemmas.Bool.Decides.Decides-int_eq, lemmas.List.length-drop, lemmas.List.Elements.filter-append}
 use Rattle.zk_jute.specs.Item.{int_bytes, long_bytes}
-use Rattle.zk_jute.proofs.Runs.{first_from}
+use Rattle.zk_jute.proofs.{Numbers.len32, Numbers.len64, Runs.first_from}
 use Rattle.zk_asks.specs.{Held.ClientFrame, Frames.IsLater}
 use Rattle.zk_asks.specs.declared.frame.ClientFrameOf.TheVariants.{Connect, Ask}
 use Rattle.zk_answers.specs.Held.{Reply, ServerFrame}
@@ -12,7 +12,8 @@ use Rattle.zk_answers.specs.declared.frame.ServerFrameOf.TheVariants.{Connected,
 use Rattle.zk_answers.specs.Frames as answers
 use Rattle.zk_waiting.specs.{declared.lane.Lane.Lane, Lane.lane_of, Lane.same_lane}
 use Rattle.zk_waiting.specs.declared.lane.Lane.TheVariants.{Ping, Auth, Watches, Plain}
-use Rattle.zk_waiting.specs.Waiting.{Request, Lanes, queue_on, request_weight, queue_weight, weight_of, count_of}
+use Rattle.zk_waiting.specs.Waiting.{Lanes, queue_on, weight_of, count_of}
+use Rattle.zk_waiting.proofs.Weights.{length_within_weight}
 use Rattle.zk_talk.specs.{Splits.EachAfter, Payloads.server_payload, Queues.IsQueue}
 use Rattle.zk_talk.specs.Conversation.{Conversation, ServerMay, is_ask_on, is_reply_on, asks_on, replies_on}
 use Rattle.zk_talk.proofs.{Loads.replies_in_asks, Payloads.reply_head_is, Queues.requests-length, Turns.count_cons}
@@ -27,12 +28,6 @@ not_event xid other = go (int_eq xid (negsuc 0)) refl
     go true e = absurd (other ((Decides-int_eq xid (negsuc 0)).0 e))
     go false e = refl
 
-int_long : (z : ℤ) → length (int_bytes z) ≡ 4
-int_long z = refl
-
-long_long : (z : ℤ) → length (long_bytes z) ≡ 8
-long_long z = refl
-
 pub reply_has_turn : (r : Reply) (q : List ℕ) → answers.IsSent (Answered r) → server_payload (Answered r) ≡ q → has_turn 16 q ≡ true
 unfolding has_turn
 reply_has_turn r q sent is =
@@ -42,7 +37,7 @@ reply_has_turn r q sent is =
     let parts : q ≡ int_bytes x.xid ++ (more ++ head.rest) = head.is.1 ∙ append_assoc (int_bytes x.xid) more head.rest in
     let xid : xid_of q ≡ r.xid = first_from x.xid q (more ++ head.rest) head.is.0.0 parts ∙ head.xid_is in
     let long : 16 ≤ length q =
-    omega (arith, ap length parts, length-append (int_bytes x.xid) (more ++ head.rest), length-append more head.rest, length-append (long_bytes x.zxid) (int_bytes x.err ++ []), length-append (int_bytes x.err) [], int_long x.xid, long_long x.zxid, int_long x.err) in
+    omega (arith, ap length parts, length-append (int_bytes x.xid) (more ++ head.rest), length-append more head.rest, length-append (long_bytes x.zxid) (int_bytes x.err ++ []), length-append (int_bytes x.err) [], len32 x.xid, len64 x.zxid, len32 x.err) in
     ap (λ z. if z then is_turn_xid (xid_of q) else false) (le-leb 16 (length q) long) ∙ ap is_turn_xid xid ∙ not_event r.xid sent.0
 
 -- ---- Each lane's
@@ -108,11 +103,5 @@ module _ (v u : Conversation) (w x : Lanes) (q : (lane : Lane) → IsQueue lane 
         nothing (Event zxid event) none = refl
 
 -- ---- The number and the weight
-weighs_each : (rs : List Request) → length rs ≤ queue_weight rs
-weighs_each [] = omega arith
-weighs_each (r ∷ rs) =
-    let step : queue_weight (r ∷ rs) ≡ request_weight r + queue_weight rs = sum_by-cons request_weight r rs in
-    omega (arith, step, weighs_each rs)
-
 pub count_weighs : (w : Lanes) → count_of w ≤ weight_of w
-count_weighs w = omega (arith, weighs_each w.ping, weighs_each w.auth, weighs_each w.watches, weighs_each w.plain)
+count_weighs w = omega (arith, length_within_weight w.ping, length_within_weight w.auth, length_within_weight w.watches, length_within_weight w.plain)

@@ -86,15 +86,14 @@ pub given_waits : (side : Side) (old : ThroughState) → KeepsWaiting old (given
 given_waits Client old = (refl, λ h M stands. inl stands)
 given_waits Server old = (refl, λ h M stands. inl stands)
 
-some_none : (f : Fault) → Some f ≡ None → ⊥
-some_none f e = cc
-
-pub fault_stays : (side : Side) (t : ThroughState) → t.fault ≡ (given_up side t).fault
+fault_stays : (side : Side) (t : ThroughState) → t.fault ≡ (given_up side t).fault
 fault_stays Client t = refl
 fault_stays Server t = refl
 
-pub kept_refused : (side : Side) (old : ThroughState) (piece : List ℕ) (f : Fault) → old.fault ≡ Some f → IsRefused old side piece f (given_up side old)
-kept_refused side old piece f e = (sym (fault_stays side old) ∙ e, λ h c k M r. absurd (some_none f (sym e ∙ r.no_fault)))
+pub kept_refused : (side : Side) (old given : ThroughState) → given ≡ given_up side old → (piece : List ℕ) (f : Fault) → given.fault ≡ Some f → IsRefused old side piece f given
+kept_refused side old given gave piece f e =
+    let kept : old.fault ≡ Some f = fault_stays side old ∙ ap (λ (t : ThroughState). t.fault) (sym gave) ∙ e in
+    (e, λ h c k M r. absurd (cc (r.no_fault)))
 
 -- what a side's step did, after what was left out on the side was given up
 module _ (side own : Side) (at : side ≡ own) (old given new : ThroughState) (gave : given ≡ given_up side old) (piece : List ℕ) where

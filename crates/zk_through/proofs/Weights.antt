@@ -1,5 +1,5 @@
 -- What a request weighs.
-use Rattle.std.proofs.Common.{Result, Ok, Err, ◌≡◌, ℕ, ◌+◌, ◌<◌, ◌≤◌, ℤ, List, length, refl, sym, ap, ◌∙◌, subst, arith}
+use Rattle.std.proofs.Common.{◌≡◌, ℕ, ◌+◌, ◌<◌, ◌≤◌, ℤ, List, length, sym, ap, ◌∙◌, subst, arith}
 use Rattle.zk_records.specs.declared.profile.Profile.{Profile}
 use Rattle.zk_asks.specs.{Held.Ask as Asked, Held.ClientFrame, Frames.IsLater, Frames.IsSent, Frames.IsOfProfile, Frames.ops_of_ask}
 use Rattle.zk_asks.specs.declared.frame.ClientFrameOf.TheVariants.{Connect, Ask}
@@ -7,20 +7,12 @@ use Rattle.zk_asks.specs.Frames as asks
 use Rattle.zk_frames.specs.Framing.{frame, IsFrame}
 use Rattle.zk_frames.proofs.Cuts.{length-frame}
 use Rattle.zk_talk.specs.{Conversation.weight, Payloads.client_payload, Streams.StreamState}
-use Rattle.zk_talk.proofs.{Payloads.few_parts, Bodies.frame_once}
+use Rattle.zk_talk.proofs.{Payloads.asks_are, Payloads.client_is, Payloads.few_parts, Bodies.frame_once}
 use Rattle.zk_through.specs.Runs.{IsWeightOf, IsWeighed}
-
-payload_of : (f : ClientFrame) → client_payload f ≡ asks.payload f
-unfolding client_payload
-payload_of f = refl
-
-payload_is : (xid : ℤ) (ask : Asked) → client_payload (Ask xid ask) ≡ asks.payload (Ask xid ask)
-unfolding client_payload
-payload_is xid ask = refl
 
 module _ (s : StreamState) (payload : List ℕ) (f : ClientFrame) (xid : ℤ) (ask : Asked) (form : f ≡ Ask xid ask) (is : s.held ≡ frame payload) (lies : payload ≡ asks.payload f) where
   its_payload : payload ≡ client_payload (Ask xid ask)
-  its_payload = lies ∙ ap asks.payload form ∙ sym (payload_is xid ask)
+  its_payload = sym (client_is f payload lies) ∙ ap client_payload form
 
   pub are_few : s.limit ≤ 16777216 → IsFrame s.limit s.held → length (ops_of_ask ask) < 4294967296
   are_few small whole = omega (arith, small, few_parts xid ask, ap length its_payload, ap length is, ap length whole.1, whole.2, length-frame payload, length-frame whole.0)
@@ -30,7 +22,7 @@ module _ (s : StreamState) (payload : List ℕ) (f : ClientFrame) (xid : ℤ) (a
   weighs_so profile w some of sent e one = record {
     found = λ more. (some, λ p at. (Ask xid ask, tt, subst IsSent form sent, subst (IsOfProfile profile) form of, sym its_payload ∙ frame_once payload p (sym is ∙ at), e));
     only = λ begun p n at q.
-        let same = one q.0 q.1 q.3 q.2 (frame_once payload p (sym is ∙ at) ∙ sym q.4 ∙ payload_of q.0) in
+        let same = one q.0 q.1 q.3 q.2 (frame_once payload p (sym is ∙ at) ∙ sym (asks_are q.0 p q.4)) in
         q.5 ∙ ap weight (sym same ∙ form) ∙ sym e;
   }
 
@@ -59,11 +51,5 @@ pub none_weighs : (profile : Profile) (s : StreamState) (payload : List ℕ) →
     ((g : ClientFrame) → IsLater g → IsOfProfile profile g → IsSent g → payload ≡ asks.payload g → ⊥) → IsWeightOf profile s 0
 none_weighs profile s payload is none = record {
   found = λ more. absurd (omega (arith, more));
-  only = λ begun p n at q. absurd (none q.0 q.1 q.3 q.2 (frame_once payload p (sym is ∙ at) ∙ sym q.4 ∙ payload_of q.0));
+  only = λ begun p n at q. absurd (none q.0 q.1 q.3 q.2 (frame_once payload p (sym is ∙ at) ∙ sym (asks_are q.0 p q.4)));
 }
-
-pub same_ok : {X E : Type 0} (a b : X) (r : Result X E) → r ≡ Ok a → r ≡ Ok b → a ≡ b
-same_ok a b r e f = cc
-
-pub not_ok : {X E : Type 0} (a : X) (b : E) (r : Result X E) → r ≡ Err b → r ≡ Ok a → ⊥
-not_ok a b r e f = cc

@@ -1,7 +1,7 @@
 use Rattle.std.proofs.Common.{subst, ◌≡◌, ◌∙◌, ◌+◌, ap, arith, length}
 use Rattle.zk_asks.specs.Frames.{IsLater, ops_of_ask}
 use Rattle.zk_through.proofs.Carried.{if_none}
-use Rattle.zk_through.proofs.Weights.{are_few, small_payload, payload_weighs, weighs_itself, weighs_so, first_weighs, none_weighs, same_ok, not_ok}
+use Rattle.zk_through.proofs.Weights.{are_few, small_payload, payload_weighs, weighs_itself, weighs_so, first_weighs, none_weighs}
 use Rattle.zk_through.proofs.ahead.weight.Goals as goal
 
 pub overflow_add-most : goal.overflow_add-most
@@ -18,13 +18,13 @@ returns-in-Ok-Ask-clause-ask c =
     let found = c.in-Ok-Ask.ensures.found in
     let parts : 1 + c.from.result ≡ 1 + length (ops_of_ask c.in-Ok-Ask.ask) = ap (λ z. 1 + z) (c.from.ensures ∙ c.parts.ensures ∙ ap (λ z. length (ops_of_ask z)) c.of.ensures) in
     let exact = weighs_so c.args.client.now c.payload-payload.result.now c.in-Ok-Ask.field-0 _ c.in-Ok-Ask.ask c.in-Ok-Ask.field-0-is c.payload-payload.ensures found.3 c.args.profile (1 + c.from.result) (omega (arith, c.count.ensures, c.if-count-eq0.false)) found.1 found.2 parts
-    (λ g later of sent lies. same_ok c.in-Ok-Ask.field-0 g c.borrow_ask.result c.in-Ok-Ask.is (c.borrow_ask.ensures.only g later of sent lies)) in
+    (λ g later of sent lies. cc (c.borrow_ask.ensures.only g later of sent lies)) in
     if_none c.args.out (weighs_itself c.args.profile c.args.client.now c.args.room (1 + c.from.result) exact)
 
 pub returns-in-Err-clause-ask : goal.returns-in-Err-clause-ask
 returns-in-Err-clause-ask c =
     let none = none_weighs c.args.profile c.args.client.now c.payload-payload.result.now c.payload-payload.ensures
-    (λ g later of sent lies. not_ok g c.in-Err.field-0 c.borrow_ask.result c.in-Err.is (c.borrow_ask.ensures.only g later of sent lies)) in
+    (λ g later of sent lies. cc (c.borrow_ask.ensures.only g later of sent lies)) in
     if_none c.args.out (weighs_itself c.args.profile c.args.client.now c.args.room 0 none)
 
 pub returns-in-Ok-Connect-clause-ask : goal.returns-in-Ok-Connect-clause-ask

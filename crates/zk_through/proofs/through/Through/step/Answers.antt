@@ -1,16 +1,12 @@
-use Rattle.std.proofs.Common.{◌≡◌, ◌∙◌, Some, sym, ap}
+use Rattle.std.proofs.Common.{◌∙◌, sym, ap}
 use Rattle.zk_talk.specs.declared.message.Side.TheVariants.{Client, Server}
-use Rattle.zk_through.specs.Runs.{ThroughState, given_up}
-use Rattle.zk_through.proofs.Given.{given_itself, given_waits, fault_stays, kept_refused, went_then, refused_then, room_then}
+use Rattle.zk_through.specs.Runs.{ThroughState}
+use Rattle.zk_through.proofs.Given.{given_itself, given_waits, kept_refused, went_then, refused_then, room_then}
 use Rattle.zk_through.proofs.Never.{never_full}
 use Rattle.zk_through.proofs.through.Through.step.Goals as goal
 
 pub returns-in-Some-clause-err : goal.returns-in-Some-clause-err
-returns-in-Some-clause-err c =
-    let old = c.args.self.now in
-    let f = c.in-Some.fault in
-    let kept : old.fault ≡ Some f = fault_stays c.args.side old ∙ ap (λ (t : ThroughState). t.fault) (sym c.give_up.ensures ∙ sym c.self.view_is) ∙ c.in-Some.is in
-    rw c.give_up.ensures (kept_refused c.args.side old c.args.piece.now f kept)
+returns-in-Some-clause-err c = kept_refused c.args.side c.args.self.now c.give_up.new.self c.give_up.ensures c.args.piece.now c.in-Some.fault (ap (λ (t : ThroughState). t.fault) (sym c.self.view_is) ∙ c.in-Some.is)
 
 pub returns-in-Some-clause-other : goal.returns-in-Some-clause-other
 returns-in-Some-clause-other c = rw c.give_up.ensures (given_itself c.args.side c.args.self.now)
@@ -35,10 +31,8 @@ returns-in-Server-clause-room c = room_then c.args.side Server c.in-Server.is c.
 
 pub returns-in-Some-clause-room : goal.returns-in-Some-clause-room
 returns-in-Some-clause-room c =
-    let old = c.args.self.now in
-    let f = c.in-Some.fault in
-    let kept : old.fault ≡ Some f = fault_stays c.args.side old ∙ ap (λ (t : ThroughState). t.fault) (sym c.give_up.ensures ∙ sym c.self.view_is) ∙ c.in-Some.is in
-    never_full c.args.side old c.args.piece.now f (given_up c.args.side old) (kept_refused c.args.side old c.args.piece.now f kept)
+    let refused = kept_refused c.args.side c.args.self.now c.give_up.new.self c.give_up.ensures c.args.piece.now c.in-Some.fault (ap (λ (t : ThroughState). t.fault) (sym c.self.view_is) ∙ c.in-Some.is) in
+    never_full c.args.side c.args.self.now c.args.piece.now c.in-Some.fault c.give_up.new.self refused
 
 pub returns-in-Some-clause-waits : goal.returns-in-Some-clause-waits
 returns-in-Some-clause-waits c = rw c.give_up.ensures (given_waits c.args.side c.args.self.now)
