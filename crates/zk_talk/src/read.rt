@@ -11,8 +11,7 @@ use crate::talk::Talk;
 use std::alloc::{AllocError, Global};
 use zk_jute::Reason;
 
-// Over any type: a proof about one of many fields is longer.
-fn keep<M: Drop>(messages: &mut Vec<M>, message: Option<M>) -> Result<(), AllocError>
+fn keep(messages: &mut Vec<Message>, message: Option<Message>) -> Result<(), AllocError>
     ensures { OnOk result (messages.new.items ≡ messages.old.items ++ option_to_list message) }
 {
     if let Some(message) = message {
