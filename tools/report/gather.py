@@ -33,10 +33,10 @@ class Operation:
     def ms(self, percent):
         """The latency that `percent` of a hundred replies didn't exceed; None if there are none."""
         found = self.latencies.percentile(percent)
-        return None if found is None else found / 1000
+        return None if found is None else listing.milliseconds(found)
 
     def longest(self):
-        return None if self.latencies.greatest is None else self.latencies.greatest / 1000
+        return None if self.latencies.greatest is None else listing.milliseconds(self.latencies.greatest)
 
     def merge(self, other):
         self.asked, self.answered = self.asked + other.asked, self.answered + other.answered
@@ -300,7 +300,7 @@ class Reading:
         if not hasattr(asked, "seen"):      # the request itself isn't there, or not chosen
             self.name(asked)
             self.name_parts(asked.parts, asked)
-        ms = None if microseconds is None else microseconds / 1000
+        ms = made.ms
         operation = connection.operations[made.op]
         operation.asked += 1
         operation.answered += 1

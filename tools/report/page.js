@@ -10,16 +10,16 @@ function placeOf(text) {
   const told = text.trim();
   if (!told) return null;
   if (!timed) return /^\d+$/.test(told) ? +told : NaN;
-  const day = dayOf(data.begun), late = /^(\d+) ms$/.exec(told);
-  if (late) return late[1] - data.begun;
+  const day = dayOf(data.begun), late = /^(?:about )?(\d+) ms$/.exec(told);
+  if (late) return since(late[1]);
   const full = /^\d\d:\d\d(:\d\d(\.\d+)?)?$/.test(told) ? `${day}T${told}Z` : told.replace(" ", "T").replace(/Z?$/, "Z");
-  const at = Date.parse(full) - data.begun;
+  const at = since(Date.parse(full));
   return /^\d\d:/.test(told) && at < -1 && at + 864e5 <= whole[1] ? at + 864e5 : at;
 }
 
 function placeText(x) {
   return !timed ? String(Math.round(x)) : dayOf(data.begun) === dayOf(data.ended) ? place(x)
-    : iso(data.begun + x).slice(0, 23);
+    : iso(timeAt(x)).replace(/Z$/, "");
 }
 
 // Takes the filters from the form; what isn't understood is marked, and has no effect.
@@ -88,7 +88,7 @@ function readHash() {
 
 function head() {
   document.getElementById("files").textContent = [visible(data.title),
-    timed ? `${iso(data.begun).replace("T", " ").replace("Z", "")} to ${timeOfDay(data.ended)} UTC, ${duration(data.ended - data.begun)}`
+    timed ? `${iso(data.begun).replace("T", " ").replace("Z", "")} to ${timeOfDay(data.ended)} UTC, ${duration(since(data.ended))}`
       : "no times",
     timed && data.counts.timed < data.counts.answered && `${count(data.counts.timed)} of ${count(data.counts.answered)} replies timed`]
     .filter(Boolean).join(" · ");

@@ -179,11 +179,14 @@ class Counts(ToolCase):
         for side, payload in ((b"C", struct.pack(">iqiqi", 0, 0, 9, 0, -1)), (b"S", struct.pack(">iiqi", 0, 9, 7, -1)),
                               (b"C", struct.pack(">ii", -2, 11)), (b"S", struct.pack(">iqi", -2, 5, 0))):
             frames.append((side, struct.pack(">i", len(payload)) + payload))
+        most = 2 ** 63 - 1
         for last, fractions, latencies in ((("0993", "0996", "0999", "1001"), None, (3, 2)),
+                                           (("0993", str(most), "0995", str(most - 1)), None,
+                                            (most - 9_007_199_254_740_993, most - 9_007_199_254_740_996)),
                                            (("0999", "0998", "0993", "0994"), None, (None, 1)),
                                            (("0993", "0995", "0995", "0999"), ("500", "001", "751", "250"),
                                             (1.501, 3.499))):
-            times = [f"900719925474{each}" for each in last]
+            times = [f"900719925474{each}" if len(each) == 4 else each for each in last]
             head = zkr.Head("zkr1" if fractions else "zkr2")
             path.write_bytes(head.to_bytes() + b"".join(head.piece(side, int(at), frame)
                                                         for (side, frame), at in zip(frames, times)))
@@ -201,7 +204,8 @@ class Counts(ToolCase):
                     found = self.report(each)
                     self.assertIn(f"\nfrom {begun} to {ended}\n", found)
                     self.assertEqual([" ".join(line.split()[:3]) for line in self.table(found, "Slowest requests")],
-                                     [f"{ms:g} {at}" for ms, at in sorted(slowest.values(), reverse=True)])
+                                     [f"{ms:.16g} {at}" if isinstance(ms, float) else f"{ms} {at}"
+                                      for ms, at in sorted(slowest.values(), reverse=True)])
 
     def test_facts_that_know_the_end_alone(self):
         """The time of the end, and that an error on the server's side was it."""

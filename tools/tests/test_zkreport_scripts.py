@@ -45,11 +45,15 @@ class Scripts(ToolCase):
 
     def test_times_after_the_year_9999(self):
         """They are milliseconds, as a file has them by mistake, and no picture has ticks without end."""
-        begun = 1_795_332_633_000_123_904
-        shown = f"{begun} ms"
-        self.assertEqual(self.of_draw({"begun": begun, "ended": begun},
+        begun = 1_795_332_633_000_123_905      # which no number of JavaScript is
+        shown, next_shown = f"{begun} ms", f"{begun + 1} ms"
+        self.assertEqual(self.of_draw({"begun": str(begun), "ended": str(begun)},
                                       "[iso(data.begun), place(0.5), axisName(), ticks([0, 1], 3)]"),
-                         [shown, shown, f"time of day, UTC, {shown}", [{"x": 0, "label": shown}]])
+                         [shown, shown, f"time of day, UTC, {shown}", [{"x": 0, "label": shown},
+                                                                       {"x": 1, "label": next_shown}]])
+        self.assertEqual(self.of_draw({"begun": 5, "ended": str(begun)}, f"[place({begun}), "
+                                      f"[[0, {begun}], [{begun}, {begun + 1}]].every(each => ticks(each, 9).length < 12)]"),
+                         [f"about {begun - 1} ms", True])
         last = 253_402_300_799_999
         self.assertEqual(self.of_draw({"begun": last, "ended": last + 1}, "[iso(data.begun), iso(data.ended), "
                                       "place(1), timeOfDay(data.begun), dayOf(data.begun)]"),
@@ -76,6 +80,32 @@ class Scripts(ToolCase):
         return self.of_script(f"const document = {{ getElementById: () => ({{ textContent: {json.dumps(data)} }}) }};\n"
                               + "".join((TOOLS / "report" / name).read_text("utf-8")
                                         for name in ("model.js", "draw.js", "tables.js")) + code)
+
+    def test_numbers_that_a_browser_would_round(self):
+        """Of times and latencies, as where a file has nanoseconds, all digits are shown and sorted, with filters too;
+        and of a node's times."""
+        begun, path = 1_795_332_633_000_123_905, self.folder / "a.json"
+        path.write_text("".join(json.dumps(each) + "\n" for each in (
+            {"n": 1, "side": "C", "xid": 1, "op": "sync", "path": "/a", "at": begun},
+            {"n": 2, "side": "C", "xid": 2, "op": "exists", "path": "/b", "watch": False, "at": begun + 1},
+            {"n": 3, "side": "S", "xid": 1, "op": "sync", "path": "/a", "zxid": "0x5", "at": begun + 2 ** 60,
+             "ms": 2 ** 60, "of": 1},
+            {"n": 4, "side": "S", "xid": 2, "op": "exists", "zxid": "0x5", "stat": {"ctime": -2 ** 60 - 1, "mtime": 5},
+             "at": begun + 2 ** 60 + 2, "ms": 2 ** 60 + 1, "of": 2})))
+        code = ("const shown = name => sorted(name, rowsOf(name, matching())).map(row => data.tables[name].columns.map(\n"
+                "  ([name, , kind], at) => [name, cellText(kind, row[at])]).filter(each => /^(at|ms|max|begun|ended)$/.test(\n"
+                "  each[0])).map(each => each[1]));\n"
+                "const all = () => ['sessions', 'connections', 'operations', 'slowest', 'paths'].map(shown);\n"
+                "const plain = all(); filter.slower = 1; const filtered = all(); filter.from = 1;\n"
+                "orders.slowest = { column: 1, direction: 1 }; filter.from = null; const [early] = shown('slowest');\n"
+                "const messages = data.messages[0].map(each => [timeOfDay(each.at), each.stat && each.stat.ctime]);\n"
+                "console.log(JSON.stringify([plain, filtered, early, messages, iso(data.ended)]));")
+        plain, filtered, early, messages, ended = self.of_page(code, path)
+        times, (short, long) = [f"{begun + more} ms" for more in (0, 1, 2 ** 60, 2 ** 60 + 2)], (2 ** 60, 2 ** 60 + 1)
+        self.assertEqual(plain, [[[times[0], times[3]]], [[times[0]]], [[str(long)], [str(short)]],
+                                 [[str(long), times[1]], [str(short), times[0]]], [[str(short)], [str(long)]]])
+        self.assertEqual((filtered, early, ended), (plain, [str(short), times[0]], times[3]))
+        self.assertEqual(messages, [[time, None] for time in times[:3]] + [[times[3], str(-2 ** 60 - 1)]])
 
     def test_filters_say_that_they_leave_out_the_paths_of_multis(self):
         """A multi of /a and /b counts for both, but under filters for neither."""
