@@ -319,6 +319,20 @@ class Counts(ToolCase):
             self.assertEqual([line.split() for line in self.table(self.report(path), "Watches")],
                              [["1", again, "0", "-", "#1", f'"/{name}"'] for again, name in ("0b", "1d")])
 
+    def test_watches_of_slow_requests(self):
+        """Replies that come alone set the watches that their requests asked for."""
+        lines = report_lines.Lines()
+        for n, (took, fields) in enumerate(((30, {"path": "/a", "watch": True}), (2, {"path": "/b", "watch": True}),
+                                            (30, {"path": "/c", "watch": False})), 1):
+            lines.ask(100 * n, "exists", n, **fields)
+            lines.answer(100 * n + took, n, zxid="0x5", **report_lines.NONODE)
+        lines.ask(900, "setWatches", -8, zxid="0x6", dataWatches=["/d"], existWatches=[], childWatches=[])
+        lines.answer(930, -8, zxid="0x6")
+        path = lines.write(self.folder / "a.json", ending="whole", unanswered=0, waiting=[])
+        found = self.report(path, "--slower", "10")
+        self.assertEqual([line.split() for line in self.table(found, "Watches")],
+                         [["1", again, "0", "-", "#1", f'"/{name}"'] for again, name in ("0a", "1d")])
+
     def test_more_watches_than_are_kept(self):
         """Of five that are kept the rarer ones are forgotten for a sixth; one that was set once and fired three times
         is none of these."""
