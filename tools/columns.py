@@ -176,7 +176,8 @@ class Columns(listing.Listing):
             if kind is not None:
                 connection = self.connection
                 connection.known, connection.backwards = bool(known) or self.usual[0], backwards
-                connection.session = listing.hexadecimal(session) if session else self.usual[1]
+                if session and (known or not self.usual[0]):
+                    connection.session = listing.hexadecimal(session)
                 connection.begun, connection.ended = map(exact, times[:2], times[2:])
                 if kind == END:
                     self.close()

@@ -96,10 +96,10 @@ class Connection:
         self.backwards = 0
 
     def connect(self, made, session):
-        """Takes a connect message, and its session as a number."""
-        self.known |= made.side == "S"
-        if session and not made.made_up:
+        """Takes a connect message, and its session as a number: where it is known, a request doesn't change it."""
+        if session and not made.made_up and not (self.known and made.side == "C"):
             self.session = hexadecimal(session)
+        self.known |= made.side == "S"
 
     def has_hole(self):
         """Whether bytes of it are known not to be in its recording, or that couldn't be read."""
