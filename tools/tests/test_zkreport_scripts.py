@@ -59,6 +59,16 @@ class Scripts(ToolCase):
                                       "place(1), timeOfDay(data.begun), dayOf(data.begun)]"),
                          ["9999-12-31T23:59:59.999Z", f"{last + 1} ms", f"{last + 1} ms", "23:59:59.999", "9999-12-31"])
 
+    def test_times_before_1970(self):
+        """As in the tables of --text and zkstat: of a request that is not there, which its reply says."""
+        self.assertEqual(self.of_draw({}, "[-9.75, -0.25, 0, 0.75].map(iso)"),
+                         ["1969-12-31T23:59:59.990Z", "1969-12-31T23:59:59.999Z", *["1970-01-01T00:00:00.000Z"] * 2])
+        path = self.folder / "a.json"
+        path.write_text(json.dumps({"n": 2, "side": "S", "xid": 1, "op": "sync", "path": "/a", "zxid": "0x5",
+                                    "at": 10.5, "ms": 20.25, "of": 1}))
+        for words in (("zkstat.py",), ("zkreport.py", "--text")):
+            self.assertIn("1969-12-31T23:59:59.990Z", self.run_inside(*words, path)[1])
+
     def test_lengths_of_time(self):
         self.assertEqual(self.of_draw({}, "[0.25, 1500, 59999, 60000, 119900, 3599400, 3599500, 3600000, 7199999]"
                                       ".map(duration)"),
