@@ -223,12 +223,12 @@ class Run:
         return found
 
     def place(self, connection):
-        """Says what a connection is called and which part is its first: the first that there is."""
+        """Says what a connection is called and which part is its first: the first that there is, or that was placed."""
         about = connection.about
-        connection.first = first = self.by_source.get(about.first)
+        connection.first = first = self.by_source.get(about.first or (about if about.is_of_parts else None))
         self.whole += first is None
         connection.label = first.label.partition(".")[0] if first else f"#{self.whole}"
-        connection.label += f".{about.part}" if about.first else ""
+        connection.label += f".{about.part}" if first or about.first else ""
         self.by_source[about] = connection
         if about.first and not first:
             self.by_source[about.first] = connection

@@ -82,6 +82,26 @@ class Counts(ToolCase):
         self.assertEqual([line.split()[0] for line in self.table(found, "Connections")], ["#1.2", "#2"])
         self.assertEqual(self.report("--jobs", 2, *choice, path, status=1), found)
 
+    def test_a_later_part_in_the_lines_before_the_first(self):
+        """They are one connection, between whose parts is no gap, whichever is chosen first."""
+        known = {"client": "10.0.0.1:40001", "server": "10.0.0.2:2181", "connected": report_lines.T}
+        parts = []
+        for name, at, more in (("a", 0, {"hole": ["S"]}), ("a.2", 50, {"part": 2, "lost": {"C": 0, "S": 9}})):
+            lines = report_lines.Lines()
+            lines.connect(at, 1)
+            lines.ask(at + 2, "sync", 1, path="/a")
+            ending = {"ending": "whole", "unanswered": 1, "facts": {**known, **more}, "notCaptured": [3], "waiting": []}
+            parts.append([json.dumps({"connection": name, **each}) for each in (*lines.objects, ending)])
+        first, later = parts
+        path = self.listing("a.json", *later[:1], *first, *later[1:])
+        for words, labels in (((), ["#1", "#1.1"]), (("--op", "sync"), ["#1.1", "#1.2"])):
+            found = self.report(*words, path, status=1)
+            self.assertRegex(found, "^1 connections, 1 sessions, ")
+            session, = self.table(found, "Sessions")
+            self.assertEqual((session.split()[2], session.split()[8]), ("1", "-"))
+            self.assertEqual([line.split()[0] for line in self.table(found, "Connections")], labels)
+            self.assertEqual(self.report("--jobs", 2, *words, path, status=1), found)
+
     def test_missing_bytes_whatever_is_chosen(self):
         """What is chosen may be among them: the status is 1, also where nothing of the connection is in the report."""
         lines = report_lines.Lines()
