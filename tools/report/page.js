@@ -5,11 +5,17 @@ const field = name => document.getElementById(`f-${name}`);
 const NAMES = ["path", "session", "op", "outcome", "slower", "from", "to"];
 let writing = false;
 
-// A place on the axis of time, of what a person wrote: a time of day, a whole time, or a message's number.
-function placeOf(text) {
+// A place on the axis of time, of what a person wrote: a time of day, a whole time, or a message's number. An end without
+// microseconds has all that are in its millisecond, as --to.
+function placeOf(text, isEnd = false) {
   const told = text.trim();
   if (!told) return null;
   if (!timed) return /^\d+$/.test(told) ? +told : NaN;
+  const part = /\.\d{3}(\d+)Z?$/.exec(told)?.[1] ?? (isEnd ? "999" : "0");
+  return Math.round((wholePlaceOf(told) + +`0.${part}`) * 1000) / 1000;
+}
+
+function wholePlaceOf(told) {
   const day = dayOf(data.begun), late = /^(?:about )?(\d+) ms$/.exec(told);
   if (late) return since(late[1]);
   const full = /^\d\d:\d\d(:\d\d(\.\d+)?)?$/.test(told) ? `${day}T${told}Z` : told.replace(" ", "T").replace(/Z?$/, "Z");
@@ -26,7 +32,7 @@ function placeText(x) {
 function readForm() {
   for (const name of NAMES) {
     const value = field(name).value;
-    const number = name === "slower" ? (value.trim() === "" ? null : +value) : placeOf(value);
+    const number = name === "slower" ? (value.trim() === "" ? null : +value) : placeOf(value, name === "to");
     const isNumber = name === "slower" || name === "from" || name === "to";
     field(name).setAttribute("aria-invalid", isNumber && Number.isNaN(number));
     filter[name] = !isNumber ? value : Number.isNaN(number) ? null : number;

@@ -59,6 +59,27 @@ class Scripts(ToolCase):
                                       "place(1), timeOfDay(data.begun), dayOf(data.begun)]"),
                          ["9999-12-31T23:59:59.999Z", f"{last + 1} ms", f"{last + 1} ms", "23:59:59.999", "9999-12-31"])
 
+    def test_the_borders_of_a_time(self):
+        """A time that the page shows has its request, as --from and --to have it: a time in milliseconds all of that
+        millisecond, one in microseconds just that. The first time is no binary fraction."""
+        times, path, second = (0.1, 9.999, 10, 10.001, 10.5, 10.999, 11), self.folder / "a.json", "2023-11-14T22:13:20"
+        path.write_text("".join(json.dumps({"n": n, "side": "C", "xid": n, "op": "sync", "path": "/a",
+                                            "at": report_lines.T + at}) + "\n" for n, at in enumerate(times, 1)))
+        script = (TOOLS / "report" / "page.js").read_text("utf-8")
+        script = script[script.index("function placeOf"):script.index("function placeText")]
+        borders = (".010", ".010000", ".010500", ".010999", ".011")
+        code = (f"{script}\nconst chosen = () => matching().map(i => requests.n[i]);\n"
+                f"console.log(JSON.stringify({json.dumps(borders)}.map(border => [\n"
+                f"  (filter.to = null, filter.from = placeOf('{second}' + border), chosen()),\n"
+                f"  (filter.from = null, filter.to = placeOf('{second[-8:]}' + border, true), chosen())])));")
+        wanted = [[[3, 4, 5, 6, 7], [1, 2, 3, 4, 5, 6]], [[3, 4, 5, 6, 7], [1, 2, 3]], [[5, 6, 7], [1, 2, 3, 4, 5]],
+                  [[6, 7], [1, 2, 3, 4, 5, 6]], [[7], [1, 2, 3, 4, 5, 6, 7]]]
+        self.assertEqual(self.of_page(code, path), wanted)
+        for border, chosen in zip(borders, wanted):
+            for word, numbers in zip(("--from", "--to"), chosen):
+                found = json.loads(self.run_inside("zkstat.py", "--json", word, f"{second}{border}Z", path)[1])
+                self.assertEqual([each["n"] for each in found["unanswered"]], numbers, (word, border))
+
     def test_times_before_1970(self):
         """As in the tables of --text and zkstat: of a request that is not there, which its reply says."""
         self.assertEqual(self.of_draw({}, "[-9.75, -0.25, 0, 0.75].map(iso)"),
