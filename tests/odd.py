@@ -102,6 +102,19 @@ class Odd:
                      for value in each["unread"]]
             yield found == [body.replace(" ", "")], f"hidden of a reply that is not SASL's: {body}, {found}"
 
+    def test_a_stat_is_no_token(self):
+        """A stat whose first zxid has the epoch 64 begins as a token of 64 bytes; of a token the second zxid isn't
+        between the first one and that of the header."""
+        for zxid, changed, of_children, hidden in ((0x40_0000_0009, 0x40_0000_0009, 0x40_0000_0005, False),
+                                                   (0x40_0000_0009, 0x40_0000_000a, 0x40_0000_0005, True),
+                                                   (0x41_0000_0009, 0x40_0000_0004, 0x40_0000_0005, True),
+                                                   (0x41_0000_0009, 0x40_0000_0005, 0x41_0000_000a, True)):
+            stat = f"0000004000000005 {changed:016x} {'00' * 44} {of_children:016x}"
+            capture = capture_of([*HEADS, piece(zkr.SERVER, f"00000001 {zxid:016x} 00000000 {stat}")])
+            found = [value.replace(":", "") for each in self.plugin.frames(capture, hide=True)[2:]
+                     for value in each["unread"]]
+            yield found == ([""] if hidden else [stat.replace(" ", "")]), f"{stat}: {found}"
+
     def test_credentials_in_lines(self):
         """A line's credential alone is hidden, whatever its scheme has; and nothing where the credential is null."""
         for digits, shown in (("00000001 41", "(hidden)"), ("00000000", "(hidden)"), ("ffffffff", "~")):
@@ -219,6 +232,20 @@ class Odd:
             links = [each["response_to"] for each in found if each["kind"] == ["4"]]
             wanted_of = [([str(at + 1)], packet) for at, packet in enumerate(packets)]
             yield shown == wanted_of and links == [[str(packet)] for packet in packets], f"{words}: {shown}, {links}"
+
+    def test_what_waits_at_the_end(self):
+        """What was shown before bytes that wait, with which it waited, is shown on later passes too, wherever the
+        capture ends: of requests as above the third has 8,192 bytes of data, in six segments."""
+        asked = "00000001 00000004 00000002 2f61 00", "00000002 00000003 00000000 00", \
+            "00000003 00000005 00000002 2f61 00002000" + "61" * 8192 + "ffffffff"
+        first, second, third = (piece(zkr.CLIENT, digits) for digits in asked)
+        answer = piece(zkr.SERVER, "00000001 0000000000000005 ffffff9b")
+        sent = list(wire.conversation([*HEADS, first, second, answer, third]))[5:-3]
+        for end in range(2, len(sent) + 1):
+            one, two = ([each["xid"] for each in self.plugin.frames(wire.pcap(packed(sent[:end])), *words)]
+                        for words in ((), ("-2",)))
+            wanted_of = [["1"], ["1"], ["2"], ["3"]][:{2: 1, 3: 2, len(sent): 4}.get(end, 3)]
+            yield one == two == wanted_of, f"{end} packets: {one}, {two}"
 
     def test_replies_out_of_order(self):
         """Of each reply the oldest request before it that has no reply yet is noted, and nothing where there is none:

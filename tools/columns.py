@@ -36,6 +36,7 @@ LETTERS = {"u8": "Q", "f8": "d", "i8": "q", "u4": "I", "i4": "i", "u2": "H", "u1
 RECORD = struct.Struct("=" + "".join(LETTERS[kind] for _, kind in FIELDS))
 Record = collections.namedtuple("Record", [name for name, _ in FIELDS])
 TEXT, WHOLE_TEXT, DATA = 1, 2, 3
+MOST_EXACT = 2 ** 52            # microseconds of which a double has each, and which numpy rounds to none
 PIPE_SIZE, F_SETPIPE_SZ = 1 << 20, 1031
 WORTH_A_LINE = 1 << 23          # the size of a recording of which a line says what would be faster
 said = False
@@ -121,6 +122,11 @@ def exact(moment, whole):
     return None if moment != moment else moment if moment < listing.TOO_COARSE else int(whole)
 
 
+def took(microseconds, moment, asked):
+    """How long a reply took; what a float has not exactly is of whole milliseconds (columns/recording.c)."""
+    return int(microseconds) if microseconds < MOST_EXACT else (int(moment) - int(asked)) * 1000
+
+
 def text_of(value):
     return "".join(forms.pieces_of_text(value, 0, len(value)))
 
@@ -170,7 +176,8 @@ class Columns(listing.Listing):
             if kind is not None:
                 connection = self.connection
                 connection.known, connection.backwards = bool(known) or self.usual[0], backwards
-                connection.session = listing.hexadecimal(session) if session else self.usual[1]
+                if session and (known or not self.usual[0]):
+                    connection.session = listing.hexadecimal(session)
                 connection.begun, connection.ended = map(exact, times[:2], times[2:])
                 if kind == END:
                     self.close()
@@ -222,9 +229,14 @@ class Columns(listing.Listing):
         if record.moment == record.moment:
             made.moment = exact(record.moment, block.text[record.text:record.text + record.at_length] or record.moment)
         if record.microseconds == record.microseconds:
-            made.microseconds = int(record.microseconds)
+            made.microseconds = took(record.microseconds, made.moment, self.asked_moment(block, record))
         made.chosen, made.made_up = bool(record.flags & CHOSEN), bool(record.flags & MADE_UP)
         return made
+
+    def asked_moment(self, block, record):
+        """The time of the request of a reply; where a float isn't exact, of whole milliseconds."""
+        return exact(record.asked_moment, block.text[record.text + record.at_length:
+                                                     record.text + record.text_length] or record.asked_moment)
 
     def left(self):
         """The requests that still wait, in the order in which they came."""
@@ -250,11 +262,11 @@ class Columns(listing.Listing):
                 if moment == moment:
                     made.at = text[begin:middle]
                     made.moment = moment if moment < listing.TOO_COARSE else int(made.at)
-                    if microseconds == microseconds:
-                        made.microseconds = int(microseconds)
                 asked = nothing
                 if of:
                     asked = requests.pop(of)
+                    if microseconds == microseconds:
+                        made.microseconds = took(microseconds, made.moment, asked.moment)
                 elif side == CLIENT:
                     requests[n] = made
                 if flags & MADE_UP:

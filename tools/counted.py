@@ -10,8 +10,6 @@ import columns
 import listing
 from histogram import Histogram
 
-MOST_EXACT = 2 ** 52
-
 
 def grouped(numpy, keys):
     """The different keys in the order in which each comes first, and how often each comes."""
@@ -27,15 +25,14 @@ class Latencies:
         self.counts, self.greatest = {}, {}
         self.long = collections.defaultdict(Histogram)      # those that an array has no exact number for
 
-    def add(self, numpy, timed):
+    def add(self, numpy, talk, block, timed):
+        long = timed["microseconds"] >= columns.MOST_EXACT
+        if long.any():
+            for record in map(columns.Record._make, timed[long].tolist()):
+                self.long[record.operation].add(talk.message(block, record).microseconds)
+            timed = timed[~long]
         for number in numpy.unique(timed["operation"]).tolist():
             latencies = timed["microseconds"][timed["operation"] == number]
-            if latencies.max() >= MOST_EXACT:
-                for latency in latencies[latencies >= MOST_EXACT].tolist():
-                    self.long[number].add(int(latency))
-                latencies = latencies[latencies < MOST_EXACT]
-                if not len(latencies):
-                    continue
             exact = latencies.astype("i8")
             shift = numpy.maximum(numpy.frexp(latencies)[1] - Histogram.BITS, 0)
             counts = numpy.bincount((shift << Histogram.BITS - 1) + (exact >> shift))
@@ -91,21 +88,23 @@ def add_block(found, talk, block, array, latencies):
             each.errors[name] += count
     timed = replies[replies["microseconds"] == replies["microseconds"]]
     if len(timed):
-        latencies.add(numpy, timed)
+        latencies.add(numpy, talk, block, timed)
         add_slowest(numpy, found, talk, block, timed)
 
 
 def add_slowest(numpy, found, talk, block, timed):
     """Keeps those that may be of the slowest, the first of equally slow ones."""
-    slow = timed[timed["microseconds"] > found.least]
-    if len(slow) > found.most:
+    is_exact = timed["microseconds"].max() < columns.MOST_EXACT
+    slow = timed[timed["microseconds"] > found.least] if is_exact else timed
+    if is_exact and len(slow) > found.most:
         slow = slow[numpy.sort(numpy.argsort(-slow["microseconds"], kind="stable")[:found.most])]
     for row in slow.tolist():
         record = columns.Record._make(row)
-        if record.microseconds > found.least:
-            made = talk.message(block, record)
+        if is_exact and record.microseconds <= found.least:
+            continue
+        made = talk.message(block, record)
+        if made.microseconds > found.least:
             asked = listing.Message(talk.connection, record.of, "C", made.xid, made.op, block.path(record), None)
-            asked.moment = columns.exact(record.asked_moment, block.text[record.text + record.at_length:
-                                                                         record.text + record.text_length])
+            asked.moment = talk.asked_moment(block, record)
             zxid = None if record.operation == columns.CONNECT else listing.hexadecimal(record.zxid)
             found.add_slow(zxid, made, asked)

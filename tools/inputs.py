@@ -93,9 +93,9 @@ def conversation(parser, words, path, stream, objects, progress, before_read, fa
 
 def columns_of(words, path, fast, profile, known, progress):
     """The columns of a recording; None where the plain form has to read it."""
-    if not fast:
+    options = fast and fast(path)
+    if options is None:
         return None
-    options = fast(path)
     lacking = columns.lacks(words, "--lines" not in options)
     if not lacking:
         times = columns.times_options(path, words.times)

@@ -96,10 +96,10 @@ class Connection:
         self.backwards = 0
 
     def connect(self, made, session):
-        """Takes a connect message, and its session as a number."""
-        self.known |= made.side == "S"
-        if session and not made.made_up:
+        """Takes a connect message, and its session as a number: where it is known, a request doesn't change it."""
+        if session and not made.made_up and not (self.known and made.side == "C"):
             self.session = hexadecimal(session)
+        self.known |= made.side == "S"
 
     def has_hole(self):
         """Whether bytes of it are known not to be in its recording, or that couldn't be read."""
@@ -131,7 +131,7 @@ class Message:
     at = moment = microseconds = chosen = None
     captured, made_up = True, False
     parts = ()
-    ms = property(lambda self: None if self.microseconds is None else self.microseconds / 1000)
+    ms = property(lambda self: None if self.microseconds is None else milliseconds(self.microseconds))
 
     def __init__(self, connection, n, side, xid, op, path, error, end=0):
         self.connection, self.n, self.side, self.xid, self.op, self.path = connection, n, side, xid, op, path
@@ -141,6 +141,11 @@ class Message:
 def hexadecimal(number):
     """A session or a zxid as ZooKeeper's logs print it."""
     return f"0x{number & 0xffff_ffff_ffff_ffff:x}"
+
+
+def milliseconds(microseconds):
+    """Microseconds as milliseconds: a float, and where that has not each millisecond a whole number."""
+    return microseconds / 1000 if microseconds < 1000 * TOO_COARSE else microseconds // 1000
 
 
 def billionths(at):
@@ -313,10 +318,10 @@ class Listing(Conversations):
             raise NoListing(f"line {made.n}: the request of this reply is missing before it: name the whole listing")
         asked = lane.popleft()
         if made.moment is not None and asked.moment is not None:
-            took = made.moment - asked.moment
-            if made.moment >= COARSE:
-                took = (billionths(made.at) - billionths(asked.at)) / 10**9
-            microseconds = round(took * 1000)
+            if made.moment < COARSE:
+                microseconds = round((made.moment - asked.moment) * 1000)
+            else:
+                microseconds = round(billionths(made.at) - billionths(asked.at), -6) // 10**6
             if microseconds < 0:
                 self.connection.backwards += 1
             else:

@@ -11,7 +11,7 @@ import forms
 import listing
 import zkr
 
-MILLISECONDS = re.compile(r"\d{1,15}", re.ASCII)
+MILLISECONDS = re.compile(r"\d{1,19}", re.ASCII)
 MICROSECONDS = re.compile(r"[.,]\d{6}", re.ASCII)
 LATENCY = re.compile(r"\d{1,15}(?:\.\d{1,9})?", re.ASCII)
 SESSION = re.compile(r"0x[0-9A-Fa-f]{1,16}|\d{1,20}", re.ASCII)
@@ -34,14 +34,14 @@ def microseconds(text):
 
 def begin(text):
     """Where the times from this one on begin, in milliseconds since 1970."""
-    return microseconds(text) / 1000
+    return listing.milliseconds(microseconds(text))
 
 
 def end(text):
     """Where the times up to this one end, in milliseconds since 1970: one without microseconds with all that are in its
     millisecond."""
     found = microseconds(text)
-    return (found + (1 if found % 1000 or MICROSECONDS.search(text) else 1000)) / 1000
+    return listing.milliseconds(found + (1 if found % 1000 or MICROSECONDS.search(text) else 1000))
 
 
 def latency(text):
@@ -101,6 +101,7 @@ class Selection:
     def __init__(self, words):
         self.paths, self.sessions, self.operations = words.path, words.session, words.op
         self.slower, self.begin, self.end = words.slower, words.begin, words.end
+        self.is_late = int in map(type, (self.begin, self.end))     # columns don't choose by such times
         self.needs_times = (self.slower, self.begin, self.end) != (None,) * 3
         self.by_message = bool(self.needs_times or self.paths or self.operations)
         self.all = not self.by_message and not self.sessions
@@ -164,8 +165,8 @@ class Selection:
                 yield from early
 
     def options(self, _):
-        """The arguments of columns.Columns."""
-        return [word for path in self.paths or () for word in ("--path", listing.unescaped(path))]
+        """The arguments of columns.Columns; None where the plain form has to read."""
+        return None if self.is_late else [word for path in self.paths or () for word in ("--path", listing.unescaped(path))]
 
     def arrays(self, talk):
         """The chosen messages of columns: each block, and an array of them. It is the fast form of `chosen`."""

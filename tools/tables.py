@@ -20,7 +20,14 @@ def plain(value):
 
 def exact(ms):
     """Milliseconds to the microsecond, without zeros at the end."""
-    return f"{ms:.3f}".rstrip("0").rstrip(".")
+    return str(ms) if isinstance(ms, int) else f"{ms:.3f}".rstrip("0").rstrip(".")
+
+
+def seconds(ms):
+    """Milliseconds as seconds to the microsecond, without zeros at the end."""
+    microseconds = ms * 1000 if isinstance(ms, int) else round(ms * 1000)
+    whole, part = divmod(abs(microseconds), 10**6)
+    return f"{'-' * (microseconds < 0)}{whole}.{part:06}".rstrip("0").rstrip(".")
 
 
 def cells(counts):
@@ -79,8 +86,9 @@ def connections(found, heads):
     rows = [["connection", "session", "begun", "ended", *heads, "ending"]]
     for each in found:
         if each["gap"] is not None:
-            rows.append(f"    the same session, {each['gap']:.10g} s later" if each["gap"] >= 0 else
-                        f"    the same session, {-each['gap']:.10g} s before that ended")
+            length = abs(each["gap"])
+            shown = f"{length:.6f}".rstrip("0").rstrip(".") if length < 2 ** 33 else repr(length)
+            rows.append(f"    the same session, {shown} s {'later' if each['gap'] >= 0 else 'before that ended'}")
         rows.append([plain(each["connection"]), each["session"] or "-", each["begun"] or "-", each["ended"] or "-",
                      *cells(each), ending(each["ending"], each.get("facts"))])
     return aligned(rows, {0, 1, 2, 3, len(rows[0]) - 1})

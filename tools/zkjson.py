@@ -59,7 +59,7 @@ def short(line, made, asked):
     head = f'{made.connection.json}, "n": {made.n}, "side": "{made.side}"{xid}, "op": "{made.op}"{found}{at}'
     if not asked:
         return head + "}\n"
-    ms = "" if made.microseconds is None else f', "ms": {made.microseconds / 1000}'
+    ms = "" if made.microseconds is None else f', "ms": {listing.milliseconds(made.microseconds)}'
     if not asked.path:
         return f'{head}{ms}, "of": {asked.n}}}\n'
     return f'{head}{ms}, "of": {asked.n}, "asked": {forms.text(asked.path)}}}\n'
@@ -73,7 +73,7 @@ def pieces(line, made, asked):
     if made.at is not None:
         yield f', "at": {made.at}'
     if asked:
-        ms = "" if made.microseconds is None else f', "ms": {made.microseconds / 1000}'
+        ms = "" if made.microseconds is None else f', "ms": {listing.milliseconds(made.microseconds)}'
         yield f'{ms}, "of": {asked.n}'
         if asked.path:
             yield ', "asked": '
@@ -170,7 +170,8 @@ def write_all(parser, words, progress, out):
     chosen, has_hole, untimed = selection.Selection(words), False, 0
 
     def fast(name):
-        return [*chosen.options(name), "--json", head_of(name)]
+        options = chosen.options(name)
+        return None if options is None else [*options, "--json", head_of(name)]
     for talk in inputs.conversations(parser, words, False, progress, before_read=out.flush, fast=fast):
         head = talk.connection.json = head_of(talk.name)
         with talk.complaints():

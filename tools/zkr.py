@@ -325,7 +325,7 @@ class Series:
 
 def clock(milliseconds):
     """A time as it is printed: date and time of day in UTC; after the year 9999 its milliseconds since 1970."""
-    whole, part = divmod(int(milliseconds), 1000)
+    whole, part = divmod(int(milliseconds // 1), 1000)      # also before 1970
     try:
         return f"{second(whole)}.{part:03}Z"
     except OverflowError:

@@ -58,8 +58,9 @@ class Counts:
 
     def summary(self):
         timed = self.latencies.total()
-        ms = timed and {**{f"p{percent}": self.latencies.percentile(percent) / 1000 for percent in tables.PERCENTS},
-                        "max": self.latencies.greatest / 1000}
+        found = timed and {**{f"p{percent}": self.latencies.percentile(percent) for percent in tables.PERCENTS},
+                           "max": self.latencies.greatest}
+        ms = found and {name: listing.milliseconds(microseconds) for name, microseconds in found.items()}
         return {"asked": self.asked, "answered": self.answered, "failed": sum(self.errors.values()), "timed": timed,
                 "ms": ms or None}
 
@@ -76,7 +77,7 @@ class Finished:
 
 def slow_row(asked, made, zxid):
     """The row of one of the slowest: a request and its reply."""
-    return {"time": time(asked.moment), "ms": made.microseconds / 1000, "connection": made.connection.name,
+    return {"time": time(asked.moment), "ms": made.ms, "connection": made.connection.name,
             "n": asked.n, "op": made.op, "path": cut(asked.path), "error": made.error, "zxid": zxid}
 
 

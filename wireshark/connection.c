@@ -17,8 +17,8 @@
 static const guint8 began[] = {[ZK_CLIENT] = 0x01, [ZK_SERVER] = 0x02};
 
 /* No more gaps of a side are kept. Bytes in which no frame is found wait for others; of those that TCP put together,
- * which it does anew with each segment, only up to here. */
-enum { MOST_GAPS = 256, MOST_BEFORE = 1 << 10 };
+ * which it does anew with each segment, only up to here. So does a frame up to MOST_ANEW bytes long. */
+enum { MOST_GAPS = 256, MOST_BEFORE = 1 << 10, MOST_ANEW = 1 << 20 };
 
 /* The letters of a word that a client says in place of frames. */
 enum { WORD = 4 };
@@ -147,6 +147,9 @@ static struct kept *keep(struct connection *connection, packet_info *pinfo, cons
     kept->number = piece->number;
     kept->what = what;
     kept->size = size;
+    if (what == MORE) {
+        way->waited = piece->number + piece->there;
+    }
     if (piece->tcp->is_reassembled && (what == A_FRAME || what == NO_FRAME)) {
         struct taken *taken = wmem_new(wmem_file_scope(), struct taken);
         *taken = (struct taken){kept, piece->tcp->seq, way->taken};
@@ -238,6 +241,13 @@ static struct kept *look_at_length(struct connection *connection, packet_info *p
     return kept;
 }
 
+/* Whether what begins here can wait for more bytes only with those before it, of which something was shown: TCP holds
+ * them from the first on, and where the capture ends before it has all, later passes get none of them. If each segment
+ * may be the last one, they get what came. */
+static gboolean is_held(const struct way *way, const struct piece *piece) {
+    return piece->tcp->is_reassembled && piece->before > 0 && (gint32)(piece->number - way->waited) <= 0;
+}
+
 /* A frame of this size begins here. */
 static struct kept *look_at_frame(struct connection *connection, packet_info *pinfo, const struct piece *piece,
                                   struct way *way, guint32 size, guint32 *place, gboolean filling) {
@@ -245,7 +255,8 @@ static struct kept *look_at_frame(struct connection *connection, packet_info *pi
         if (!filling) {
             way->end = piece->number + size;
         }
-        return keep(connection, pinfo, piece, MORE, size - piece->size);
+        guint32 more = is_held(way, piece) && size <= MOST_ANEW ? DESEGMENT_ONE_MORE_SEGMENT : size - piece->size;
+        return keep(connection, pinfo, piece, MORE, more);
     }
     if (size > piece->size && !filling) {
         way->rest.from = piece->number;

@@ -240,12 +240,22 @@ static void read_fields(struct shown *shown) {
     shown->op = call ? call->op : shown->frame->kind == ZK_REQUEST ? shown->message.read.operation : 0;
 }
 
+/* Whether a zxid of a stat may be this one: none is before that of the node's creation, or after the reply's own. */
+static gboolean is_between(const struct shown *shown, int created, int at) {
+    gint64 zxid = tvb_get_ntohi64(shown->tvb, at);
+    return zxid >= tvb_get_ntohi64(shown->tvb, created) && zxid <= tvb_get_ntohi64(shown->tvb, FRAME_HEAD + 4);
+}
+
 /* Whether a reply may be one of SASL, as far as its bytes say it: what follows its header is one text or data, and is
- * no path. */
+ * no path and no stat. */
 static gboolean may_have_token(const struct shown *shown) {
-    enum { AT = FRAME_HEAD + REPLY_HEAD, BEHIND = AT + 4 };
-    return shown->there > BEHIND && tvb_get_ntohl(shown->tvb, AT) == shown->size - BEHIND &&
-           *tvb_get_ptr(shown->tvb, BEHIND, 1) != '/';
+    enum { AT = FRAME_HEAD + REPLY_HEAD, BEHIND = AT + 4, CHANGED = AT + 8, OF_CHILDREN = AT + STAT_SIZE - 8 };
+    if (shown->there <= BEHIND || tvb_get_ntohl(shown->tvb, AT) != shown->size - BEHIND ||
+        *tvb_get_ptr(shown->tvb, BEHIND, 1) == '/') {
+        return FALSE;
+    }
+    return shown->there != AT + STAT_SIZE || shown->size != shown->there || !is_between(shown, AT, CHANGED) ||
+           !is_between(shown, AT, OF_CHILDREN);
 }
 
 /* Whether the bytes that weren't read may have a password or a credential, which SASL's tokens of both sides are. */

@@ -87,6 +87,7 @@ struct way {
     guint32 first;           /* that place, or that of the first byte that was captured */
     guint32 next, end;       /* after the last frame; after the one that begins there, if that is known */
     guint32 since;           /* since this packet frames follow one another */
+    guint32 waited;          /* after the bytes that last waited for others */
     struct gap rest;         /* a frame that isn't whole where its front was captured */
     struct taken *taken;     /* the newest */
     wmem_list_t *gaps;

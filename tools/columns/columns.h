@@ -118,6 +118,7 @@ struct message {
     bool is_long;
     const char *at;
     double microseconds;
+    int64_t took; /* whole milliseconds; 0 where the times are not whole */
     const struct asked *asked;
     const uint8_t *paths;
 };

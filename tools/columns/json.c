@@ -117,8 +117,9 @@ static void put_code(struct bytes *out, const char *field, int64_t number, const
     put_text(out, "\"");
 }
 
-/* Whole microseconds as milliseconds, as Python spells the float. */
-static void put_milliseconds(struct bytes *out, double microseconds) {
+/* Whole microseconds as milliseconds, as Python spells the float; `took` where that isn't exact (milliseconds in
+ * tools/listing.py). */
+static void put_milliseconds(struct bytes *out, double microseconds, int64_t took) {
     if (microseconds < 1e15) {
         uint64_t whole = (uint64_t)microseconds, part = whole % 1000;
         char text[8];
@@ -128,7 +129,11 @@ static void put_milliseconds(struct bytes *out, double microseconds) {
         put(out, text, (size_t)length);
         return;
     }
-    double value = microseconds / 1000;
+    if (took >= (int64_t)TOO_COARSE) {
+        put_number(out, took);
+        return;
+    }
+    double value = took > 0 ? (double)took : microseconds / 1000;
     char text[40];
     int most = 0;
     do snprintf(text, sizeof text, "%.*e", most, value);
@@ -307,7 +312,7 @@ static const char *name_of(const struct zk_message *view) {
 static void put_asked(struct bytes *out, struct bytes *patches, const struct message *message) {
     if (!isnan(message->microseconds)) {
         put_text(out, ", \"ms\": ");
-        put_milliseconds(out, message->microseconds);
+        put_milliseconds(out, message->microseconds, message->took);
     }
     put_text(out, ", \"of\": ");
     put_number(out, (int64_t)message->asked->n);

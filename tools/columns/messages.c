@@ -205,7 +205,9 @@ void take_message(struct state *state, uint32_t side, const uint8_t *end, size_t
     else take_request(state, &view, payload, count, &record, asked);
     struct message message = {.view = view, .n = state->n, .side = side, .payload = payload, .fields = state->fields,
                               .count = count, .at = isnan(record.moment) ? "" : state->recording.spelled,
-                              .microseconds = record.microseconds, .asked = is_asked ? &asked : NULL, .paths = paths};
+                              .microseconds = record.microseconds,
+                              .took = is_asked && !state->recording.has_times ? state->recording.time - asked.time : 0,
+                              .asked = is_asked ? &asked : NULL, .paths = paths};
     message.is_long = state->json != NULL && is_long(state, side, view.size, message.asked, paths);
     put_message(state, &message, &record);
 }

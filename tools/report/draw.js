@@ -21,9 +21,17 @@ function duration(ms) {
 
 const LATEST = 253402300800000;     // the end of the year 9999
 
-// A time as tools/zkr.py's clock has it: after the year 9999 its milliseconds since 1970.
+// A time as tools/zkr.py's clock has it: after the year 9999 its milliseconds since 1970, of which a text has the digits.
 function iso(ms) {
-  return ms < LATEST ? new Date(ms).toISOString() : `${BigInt(Math.floor(ms))} ms`;
+  return ms < LATEST ? new Date(Math.floor(ms)).toISOString() : `${typeof ms === "string" ? ms : BigInt(Math.floor(ms))} ms`;
+}
+
+// The time of a place on the axis of time. Where a number hasn't each millisecond it is a text of the digits, and says
+// where these aren't exact.
+function timeAt(x) {
+  const isLate = typeof data.begun === "string", at = isLate ? BigInt(data.begun) + BigInt(Math.floor(x)) : data.begun + x;
+  if (at <= Number.MAX_SAFE_INTEGER) return Math.round(Number(at) * 1000) / 1000;
+  return isLate && x <= Number.MAX_SAFE_INTEGER ? String(at) : `about ${BigInt(Math.floor(Number(at)))}`;
 }
 
 function dayOf(ms) {
@@ -37,7 +45,7 @@ function timeOfDay(ms, end = 23) {
 
 // A place on the axis of time as a person reads it: the time of day, or where there are no times the message's number.
 function place(x) {
-  return timed ? timeOfDay(Math.round((data.begun + x) * 1000) / 1000) : `message ${count(Math.round(x))}`;
+  return timed ? timeOfDay(timeAt(x)) : `message ${count(Math.round(x))}`;
 }
 
 function element(name, attributes = {}, ...children) {
@@ -81,14 +89,15 @@ const STEPS = [1, 2, 5, 10, 20, 50, 100, 200, 500, 1e3, 2e3, 5e3, 1e4, 15e3, 3e4
 
 // The ticks of the axis of time: places at round times, and their labels.
 function ticks([low, high], most) {
-  const base = timed ? data.begun : 0, least = (high - low) / most;
+  const least = (high - low) / most;
   const step = timed ? STEPS.find(each => each >= least) ?? Math.ceil(least / 864e5) * 864e5 : roundStep(least);
-  const found = [], first = Math.ceil((base + low) / step) * step;
-  for (let i = 0, at = first; at <= base + high; at = first + ++i * step) {
-    if (at - base === found.at(-1)?.x) continue;        // a late time has not each millisecond
-    const label = !timed ? count(at) : step >= 864e5 ? dayOf(at)
-      : timeOfDay(at, step >= 6e4 ? 16 : step >= 1e3 ? 19 : 23);
-    found.push({ x: at - base, label });
+  const before = !timed ? 0 : typeof data.begun === "string" ? Number(BigInt(data.begun) % BigInt(step)) : data.begun % step;
+  const found = [], first = Math.ceil((before + low) / step) * step - before;
+  for (let i = 0, x = first; x <= high; x = first + ++i * step) {
+    if (x === found.at(-1)?.x) continue;        // a late time has not each millisecond
+    const told = timed && timeAt(x), at = typeof told === "string" ? told : Math.round(told);
+    const label = !timed ? count(x) : step >= 864e5 ? dayOf(at) : timeOfDay(at, step >= 6e4 ? 16 : step >= 1e3 ? 19 : 23);
+    found.push({ x, label });
   }
   return found;
 }

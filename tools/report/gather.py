@@ -4,13 +4,10 @@ import collections
 import json
 
 import listing
-import operations
 import zkjson
 from histogram import Histogram
-from report import kept, paths, sources
+from report import kept, paths, sources, watching
 
-WATCHING = {operation.name for operation in operations.ALL if "watch:bit" in operation.request.split()}
-WATCH_LISTS = ("dataWatches", "existWatches", "childWatches")
 CLOSE = "closeSession"
 HEARD = {listing.CONNECT, CLOSE}         # the operations that a Heard takes
 NO_CONNECTION = '{"connection": 0'
@@ -33,10 +30,10 @@ class Operation:
     def ms(self, percent):
         """The latency that `percent` of a hundred replies didn't exceed; None if there are none."""
         found = self.latencies.percentile(percent)
-        return None if found is None else found / 1000
+        return None if found is None else listing.milliseconds(found)
 
     def longest(self):
-        return None if self.latencies.greatest is None else self.latencies.greatest / 1000
+        return None if self.latencies.greatest is None else listing.milliseconds(self.latencies.greatest)
 
     def merge(self, other):
         self.asked, self.answered = self.asked + other.asked, self.answered + other.answered
@@ -162,6 +159,8 @@ class Run:
             for line, made, asked in talk:
                 if made.op in HEARD:
                     heard[made.connection].take(line, made)
+                if chosen.slower is not None and made.side == "C":     # its reply comes alone
+                    watching.note(line, made)
                 yield line, made, asked
 
         def name_of(known):
@@ -224,12 +223,12 @@ class Run:
         return found
 
     def place(self, connection):
-        """Says what a connection is called and which part is its first: the first that there is."""
+        """Says what a connection is called and which part is its first: the first that there is, or that was placed."""
         about = connection.about
-        connection.first = first = self.by_source.get(about.first)
+        connection.first = first = self.by_source.get(about.first or (about if about.is_of_parts else None))
         self.whole += first is None
         connection.label = first.label.partition(".")[0] if first else f"#{self.whole}"
-        connection.label += f".{about.part}" if about.first else ""
+        connection.label += f".{about.part}" if first or about.first else ""
         self.by_source[about] = connection
         if about.first and not first:
             self.by_source[about.first] = connection
@@ -255,14 +254,11 @@ class Reading:
             self.request(talk, line, made)
 
     def request(self, talk, line, made):
-        made.seen, op = True, made.op
+        made.seen = True
         self.name(made)
-        if op in WATCHING:
-            made.is_watching = is_watching(line)
-        elif op == "multi":
+        watching.note(line, made)
+        if made.op == "multi":
             self.name_parts(talk.paths(line, made), made)
-        elif op == "setWatches":
-            made.watched = watched_paths(line)
 
     def name(self, made):
         """Counts the path of a request, which stays with it in place of its spelling."""
@@ -300,7 +296,7 @@ class Reading:
         if not hasattr(asked, "seen"):      # the request itself isn't there, or not chosen
             self.name(asked)
             self.name_parts(asked.parts, asked)
-        ms = None if microseconds is None else microseconds / 1000
+        ms = made.ms
         operation = connection.operations[made.op]
         operation.asked += 1
         operation.answered += 1
@@ -384,17 +380,3 @@ def object_of(line, made, asked=None):
         found = json.loads("".join(zkjson.pieces(line, made, asked)))
     found.pop("connection", None)
     return found
-
-
-def is_watching(line):
-    """Whether a request asks for a watch: the field is the last one of its line."""
-    return line.endswith(" watch=1") or line.startswith("{") and bool(json.loads(line).get("watch"))
-
-
-def watched_paths(line):
-    """The paths of a setWatches: it has no other texts."""
-    if line.startswith("{"):
-        made = json.loads(line)
-        return [paths.path_of(listing.spelled(path)) for name in WATCH_LISTS for path in made.get(name) or ()
-                if path is not None]
-    return [paths.path_of(found) for found in listing.QUOTED.findall(line)]

@@ -122,7 +122,7 @@ function drawDensity(pen, axis, to, colour) {
   }
   pen.fillStyle = colour("ok");
   for (const [key, sum] of sums) {
-    const x = first - data.begun + Math.floor(key / BINS) * width, bin = key % BINS;
+    const x = first + Math.floor(key / BINS) * width, bin = key % BINS;
     const top = axis.y(10 ** ((bin + 1) / BINS_OF_TEN + LEAST_EXPONENT)), foot = axis.y(10 ** (bin / BINS_OF_TEN + LEAST_EXPONENT));
     pen.globalAlpha = 0.08 + 0.5 * Math.log(1 + sum) / Math.log(1 + most);
     pen.fillRect(to(x), top, Math.max(1, to(x + width) - to(x)), foot - top);

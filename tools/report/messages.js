@@ -69,7 +69,7 @@ function drawMessage(each, connection) {
   const path = each.path ?? each.asked;
   const line = element("summary", {},
     element("span", { class: "n", text: each.n }),
-    element("span", { class: "at", text: each.at === undefined ? "" : place(each.at - data.begun) }),
+    element("span", { class: "at", text: each.at === undefined ? "" : timeOfDay(each.at) }),
     element("span", { class: `side ${each.side}`, text: each.side === "C" ? "client →" : "← server" }),
     element("span", { class: "op", text: `${visible(String(each.op))}${each.xid === undefined ? "" : ` ${each.xid}`}` }),
     element("span", { class: "path", text: path === undefined ? "" : shownText(path) }),

@@ -61,7 +61,7 @@ class Shortening:
                 return {"text": value["text"][:most_data if name == "blob" else most_text], "size": value["size"]}
             return {key: self.value(key, left_out(part) if key in SECRET else part, shown)
                     for key, part in value.items()}
-        return value
+        return exact(value)
 
     def data(self, value, most):
         """Data that are no text, cut; `size` may be there already."""
@@ -69,6 +69,11 @@ class Shortening:
         front, mark, size = found.partition(self.mark.encode() + b":")
         size = value.get("size", int(size) if mark else len(front))
         return {"hex": front[:most].hex(), "size": size} if size > most else {"hex": front.hex()}
+
+
+def exact(value):
+    """A number as JSON that a browser reads exactly: one that it would round is the text of its digits."""
+    return str(value) if type(value) is int and abs(value) >= listing.TOO_COARSE else value
 
 
 def is_cut(value):
@@ -143,8 +148,10 @@ class Windows:
                         break
 
     def object(self, line, made, asked):
-        made = gather.object_of(line, made, asked)
-        return self.shortening.value(None, made, SHOWN[0])
+        found = gather.object_of(line, made, asked)
+        if type(made.moment) is int:
+            found["at"] = made.moment       # a float in the line has not its whole milliseconds
+        return self.shortening.value(None, found, SHOWN[0])
 
     def to_json(self):
         """By connection, its messages: each value is cut to what all of them have room for."""

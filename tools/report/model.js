@@ -10,16 +10,25 @@ data.sessions.forEach((session, number) => session.connections.forEach(each => {
 // By session, what a filter and a link call it.
 const sessionKeys = data.sessions.map(session => session.id ?? connectionName(session.connections[0]));
 
-// The columns of the requests, with times in milliseconds since the run began and latencies in milliseconds.
+// Milliseconds from the run's beginning to this time. Times that a number doesn't have exactly are texts of their digits.
+function since(at) {
+  if (typeof at !== "string" && typeof data.begun !== "string" || Number.isNaN(at)) return at - data.begun;
+  const whole = time => BigInt(typeof time === "string" ? time : Math.floor(time));
+  return Number(whole(at) - whole(data.begun));
+}
+
+// The columns of the requests, with times in milliseconds since the run began and latencies in milliseconds; `exactly` has
+// both where a number doesn't have them exactly.
 function unpack(columns) {
   const count = columns.n.length, x = new Float64Array(count), ms = new Float64Array(count);
   let at = 0;
   for (let i = 0; i < count; i++) {
-    at += columns.at[i] ?? 0;
-    x[i] = data.begun === null ? columns.n[i] : columns.at[i] === null ? NaN : at / 1000;
-    ms[i] = columns.ms[i] === null ? NaN : columns.ms[i] / 1000;
+    const late = typeof columns.at[i] === "string";
+    if (!late) at += columns.at[i] ?? 0;
+    x[i] = data.begun === null ? columns.n[i] : columns.at[i] === null ? NaN : late ? since(columns.at[i]) : at / 1000;
+    ms[i] = columns.ms[i] === null ? NaN : typeof columns.ms[i] === "string" ? +columns.ms[i] : columns.ms[i] / 1000;
   }
-  return { ...columns, count, x, ms };
+  return { ...columns, count, x, ms, exactly: { at: columns.at, ms: columns.ms } };
 }
 
 function outcome(i) {
@@ -28,7 +37,7 @@ function outcome(i) {
 }
 
 // The part of the run that is drawn when no time is chosen.
-const whole = timed ? [0, Math.max(1, data.ended - data.begun)]
+const whole = timed ? [0, Math.max(1, since(data.ended))]
   : [1, Math.max(2, ...data.connections.map(each => each.messages))];
 
 const filter = { path: "", session: "", op: "", outcome: "", slower: null, from: null, to: null };
@@ -105,7 +114,17 @@ function link(i) {
 
 // When a request was sent; null where that isn't known.
 function timeOf(i) {
-  return timed && !Number.isNaN(requests.x[i]) ? data.begun + requests.x[i] : null;
+  if (typeof requests.exactly.at[i] === "string") return requests.exactly.at[i];
+  return timed && !Number.isNaN(requests.x[i]) ? timeAt(requests.x[i]) : null;
+}
+
+// How long a request took, in milliseconds.
+function latencyOf(i) {
+  return /^\d+$/.test(requests.exactly.ms[i]) && typeof requests.exactly.ms[i] === "string" ? requests.exactly.ms[i] : requests.ms[i];
+}
+
+function byLatency(a, b) {
+  return a - b || compareKeys(sortKey("ms", a), sortKey("ms", b));
 }
 
 function slowestOf(indices) {
@@ -119,7 +138,7 @@ const derive = {
   operations(indices) {
     return [...groups(indices, i => requests.op[i])].map(([op, all]) => {
       const answered = all.filter(i => outcome(i) < UNANSWERED), lost = all.filter(i => outcome(i) === NOT_CAPTURED).length;
-      const times = answered.map(i => requests.ms[i]).filter(ms => !Number.isNaN(ms)).sort((a, b) => a - b);
+      const times = answered.map(latencyOf).filter(ms => !Number.isNaN(ms)).sort(byLatency);
       return [data.ops[op], all.length, answered.length, all.filter(i => outcome(i) === FAILED).length,
         all.length - answered.length - lost, quantile(times, 0.5), quantile(times, 0.95), quantile(times, 0.99),
         quantile(times, 1), ...(requests.lost ? [lost] : []), ...link(slowestOf(all))];
@@ -132,8 +151,8 @@ const derive = {
       .sort((a, b) => b[2] - a[2]);
   },
   slowest(indices) {
-    return indices.filter(i => !Number.isNaN(requests.ms[i])).sort((a, b) => requests.ms[b] - requests.ms[a])
-      .slice(0, 20).map(i => [requests.ms[i], timeOf(i), connectionName(requests.connection[i]),
+    return indices.filter(i => !Number.isNaN(requests.ms[i])).sort((a, b) => byLatency(latencyOf(b), latencyOf(a)))
+      .slice(0, 20).map(i => [latencyOf(i), timeOf(i), connectionName(requests.connection[i]),
         requests.n[i], data.ops[requests.op[i]], data.errors[requests.error[i]] ?? null, data.paths[requests.path[i]] ?? null,
         ...link(i)]);
   },
@@ -143,7 +162,7 @@ const derive = {
       .map(([path, all]) => {
         const slowest = slowestOf(all);
         return [all.length, all.filter(i => outcome(i) === FAILED).length,
-          Number.isNaN(requests.ms[slowest]) ? null : requests.ms[slowest], data.paths[path], ...link(slowest)];
+          Number.isNaN(requests.ms[slowest]) ? null : latencyOf(slowest), data.paths[path], ...link(slowest)];
       });
   },
   unanswered(indices, kind = UNANSWERED) {

@@ -5,28 +5,34 @@ const field = name => document.getElementById(`f-${name}`);
 const NAMES = ["path", "session", "op", "outcome", "slower", "from", "to"];
 let writing = false;
 
-// A place on the axis of time, of what a person wrote: a time of day, a whole time, or a message's number.
-function placeOf(text) {
+// A place on the axis of time, of what a person wrote: a time of day, a whole time, or a message's number. An end without
+// microseconds has all that are in its millisecond, as --to.
+function placeOf(text, isEnd = false) {
   const told = text.trim();
   if (!told) return null;
   if (!timed) return /^\d+$/.test(told) ? +told : NaN;
-  const day = dayOf(data.begun), late = /^(\d+) ms$/.exec(told);
-  if (late) return late[1] - data.begun;
+  const part = /\.\d{3}(\d+)Z?$/.exec(told)?.[1] ?? (isEnd ? "999" : "0");
+  return Math.round((wholePlaceOf(told) + +`0.${part}`) * 1000) / 1000;
+}
+
+function wholePlaceOf(told) {
+  const day = dayOf(data.begun), late = /^(?:about )?(\d+) ms$/.exec(told);
+  if (late) return since(late[1]);
   const full = /^\d\d:\d\d(:\d\d(\.\d+)?)?$/.test(told) ? `${day}T${told}Z` : told.replace(" ", "T").replace(/Z?$/, "Z");
-  const at = Date.parse(full) - data.begun;
+  const at = since(Date.parse(full));
   return /^\d\d:/.test(told) && at < -1 && at + 864e5 <= whole[1] ? at + 864e5 : at;
 }
 
 function placeText(x) {
   return !timed ? String(Math.round(x)) : dayOf(data.begun) === dayOf(data.ended) ? place(x)
-    : iso(data.begun + x).slice(0, 23);
+    : iso(timeAt(x)).replace(/Z$/, "");
 }
 
 // Takes the filters from the form; what isn't understood is marked, and has no effect.
 function readForm() {
   for (const name of NAMES) {
     const value = field(name).value;
-    const number = name === "slower" ? (value.trim() === "" ? null : +value) : placeOf(value);
+    const number = name === "slower" ? (value.trim() === "" ? null : +value) : placeOf(value, name === "to");
     const isNumber = name === "slower" || name === "from" || name === "to";
     field(name).setAttribute("aria-invalid", isNumber && Number.isNaN(number));
     filter[name] = !isNumber ? value : Number.isNaN(number) ? null : number;
@@ -88,7 +94,7 @@ function readHash() {
 
 function head() {
   document.getElementById("files").textContent = [visible(data.title),
-    timed ? `${iso(data.begun).replace("T", " ").replace("Z", "")} to ${timeOfDay(data.ended)} UTC, ${duration(data.ended - data.begun)}`
+    timed ? `${iso(data.begun).replace("T", " ").replace("Z", "")} to ${timeOfDay(data.ended)} UTC, ${duration(since(data.ended))}`
       : "no times",
     timed && data.counts.timed < data.counts.answered && `${count(data.counts.timed)} of ${count(data.counts.answered)} replies timed`]
     .filter(Boolean).join(" · ");

@@ -7,7 +7,9 @@ import json
 import pathlib
 import re
 
+import listing
 from report import kept, paths, summary, text
+from report.messages import exact
 
 HERE = pathlib.Path(__file__).resolve().parent
 SCRIPTS = ("model.js", "draw.js", "sessions.js", "latency.js", "tables.js", "messages.js", "page.js")
@@ -18,6 +20,8 @@ def page(title, found, messages, compared=None):
     style = (HERE / "page.css").read_text(encoding="utf-8")
     script = "(() => {\n\"use strict\";\n" + "".join((HERE / name).read_text(encoding="utf-8")
                                                     for name in SCRIPTS) + "})();\n"
+    if compared:
+        compared = {**compared, "rows": [list(map(plain, row)) for row in compared["rows"]]}
     data = json.dumps({**data_of(title, found), "compared": compared}, separators=(",", ":"))
     parts = {
         "title": html.escape(title), "style": style, "script": script,
@@ -43,7 +47,8 @@ def data_of(title, found):
                      "rows": [[plain(value) for value in row] for row in rows]}
               for name, rows in found.tables.items()}
     return {
-        "title": title, "warnings": run.warnings, "begun": found.begun, "ended": found.ended, "tables": tables,
+        "title": title, "warnings": run.warnings, "begun": exact(found.begun), "ended": exact(found.ended),
+        "tables": tables,
         "counts": {**found.counts, "connections": run.whole},
         "leftOut": found.rows_left_out(), "short": found.short(), "complete": run.kept.is_complete(),
         "connections": [connection_of(each) for each in run.connections],
@@ -56,7 +61,7 @@ def data_of(title, found):
 
 def plain(value):
     """A value of a row as JSON."""
-    return {"text": value.front, "size": value.size} if isinstance(value, paths.Cut) else value
+    return {"text": value.front, "size": value.size} if isinstance(value, paths.Cut) else exact(value)
 
 
 class Names:
@@ -77,20 +82,26 @@ class Names:
 
 def requests_of(found, names):
     """The kept requests as columns, in the order of their times. Times are whole microseconds, each since the one
-    before."""
+    before; where a browser would round, the digits of milliseconds since 1970. So are latencies."""
     begun = found.begun or 0
     requests = sorted(found.run.kept.requests(), key=lambda each: (each.at or 0, each.connection, each.n))
     columns = {name: [] for name in ("connection", "n", "reply", "at", "ms", "op", "error", "path")}
     lost = {(each.connection, each.n) for each in found.run.kept.not_captured}
     last = 0
     for each in requests:
-        at = None if each.at is None else round((each.at - begun) * 1000)
-        columns["at"].append(None if at is None else at - last)
-        last = last if at is None else at
+        at = each.at
+        if at is not None:
+            since = round((at - begun) * 1000)
+            if max(at, since) < listing.TOO_COARSE:
+                at, last = since - last, since
+            else:
+                at = str(int(at))
+        columns["at"].append(at)
         columns["connection"].append(each.connection)
         columns["n"].append(each.n)
         columns["reply"].append(each.reply and each.reply - each.n)
-        columns["ms"].append(None if each.ms is None else round(each.ms * 1000))
+        microseconds = None if each.ms is None else round(each.ms * 1000)
+        columns["ms"].append(str(each.ms) if microseconds and microseconds >= listing.TOO_COARSE else microseconds)
         columns["op"].append(names.number(names.ops, each.op))
         columns["error"].append(names.number(names.errors, each.error))
         columns["path"].append(names.number(names.paths, each.path))
@@ -102,7 +113,7 @@ def requests_of(found, names):
 def connection_of(each):
     about, ending = each.about, each.ending()
     begun, ended = each.span()
-    return {"name": each.name, "label": each.label, "server": about.server, "begun": begun, "ended": ended,
+    return {"name": each.name, "label": each.label, "server": about.server, "begun": exact(begun), "ended": exact(ended),
             "messages": each.messages, "refused": each.is_refused(), "closed": summary.closed_by(each),
             "end": summary.ending_of(each), "first": each.first and each.first.number,
             "hole": "hole" in about.notes or bool(ending) and ending["ending"] != "whole"}
@@ -110,16 +121,17 @@ def connection_of(each):
 
 def session_of(session):
     return {"id": session.id, "connections": [each.number for each in session.connections], "end": session.end(),
-            "gaps": [[before.number, after.number, gap] for before, after, gap in session.gaps()],
+            "gaps": [[before.number, after.number, exact(gap)] for before, after, gap in session.gaps()],
             "holes": [[before.number, after.number] for before, after in session.holes()]}
 
 
 def density_of(found):
-    """The cells of the density by connection: bucket, bin and count, in one list. Buckets count from `first`.
+    """The cells of the density by connection: bucket, bin and count, in one list. Buckets count from `first`, which is
+    since the run's beginning.
     `troubles` has in the same way bucket, 1 for failed or 2 for unanswered, and count."""
     density = found.run.density
     return {"bins": kept.BINS, "binsOfTen": kept.BINS_OF_TEN, "leastExponent": kept.LEAST_EXPONENT,
-            "width": density.width, "first": None if density.low is None else density.low * density.width,
+            "width": density.width, "first": None if density.low is None else density.low * density.width - found.begun,
             "cells": by_connection(density.cells, density.low),
             "troubles": by_connection(density.troubles, density.low)}
 
@@ -137,6 +149,7 @@ def by_session(found):
     rows = {}
     for session in busiest[:summary.MOST_SESSIONS]:
         operations = summary.operations_of(session.connections)
-        rows[session.number] = {"operations": list(summary.operation_rows(operations, found.run)),
+        rows[session.number] = {"operations": [list(map(exact, row)) for row in
+                                               summary.operation_rows(operations, found.run)],
                                 "errors": summary.error_rows(operations)}
     return rows

@@ -6,7 +6,7 @@ const MOST_ROWS = 200;
 function bar(number) {
   const each = data.connections[number];
   if (!timed) return each.messages ? [1, Math.max(2, each.messages)] : null;
-  return each.begun === null ? null : [each.begun - data.begun, each.ended - data.begun];
+  return each.begun === null ? null : [since(each.begun), since(each.ended)];
 }
 
 // The lanes of a session: connections that are open at once are drawn below one another.
@@ -105,7 +105,7 @@ function drawShares(parent, number, kind, to, top, high) {
   for (let i = 0; i < all.length; i += 3) sums.set(all[i], (sums.get(all[i]) ?? 0) + all[i + 2]);
   for (let i = 0; i < found.length; i += 3) {
     if (found[i + 1] !== kind) continue;
-    const x = first - data.begun + found[i] * width, share = Math.min(1, found[i + 2] / Math.max(1, sums.get(found[i]) ?? 0));
+    const x = first + found[i] * width, share = Math.min(1, found[i + 2] / Math.max(1, sums.get(found[i]) ?? 0));
     const from = to(Math.max(x, begun)), until = to(Math.min(x + width, ended)), tall = Math.max(1.5, share * (high - 6));
     shape("rect", { class: `share ${OUTCOMES[kind]}`, x: from, y: top + high - 3 - tall, width: Math.max(1, until - from), height: tall }, parent);
   }

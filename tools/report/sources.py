@@ -151,6 +151,8 @@ def source_of(line, name, prefix, parts):
     found.take_words(words.split())
     if found.path:
         found.facts = facts.facts_of(found.path) if os.path.exists(found.path) else None
+        if found.facts:     # whose times have microseconds
+            found.begun, found.ended = found.facts.begun, found.facts.ended
         number, part = PART.fullmatch(recording.removeprefix(prefix)).groups()
         found.part = int(part or 1)
         first = parts.setdefault(number, found)

@@ -2,6 +2,7 @@
 
 const orders = {};      // by table, the column that it is sorted by and the direction
 const NUMBERS = new Set(["count", "ms", "length", "connection"]);
+const TIMES = new Set(["time", "ms", "length"]);    // a text of these has the digits of a number
 const HELP = {
   operations: "p50, p95 and p99: the latency that 50, 95 or 99 of a hundred replies didn't exceed.",
   paths: "A part of a multi counts as a request of its path.",
@@ -13,7 +14,7 @@ const HELP = {
 function cellText(kind, value) {
   if (value === null || value === undefined) return "–";
   if (kind === "time") return iso(value).replace("T", " ").replace("Z", "");
-  if (kind === "ms") return String(+value.toFixed(3));
+  if (kind === "ms") return typeof value === "string" ? value : String(+value.toFixed(3));
   if (kind === "length") return duration(value);
   if (kind === "count") return count(value);
   if (kind === "counts") return Object.entries(value).map(([name, many]) => `${visible(name)} ${count(many)}`).join(", ") || "–";
@@ -25,6 +26,7 @@ function sortKey(kind, value) {
   if (value === null || value === undefined) return null;
   if (kind === "connection") return value.slice(1).split(".").reduce((sum, each) => sum + each.padStart(9, "0"), "");
   if (kind === "session") return BigInt(value);
+  if (TIMES.has(kind) && typeof value === "string") return BigInt(value.replace(/\D/g, ""));
   if (typeof value !== "object") return value;
   return "size" in value ? value.text : Object.values(value).reduce((sum, each) => sum + each, 0);
 }

@@ -51,7 +51,7 @@ def cell(kind, value):
     if kind == "ms":
         return tables.exact(value)
     if kind == "length":
-        return f"{value / 1000:.10g} s"
+        return f"{tables.seconds(value)} s"
     if kind == "counts":
         return " ".join(f"{printable(name)}={count}" for name, count in value.items())
     if kind == "path":

@@ -6,7 +6,10 @@ at once; events of watches are instants. Times are microseconds since 1970.
 
 import json
 
+import zkr
 from report import paths
+
+MOST = 2 ** 53
 
 
 class Trace:
@@ -78,4 +81,9 @@ class Trace:
 
 
 def microseconds(milliseconds):
-    return round(milliseconds * 1000)
+    """Milliseconds as whole microseconds, which the readers of traces have to have exactly."""
+    found = round(milliseconds * 1000)
+    if found >= MOST:
+        raise ValueError(f"{zkr.clock(milliseconds)} is after the year 2255, and readers of traces round such times: "
+                         "times are milliseconds since 1970")
+    return found

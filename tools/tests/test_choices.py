@@ -48,6 +48,32 @@ class Choices(ToolCase):
                 self.assertEqual((status, err), (0, ""))
                 self.assertEqual([each["n"] for each in json.loads(out)["unanswered"]], chosen)
 
+    def test_times_of_more_digits_than_a_float_has(self):
+        """As the tools print them: milliseconds since 1970 of 19 digits, which columns have as floats."""
+        path, ask, answer = self.folder / "a.zkr", struct.pack(">ii", -2, 11), struct.pack(">iqi", -2, 5, 0)
+        frames = ((b"C", struct.pack(">iqiqi", 0, 0, 9, 0, -1)), (b"S", struct.pack(">iiqi", 0, 9, 7, -1)),
+                  *((b"C", ask), (b"S", answer)) * 3)
+        head, first = zkr.Head("zkr2"), 1_795_332_633_000_123_904
+        path.write_bytes(head.to_bytes() + b"".join(
+            head.piece(side, first + at // 2, struct.pack(">i", len(payload)) + payload)
+            for at, (side, payload) in enumerate(frames)))
+        if not PROGRAM.exists():
+            self.skipTest("the program zkdump is not built")
+        lines = self.folder / "a.json"
+        lines.write_text(self.run_tool("zkjson.py", path)[1])
+        for words, chosen in ((["--from", str(first + 1)], [7, 5, 3]), (["--from", str(first + 2)], [7, 5]),
+                              (["--to", str(first + 2)], [1, 3, 5]), (["--to", str(first)], [1]),
+                              (["--from", str(first + 3), "--to", str(first + 3)], [7]),
+                              (["--to", str(first - 1)], []), (["--from", str(first + 4)], [])):
+            for each in (path, lines):
+                with self.subTest(words=words, path=each):
+                    status, out, err = self.run_tool("zkstat.py", "--json", *words, each)
+                    self.assertEqual((status, err), (0, ""))
+                    self.assertEqual(sorted(row["n"] for row in json.loads(out)["slowest"]), sorted(chosen))
+                    out = self.run_tool("zkjson.py", *words, path)[1].splitlines()
+                    self.assertEqual([found["n"] for found in map(json.loads, out) if found.get("side") == "C"],
+                                     sorted(chosen))
+
     def test_the_time_of_a_request_that_is_not_there(self):
         """It is that of the reply less the latency, of which the microseconds are no binary fractions."""
         path, millisecond = self.folder / "a.json", "2026-11-22T07:30:33.000"

@@ -234,6 +234,21 @@ class Holes(FactsCase):
         self.assertGreater(len(found["unanswered"]), 0)
         self.assertEqual(found["operations"]["connect"]["asked"], 1)
 
+    def test_a_client_that_asked_for_another_session(self):
+        """Its connect request is chosen with the session that the facts and the response have."""
+        if not PROGRAM.exists():
+            self.skipTest("the program zkdump is not built")
+        path = self.copy("a")
+        data, asked = bytearray(path.read_bytes()), 4 + 5 + 4 + 16      # of a head, a piece, a frame, and in the payload
+        self.assertEqual(data[asked:asked + 8], bytes(8))
+        data[asked:asked + 8] = (7).to_bytes(8, "big")
+        path.write_bytes(data)
+        os.unlink(facts.facts_path(path))
+        facts.write(path, facts.Facts(session=SESSION), f"{path}.times")
+        for session, wanted in ((SESSION, [1, 2, 3, 4]), ("0x7", [])):
+            _, out, _ = self.run_inside("zkjson.py", "--session", session, path)
+            self.assertEqual([each["n"] for each in map(json.loads, out.splitlines()) if "n" in each], wanted)
+
     def test_a_session_is_chosen_with_all_its_parts(self):
         _, paths = self.recordings(8)
         every = json.loads(self.run_inside("zkstat.py", "--json", *paths)[1])["operations"]

@@ -13,7 +13,8 @@ class Tables(ToolCase):
     def test_long_latencies(self):
         """The greatest latency is exact, also one of more than ten digits: of hours, or up to 1970."""
         for ms, shown in ((0, "0"), (4.5, "4.5"), (1000, "1000"), (9_999_999.999, "9999999.999"),
-                          (10_005_123.456, "10005123.456"), (1_795_332_632_999, "1795332632999")):
+                          (10_005_123.456, "10005123.456"), (1_795_332_632_999, "1795332632999"),
+                          (2 ** 53 + 1, str(2 ** 53 + 1)), (10 ** 18 + 1, str(10 ** 18 + 1))):
             lines = "".join(json.dumps(each) + "\n" for each in (
                 {"n": 1, "side": "C", "xid": 1, "op": "sync", "path": "/a", "at": ASKED},
                 {"n": 2, "side": "S", "xid": 1, "op": "sync", "zxid": "0x5", "path": "/a", "at": ASKED + ms, "ms": ms,

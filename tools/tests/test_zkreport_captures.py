@@ -67,6 +67,17 @@ class Captures(ToolCase):
         gaps = [(before.label, after.label, ms) for before, after, ms in session.gaps()]
         self.assertEqual(gaps, [("#1", "#2", 1250)])
 
+    def test_a_connection_lasts_to_the_microsecond(self):
+        """From the time of its first packet, 0.999 ms, to that of its first FIN, 9.25 ms."""
+        if not PROGRAM.exists():
+            self.skipTest("the program zkdump is not built")
+        sent = list(wire.conversation(pieces((TOP / "captures" / "kazoo_basic.zkr").read_bytes())[:6]))
+        times = [at + {0: 0.999, len(sent) - 3: 0.25}.get(at, 0) for at in range(len(sent))]
+        path = self.folder / "a.pcap"
+        path.write_bytes(wire.pcap([(wire.BEGUN + at, wire.packet(each)) for at, each in zip(times, sent)]))
+        out = self.run_inside("zkreport.py", "--text", path)[1]
+        self.assertIn("  0.008251 s  ", out[out.index("\nConnections\n"):])
+
     def capture(self, *recordings, close=True):
         """A capture of these recordings' connections, one after another."""
         packets = []

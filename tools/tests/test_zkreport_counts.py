@@ -82,6 +82,26 @@ class Counts(ToolCase):
         self.assertEqual([line.split()[0] for line in self.table(found, "Connections")], ["#1.2", "#2"])
         self.assertEqual(self.report("--jobs", 2, *choice, path, status=1), found)
 
+    def test_a_later_part_in_the_lines_before_the_first(self):
+        """They are one connection, between whose parts is no gap, whichever is chosen first."""
+        known = {"client": "10.0.0.1:40001", "server": "10.0.0.2:2181", "connected": report_lines.T}
+        parts = []
+        for name, at, more in (("a", 0, {"hole": ["S"]}), ("a.2", 50, {"part": 2, "lost": {"C": 0, "S": 9}})):
+            lines = report_lines.Lines()
+            lines.connect(at, 1)
+            lines.ask(at + 2, "sync", 1, path="/a")
+            ending = {"ending": "whole", "unanswered": 1, "facts": {**known, **more}, "notCaptured": [3], "waiting": []}
+            parts.append([json.dumps({"connection": name, **each}) for each in (*lines.objects, ending)])
+        first, later = parts
+        path = self.listing("a.json", *later[:1], *first, *later[1:])
+        for words, labels in (((), ["#1", "#1.1"]), (("--op", "sync"), ["#1.1", "#1.2"])):
+            found = self.report(*words, path, status=1)
+            self.assertRegex(found, "^1 connections, 1 sessions, ")
+            session, = self.table(found, "Sessions")
+            self.assertEqual((session.split()[2], session.split()[8]), ("1", "-"))
+            self.assertEqual([line.split()[0] for line in self.table(found, "Connections")], labels)
+            self.assertEqual(self.report("--jobs", 2, *words, path, status=1), found)
+
     def test_missing_bytes_whatever_is_chosen(self):
         """What is chosen may be among them: the status is 1, also where nothing of the connection is in the report."""
         lines = report_lines.Lines()
@@ -179,11 +199,14 @@ class Counts(ToolCase):
         for side, payload in ((b"C", struct.pack(">iqiqi", 0, 0, 9, 0, -1)), (b"S", struct.pack(">iiqi", 0, 9, 7, -1)),
                               (b"C", struct.pack(">ii", -2, 11)), (b"S", struct.pack(">iqi", -2, 5, 0))):
             frames.append((side, struct.pack(">i", len(payload)) + payload))
+        most = 2 ** 63 - 1
         for last, fractions, latencies in ((("0993", "0996", "0999", "1001"), None, (3, 2)),
+                                           (("0993", str(most), "0995", str(most - 1)), None,
+                                            (most - 9_007_199_254_740_993, most - 9_007_199_254_740_996)),
                                            (("0999", "0998", "0993", "0994"), None, (None, 1)),
                                            (("0993", "0995", "0995", "0999"), ("500", "001", "751", "250"),
                                             (1.501, 3.499))):
-            times = [f"900719925474{each}" for each in last]
+            times = [f"900719925474{each}" if len(each) == 4 else each for each in last]
             head = zkr.Head("zkr1" if fractions else "zkr2")
             path.write_bytes(head.to_bytes() + b"".join(head.piece(side, int(at), frame)
                                                         for (side, frame), at in zip(frames, times)))
@@ -201,7 +224,8 @@ class Counts(ToolCase):
                     found = self.report(each)
                     self.assertIn(f"\nfrom {begun} to {ended}\n", found)
                     self.assertEqual([" ".join(line.split()[:3]) for line in self.table(found, "Slowest requests")],
-                                     [f"{ms:g} {at}" for ms, at in sorted(slowest.values(), reverse=True)])
+                                     [f"{ms:.16g} {at}" if isinstance(ms, float) else f"{ms} {at}"
+                                      for ms, at in sorted(slowest.values(), reverse=True)])
 
     def test_facts_that_know_the_end_alone(self):
         """The time of the end, and that an error on the server's side was it."""
@@ -314,6 +338,20 @@ class Counts(ToolCase):
         for path in (listing, self.listing("a.json", *self.run_inside("zkjson.py", listing)[1].splitlines())):
             self.assertEqual([line.split() for line in self.table(self.report(path), "Watches")],
                              [["1", again, "0", "-", "#1", f'"/{name}"'] for again, name in ("0b", "1d")])
+
+    def test_watches_of_slow_requests(self):
+        """Replies that come alone set the watches that their requests asked for."""
+        lines = report_lines.Lines()
+        for n, (took, fields) in enumerate(((30, {"path": "/a", "watch": True}), (2, {"path": "/b", "watch": True}),
+                                            (30, {"path": "/c", "watch": False})), 1):
+            lines.ask(100 * n, "exists", n, **fields)
+            lines.answer(100 * n + took, n, zxid="0x5", **report_lines.NONODE)
+        lines.ask(900, "setWatches", -8, zxid="0x6", dataWatches=["/d"], existWatches=[], childWatches=[])
+        lines.answer(930, -8, zxid="0x6")
+        path = lines.write(self.folder / "a.json", ending="whole", unanswered=0, waiting=[])
+        found = self.report(path, "--slower", "10")
+        self.assertEqual([line.split() for line in self.table(found, "Watches")],
+                         [["1", again, "0", "-", "#1", f'"/{name}"'] for again, name in ("0a", "1d")])
 
     def test_more_watches_than_are_kept(self):
         """Of five that are kept the rarer ones are forgotten for a sixth; one that was set once and fired three times

@@ -187,7 +187,7 @@ class InBrowser(PageCase):
         self.assertEqual(self.rows("operations")[0], ["connect", "2", "2", "0", "0", "1.5", "2", "2", "2"])
         self.assertEqual(self.rows("errors")[0], ["exists", "NONODE", "1"])
         self.assertEqual(self.rows("paths"), [["5", "2", "100", "/a"], ["1", "0", "–", "/b/\\u{1b}[2J"],
-                                              ["1", "0", "–", "/b"]])
+                                              ["1", "1", "1", "/b"]])
         self.assertEqual(self.rows("unanswered"), [["2023-11-14 22:13:20.070", "#1", "10", "setData", "/b/\\u{1b}[2J"]])
         bars = self.browser.run("return document.querySelectorAll('#sessions .bar').length")
         gap = self.browser.run("return document.querySelector('#sessions .gap title').textContent")

@@ -45,15 +45,50 @@ class Scripts(ToolCase):
 
     def test_times_after_the_year_9999(self):
         """They are milliseconds, as a file has them by mistake, and no picture has ticks without end."""
-        begun = 1_795_332_633_000_123_904
-        shown = f"{begun} ms"
-        self.assertEqual(self.of_draw({"begun": begun, "ended": begun},
+        begun = 1_795_332_633_000_123_905      # which no number of JavaScript is
+        shown, next_shown = f"{begun} ms", f"{begun + 1} ms"
+        self.assertEqual(self.of_draw({"begun": str(begun), "ended": str(begun)},
                                       "[iso(data.begun), place(0.5), axisName(), ticks([0, 1], 3)]"),
-                         [shown, shown, f"time of day, UTC, {shown}", [{"x": 0, "label": shown}]])
+                         [shown, shown, f"time of day, UTC, {shown}", [{"x": 0, "label": shown},
+                                                                       {"x": 1, "label": next_shown}]])
+        self.assertEqual(self.of_draw({"begun": 5, "ended": str(begun)}, f"[place({begun}), "
+                                      f"[[0, {begun}], [{begun}, {begun + 1}]].every(each => ticks(each, 9).length < 12)]"),
+                         [f"about {begun - 1} ms", True])
         last = 253_402_300_799_999
         self.assertEqual(self.of_draw({"begun": last, "ended": last + 1}, "[iso(data.begun), iso(data.ended), "
                                       "place(1), timeOfDay(data.begun), dayOf(data.begun)]"),
                          ["9999-12-31T23:59:59.999Z", f"{last + 1} ms", f"{last + 1} ms", "23:59:59.999", "9999-12-31"])
+
+    def test_the_borders_of_a_time(self):
+        """A time that the page shows has its request, as --from and --to have it: a time in milliseconds all of that
+        millisecond, one in microseconds just that. The first time is no binary fraction."""
+        times, path, second = (0.1, 9.999, 10, 10.001, 10.5, 10.999, 11), self.folder / "a.json", "2023-11-14T22:13:20"
+        path.write_text("".join(json.dumps({"n": n, "side": "C", "xid": n, "op": "sync", "path": "/a",
+                                            "at": report_lines.T + at}) + "\n" for n, at in enumerate(times, 1)))
+        script = (TOOLS / "report" / "page.js").read_text("utf-8")
+        script = script[script.index("function placeOf"):script.index("function placeText")]
+        borders = (".010", ".010000", ".010500", ".010999", ".011")
+        code = (f"{script}\nconst chosen = () => matching().map(i => requests.n[i]);\n"
+                f"console.log(JSON.stringify({json.dumps(borders)}.map(border => [\n"
+                f"  (filter.to = null, filter.from = placeOf('{second}' + border), chosen()),\n"
+                f"  (filter.from = null, filter.to = placeOf('{second[-8:]}' + border, true), chosen())])));")
+        wanted = [[[3, 4, 5, 6, 7], [1, 2, 3, 4, 5, 6]], [[3, 4, 5, 6, 7], [1, 2, 3]], [[5, 6, 7], [1, 2, 3, 4, 5]],
+                  [[6, 7], [1, 2, 3, 4, 5, 6]], [[7], [1, 2, 3, 4, 5, 6, 7]]]
+        self.assertEqual(self.of_page(code, path), wanted)
+        for border, chosen in zip(borders, wanted):
+            for word, numbers in zip(("--from", "--to"), chosen):
+                found = json.loads(self.run_inside("zkstat.py", "--json", word, f"{second}{border}Z", path)[1])
+                self.assertEqual([each["n"] for each in found["unanswered"]], numbers, (word, border))
+
+    def test_times_before_1970(self):
+        """As in the tables of --text and zkstat: of a request that is not there, which its reply says."""
+        self.assertEqual(self.of_draw({}, "[-9.75, -0.25, 0, 0.75].map(iso)"),
+                         ["1969-12-31T23:59:59.990Z", "1969-12-31T23:59:59.999Z", *["1970-01-01T00:00:00.000Z"] * 2])
+        path = self.folder / "a.json"
+        path.write_text(json.dumps({"n": 2, "side": "S", "xid": 1, "op": "sync", "path": "/a", "zxid": "0x5",
+                                    "at": 10.5, "ms": 20.25, "of": 1}))
+        for words in (("zkstat.py",), ("zkreport.py", "--text")):
+            self.assertIn("1969-12-31T23:59:59.990Z", self.run_inside(*words, path)[1])
 
     def test_lengths_of_time(self):
         self.assertEqual(self.of_draw({}, "[0.25, 1500, 59999, 60000, 119900, 3599400, 3599500, 3600000, 7199999]"
@@ -76,6 +111,32 @@ class Scripts(ToolCase):
         return self.of_script(f"const document = {{ getElementById: () => ({{ textContent: {json.dumps(data)} }}) }};\n"
                               + "".join((TOOLS / "report" / name).read_text("utf-8")
                                         for name in ("model.js", "draw.js", "tables.js")) + code)
+
+    def test_numbers_that_a_browser_would_round(self):
+        """Of times and latencies, as where a file has nanoseconds, all digits are shown and sorted, with filters too;
+        and of a node's times."""
+        begun, path = 1_795_332_633_000_123_905, self.folder / "a.json"
+        path.write_text("".join(json.dumps(each) + "\n" for each in (
+            {"n": 1, "side": "C", "xid": 1, "op": "sync", "path": "/a", "at": begun},
+            {"n": 2, "side": "C", "xid": 2, "op": "exists", "path": "/b", "watch": False, "at": begun + 1},
+            {"n": 3, "side": "S", "xid": 1, "op": "sync", "path": "/a", "zxid": "0x5", "at": begun + 2 ** 60,
+             "ms": 2 ** 60, "of": 1},
+            {"n": 4, "side": "S", "xid": 2, "op": "exists", "zxid": "0x5", "stat": {"ctime": -2 ** 60 - 1, "mtime": 5},
+             "at": begun + 2 ** 60 + 2, "ms": 2 ** 60 + 1, "of": 2})))
+        code = ("const shown = name => sorted(name, rowsOf(name, matching())).map(row => data.tables[name].columns.map(\n"
+                "  ([name, , kind], at) => [name, cellText(kind, row[at])]).filter(each => /^(at|ms|max|begun|ended)$/.test(\n"
+                "  each[0])).map(each => each[1]));\n"
+                "const all = () => ['sessions', 'connections', 'operations', 'slowest', 'paths'].map(shown);\n"
+                "const plain = all(); filter.slower = 1; const filtered = all(); filter.from = 1;\n"
+                "orders.slowest = { column: 1, direction: 1 }; filter.from = null; const [early] = shown('slowest');\n"
+                "const messages = data.messages[0].map(each => [timeOfDay(each.at), each.stat && each.stat.ctime]);\n"
+                "console.log(JSON.stringify([plain, filtered, early, messages, iso(data.ended)]));")
+        plain, filtered, early, messages, ended = self.of_page(code, path)
+        times, (short, long) = [f"{begun + more} ms" for more in (0, 1, 2 ** 60, 2 ** 60 + 2)], (2 ** 60, 2 ** 60 + 1)
+        self.assertEqual(plain, [[[times[0], times[3]]], [[times[0]]], [[str(long)], [str(short)]],
+                                 [[str(long), times[1]], [str(short), times[0]]], [[str(short)], [str(long)]]])
+        self.assertEqual((filtered, early, ended), (plain, [str(short), times[0]], times[3]))
+        self.assertEqual(messages, [[time, None] for time in times[:3]] + [[times[3], str(-2 ** 60 - 1)]])
 
     def test_filters_say_that_they_leave_out_the_paths_of_multis(self):
         """A multi of /a and /b counts for both, but under filters for neither."""
