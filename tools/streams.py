@@ -6,6 +6,7 @@ captured later. They count as lost once the connection is over, or once too much
 on.
 """
 
+import bisect
 import collections
 import heapq
 from typing import NamedTuple
@@ -44,13 +45,13 @@ class Half:
     """
 
     __slots__ = ("stream", "side", "other", "opened", "first", "next", "place", "written", "sent", "end", "fin",
-                 "acknowledged", "apart", "ready")
+                 "acknowledged", "apart", "spans", "ready")
 
     def __init__(self, stream, side):
         self.stream, self.side, self.other, self.first, self.next, self.end = stream, side, None, -1, -1, None
         self.opened, self.fin = False, None
         self.place = self.written = self.sent = self.acknowledged = 0
-        self.apart = self.ready = ()
+        self.apart = self.spans = self.ready = ()
 
     def take(self, number, milliseconds, sequence, acknowledged, flags, data, snapped):
         """Takes a segment of this side. True where the connection may be over now, or too much waits."""
@@ -114,10 +115,13 @@ class Half:
     def put(self, part):
         """Takes bytes of any place."""
         size = len(part.data)
-        if part.place < self.place:
-            # A byte before those that are next asks whether the other end is alive.
-            self.stream.resent += size > 1 or part.place < self.place - 1
-        if part.place + size <= self.place:
+        end, ends = part.place + size, (self.place, self.spans[-1][1] if self.spans else 0)
+        again = part.place < self.place
+        if end > self.place and (again or self.apart or part.place > self.place):
+            again |= self.cover(part.place, end)
+        # The last byte alone asks whether the other end is alive.
+        self.stream.resent += again and not (size == 1 and end in ends)
+        if end <= self.place:
             return
         self.stream.hold(size + PART_COST)
         if part.place == self.place and not self.apart:
@@ -127,6 +131,16 @@ class Half:
             self.apart = []
         heapq.heappush(self.apart, part)
         self.sort()
+
+    def cover(self, begin, end):
+        """Notes that what came out of order has these places. Returns whether some of them were there before."""
+        spans = self.spans = self.spans or []
+        at, after = bisect.bisect_left(spans, (begin,)), bisect.bisect_left(spans, (end + 1,))
+        at -= at > 0 and spans[at - 1][1] >= begin
+        touched = spans[at:after]
+        places = [begin, end, *(place for span in touched for place in span)]
+        spans[at:after] = [(min(places), max(places))]
+        return any(span[0] < end and begin < span[1] for span in touched)
 
     def sort(self):
         """Moves what is in order now from `apart` to `ready`."""
@@ -140,7 +154,8 @@ class Half:
                 self.add(part, len(part.data))
             else:
                 self.stream.hold(-PART_COST)
-                self.stream.resent += 1
+        while self.spans and self.spans[0][1] <= self.place:
+            del self.spans[0]
 
     def add(self, part, size):
         if not self.ready:
