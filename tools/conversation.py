@@ -203,6 +203,10 @@ class Conversation:
             self.holes = self.holes or dict.fromkeys(SIDES, 0)
             self.holes[side] += size
 
+    def may_end(self, side):
+        """Whether a side may end after the bytes that it has: it doesn't within a frame, as far as frames are known."""
+        return not self.cutter or side in self.sought or not self.cutter.held[side]
+
     def go_on(self, number, milliseconds):
         """Continues after holes."""
         holes, self.holes = self.holes, None
@@ -255,7 +259,7 @@ class Conversation:
         if stream.reset:
             how, ended = {"reset": stream.reset.decode()}, stream.reset_time
         if closer := stream.closer():
-            how, ended = {"closed": closer.side.decode(), **how}, closer.fin.milliseconds
+            how, ended = {"closed": closer[0].decode(), **how}, closer[1]
         *others, last = self.stretches or [Stretch(self.put, self.first, self.began, not self.late)]
         for stretch, after in zip(others, [*others[1:], last]):
             stretch.end(True)

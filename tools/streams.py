@@ -176,14 +176,15 @@ class Half:
 
     def lacks(self):
         """Whether bytes are known to be missing at the end: the other side acknowledged them, or this side's reset has
-        a number after them."""
+        a number after them. One number more is that of the end, which may not have been captured."""
         reset_at = self.stream.reset_at if self.stream.reset == self.side else 0
-        return max(self.end or 0, self.sent) > self.place or max(self.acknowledged, reset_at) > self.place + 1
+        more = self.end is not None or self.stream.sink.may_end(self.side)
+        return max(self.end or 0, self.sent) > self.place or max(self.acknowledged, reset_at) > self.place + more
 
 
 class Stream:
     """A connection. It gives `sink.piece(side, number, milliseconds, data)` the bytes, in order, and
-    `sink.hole(side, size)` where bytes are lost."""
+    `sink.hole(side, size)` where bytes are lost. `sink.may_end(side)` says whether a side may end after what it has."""
 
     __slots__ = ("sink", "budget", "halves", "ends", "first", "begun", "last", "last_time", "held", "snapped", "resent",
                  "reset", "reset_at", "reset_time")
@@ -248,7 +249,8 @@ class Stream:
                     size = min(size, other.apart[0].place - other.place)
                 elif (other.end or 0) > other.place:
                     size = min(size, other.end - other.place)
-                if size == 1 and not other.apart and other.end is None and other.sent <= other.place:
+                if size == 1 and not other.apart and other.end is None and other.sent <= other.place \
+                        and self.sink.may_end(other.side):
                     other.end = other.place  # one alone, with nothing after it, is the end that wasn't captured
                 else:
                     other.lose(size, head.number, head.milliseconds)
@@ -278,13 +280,16 @@ class Stream:
         return self.has_ended() and all(half.acknowledged > half.end for half in self.halves)
 
     def closer(self):
-        """The half that sent the first FIN, or None. It wasn't captured first where the other's acknowledges it."""
-        client, server = self.halves
-        if client.fin and server.fin:
-            if client.fin.follows > server.end:
-                return server
-            return client if server.fin.follows > client.end or client.fin.number < server.fin.number else server
-        return client if client.fin else server if server.fin else None
+        """The side that sent the first FIN, and its time; or None. It wasn't captured first, or not at all, where the
+        other's acknowledges it; its time is then that of the other's, at the latest."""
+        fins = [half for half in self.halves if half.fin]
+        if not fins:
+            return None
+        first = min(fins, key=lambda half: half.fin.number)
+        other = first.other
+        if first.fin.follows > (other.end if other.fin else other.place) and (other.fin or not other.lacks()):
+            return other.side, (other.fin or first.fin).milliseconds
+        return first.side, first.fin.milliseconds
 
     def is_silent(self):
         """Whether no byte was captured."""

@@ -14,6 +14,7 @@ import pcap2zkr
 
 ASK = zkr.Piece(zkr.CLIENT, None, b"ask")
 REPLY = zkr.Piece(zkr.SERVER, None, b"reply")
+FRAME = b"\0\0\0\x08\0\0\0\1\0\0\0\x0b"
 
 
 def opened(said=(ASK, REPLY), **more):
@@ -144,17 +145,43 @@ class Ends(PcapCase):
                 self.assertIn(f" reset={side.decode()}", told[0])
 
     def test_bytes_before_a_reset_that_were_not_captured(self):
-        """The number of the reset says that its side had sent them; an end that wasn't captured counts as one."""
-        for side, size, hole in ((zkr.CLIENT, 5, "C"), (zkr.SERVER, 5, "S"), (zkr.CLIENT, 1, None)):
+        """The number of the reset says that its side had sent them; an end that wasn't captured counts as one. One
+        number alone is that of the end, unless it is in a frame."""
+        for side, size, ask, hole in ((zkr.CLIENT, 5, FRAME, "C"), (zkr.SERVER, 5, FRAME, "S"),
+                                      (zkr.CLIENT, 1, FRAME, None), (zkr.CLIENT, 1, FRAME[:-1], "C"),
+                                      (zkr.CLIENT, 1, FRAME[:2], "C"), (zkr.CLIENT, 1, b"ask no zoo", None)):
             for fin in (0, wire.FIN):
-                with self.subTest(side=side, size=size, fin=fin):
-                    sent = opened([ASK, REPLY, zkr.Piece(side, None, bytes(size - bool(fin)))])
+                with self.subTest(side=side, size=size, ask=ask, fin=fin):
+                    said = [zkr.Piece(zkr.CLIENT, None, ask), REPLY, zkr.Piece(side, None, bytes(size - bool(fin)))]
+                    sent = opened(said)
                     if fin:
                         sent = then(sent, (side, fin | wire.ACK))
                     status, told, made = self.convert(capture_of([*sent[:5], then(sent, (side, wire.RST))[-1]]))
                     self.assertEqual((status, told[0].split()[12:]),
                                      (int(bool(hole)), [f"reset={side.decode()}"] + [f"hole={hole}"] * bool(hole)))
-                    self.assertEqual(sides(made[0]), (b"ask", b"reply"))
+                    self.assertEqual(sides(made[0]), (ask, b"reply"))
+
+    def test_one_number_alone_that_was_not_captured(self):
+        """What acknowledges it says that it was there: it is a byte where it is in a frame, and else the end, after
+        which the other side's end is the second one."""
+        closing = (zkr.SERVER, wire.FIN | wire.ACK)
+        for more, whole, ends, words in (((), True, (), ["open"]), ((), False, (), ["open", "hole=C"]),
+                                         ((), True, (closing,), ["closed=C"]),
+                                         ((), False, (closing,), ["closed=S", "hole=C"]),
+                                         ((REPLY,), True, (closing,), ["closed=C"]),
+                                         ((REPLY,), False, (closing,), ["hole=C"])):
+            with self.subTest(more=more, whole=whole, ends=ends):
+                sent = opened([zkr.Piece(zkr.CLIENT, None, FRAME[:len(FRAME) - (not whole)]), REPLY])
+                sent = then(sent, (zkr.CLIENT, wire.FIN | wire.ACK), (zkr.SERVER, wire.ACK))
+                for piece in more:
+                    sent.append(sent[-1]._replace(data=piece.data))
+                sent = then(sent, *ends)
+                del sent[5]
+                status, told, made = self.convert(capture_of(sent))
+                self.assertEqual((status, told[0].split()[12:]), (int("hole=C" in words), words))
+                self.assertEqual(sides(made[0])[0], FRAME[:len(FRAME) - (not whole)])
+                if more and not whole:
+                    self.assertIn(" closed=S lost=C:1,S:0 ", told[1])
 
     def test_a_last_packet_that_was_not_captured_whole(self):
         """Its bytes are missing though nothing acknowledges them; also where it has the end."""
