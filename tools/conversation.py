@@ -5,6 +5,7 @@ such loss, PREFIX-1.2.zkr and so on, as far as that can be known (stretches.py).
 connect request and connect response, with -1 for every number.
 """
 
+import math
 import struct
 
 import contents
@@ -38,7 +39,7 @@ class Conversation:
         """Begins the first stretch. The client continues with the last one; those before it wait for replies."""
         self.cutter = zkr.Cutter(self.series.head)
         self.stretches = [Stretch(self.put, self.first, self.began, not self.late)]
-        self.stretches[0].owed += self.late
+        self.stretches[0].owed = math.inf if self.late else 0
         # The sides whose connect message has passed; the sides whose frames were not found yet, with the bytes in which
         # they may be; and those whose frames were certainly found.
         self.connected, self.sought, self.trusted = set(), {}, set(SIDES)
