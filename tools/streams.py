@@ -18,7 +18,7 @@ SIDES = (zkr.CLIENT, zkr.SERVER)
 WRAP, MASK = 1 << 31, (1 << 32) - 1
 # The memory of a part that waits, without its bytes.
 PART_COST = 256
-# A reset counts only where its number is near the next one.
+# A reset counts only where its number is near the next one, and so does what a side's first segment acknowledges.
 NEAR = 1 << 24
 
 
@@ -77,6 +77,10 @@ class Half:
             sequence = sequence + 1 & MASK
             stream.resent += self.opened
             self.opened = True
+        elif self.next < 0 and other.opened and flags & ACK \
+                and not 0 <= other.place_of(acknowledged) < other.place + NEAR \
+                or self.next >= 0 and flags & RST and abs(self.place_of(sequence) - self.place) >= NEAR:
+            return False  # it is of a connection with the same ports, which one side alone still knows
         self.begin(sequence)
         stream.snapped |= snapped > 0
         follows = 0
@@ -91,7 +95,7 @@ class Half:
             self.end = after
             self.fin = self.fin or Part(place, follows, number, milliseconds, b"")
         if flags & RST:
-            if abs(place - self.place) < NEAR and not stream.has_ended():
+            if not stream.has_ended():
                 stream.resets(self.side, place, milliseconds)
         elif data or snapped:
             if stream.reset and place >= stream.reset_at and stream.reset == self.side:

@@ -209,6 +209,16 @@ class Ends(PcapCase):
         status, told, _ = self.convert(wire.pcap([*packed(sent[:2]), (sent[2].milliseconds, bytes(packet))], snap=60))
         self.assertEqual((status, told[0].split()[12:]), (0, ["open"]))
 
+    def test_a_port_that_the_server_still_knows(self):
+        """It answers the first packet with what it acknowledged last, which the client resets, and asks once more."""
+        sent, old = opened(numbers=(1 << 31, 7)), opened(numbers=(1 << 20, 1 << 30))[-1]
+        for flags in (wire.ACK, wire.PUSH | wire.ACK):
+            known = old._replace(data=b"", flags=flags)
+            reset = wire.Sent(0, zkr.CLIENT, known.acknowledged, known.number, wire.RST | wire.ACK, b"")
+            status, told, made = self.convert(capture_of([sent[0], known, reset, sent[0], *sent[1:]]))
+            self.assertEqual((status, len(told), [sides(each) for each in made]), (0, 1, [(b"ask", b"reply")]), told)
+            self.assertTrue(told[0].endswith(" packets=1-8 resent=1 open"), told)
+
     def test_a_reset_of_something_else_ends_nothing(self):
         sent = opened([ASK, REPLY, ASK, REPLY])
         for number in (sent[4].number + 5, sent[4].number + (1 << 30)):
