@@ -261,12 +261,12 @@ class Play:
             return True
         while True:
             head = bytes(self.heard[:len(PING)])
-            if due == PING and head:
-                return PING.startswith(head)
+            if head == PING and due == PING:
+                return True
             if head == PING:
                 self.answer_ping()
             elif not PING.startswith(head):
-                return True
+                return due != PING
             elif reason := self.take(until):
                 if due == PING and not head and (self.has_ended or time.monotonic() >= until):
                     return False
