@@ -103,7 +103,9 @@ class Conversation:
         if side in self.cutter.broken:
             stretch = self.stretches[-1 if side == zkr.CLIENT else 0]
             if side in self.trusted and stretch.anchored:
-                self.record(stretch, side, number, milliseconds, bytes(self.cutter.held[side]))
+                begun = self.unfinished if side == zkr.SERVER else 0    # which was written before
+                self.record(stretch, side, number, milliseconds, bytes(self.cutter.held[side][begun:]))
+                self.unfinished -= begun
                 self.cutter.held[side].clear()
             else:
                 self.seek(side)
