@@ -120,7 +120,7 @@ class Half:
         """Takes bytes of any place."""
         size = len(part.data)
         end, ends = part.place + size, (self.place, self.spans[-1][1] if self.spans else 0)
-        again = part.place < self.place
+        again = part.place < self.place and 0 < end
         if end > self.place and (again or self.apart or part.place > self.place):
             again |= self.cover(part.place, end)
         # The last byte alone asks whether the other end is alive.

@@ -64,3 +64,8 @@ class Again(PcapCase):
                 cut = [whole._replace(number=whole.number + begin, data=whole.data[begin:end])
                        for begin, end in places]
                 self.assertIn(f" resent={count} ", self.convert(capture_of([*sent[:3], *cut]))[1][0])
+
+    def test_what_comes_before_the_first_of_a_late_connection(self):
+        sent = list(wire.conversation([zkr.Piece(zkr.CLIENT, None, b"some")] * 4, close=False))[3:]
+        for order, count in ((sent, 0), ([sent[1], sent[0], *sent[2:]], 0), ([sent[0], *sent], 1)):
+            self.assertIn(f" resent={count} open late", self.convert(capture_of(order))[1][0])
