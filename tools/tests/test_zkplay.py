@@ -267,6 +267,15 @@ class Zkplay(ToolCase):
         for size in (1, 3, 4):
             self.assert_played(PING + CLOSE, PONG + bytes(12), (zkr.CLIENT, CLOSE[:size]), (zkr.CLIENT, CLOSE[size:]))
 
+    def test_pings_within_a_frame_of_the_server(self):
+        """They are answered after it, also where it is the last, or another comes in the same piece."""
+        reply, pong = PONG[:4] + b"\0\0\0\1" + bytes(12), PONG + bytes(12)
+        for size in (1, 10, 19):
+            before, after = reply[:size], reply[size:]
+            for more in (b"", reply, reply[:7]):
+                self.assert_played(PING + PING + CLOSE, reply + pong + pong + more, (zkr.SERVER, before),
+                                   (zkr.CLIENT, CLOSE), (zkr.SERVER, after + more))
+
     def test_a_damaged_recording(self):
         path = self.folder / "damaged.zkr"
         path.write_bytes(RUN.read_bytes() + b"X")
