@@ -134,7 +134,7 @@ class Half:
         if not self.apart:
             self.apart = []
         heapq.heappush(self.apart, part)
-        self.sort()
+        self.sort(part.milliseconds)
 
     def cover(self, begin, end):
         """Notes that what came out of order has these places. Returns whether some of them were there before."""
@@ -146,10 +146,13 @@ class Half:
         spans[at:after] = [(min(places), max(places))]
         return any(span[0] < end and begin < span[1] for span in touched)
 
-    def sort(self):
-        """Moves what is in order now from `apart` to `ready`."""
+    def sort(self, milliseconds=0):
+        """Moves what is in order now from `apart` to `ready`: since this time, at the earliest, as its receiver could
+        not read it before."""
         while self.apart and self.apart[0].place <= self.place:
             part = heapq.heappop(self.apart)
+            if part.milliseconds < milliseconds:
+                part = part._replace(milliseconds=milliseconds)
             if part.place < self.place:
                 data = part.data[self.place - part.place:]
                 self.stream.hold(len(data) - len(part.data))
