@@ -18,7 +18,8 @@ SIDES = (zkr.CLIENT, zkr.SERVER)
 WRAP, MASK = 1 << 31, (1 << 32) - 1
 # The memory of a part that waits, without its bytes.
 PART_COST = 256
-# A reset counts only where its number is near the next one, and so does what a side's first segment acknowledges.
+# A reset counts only where its number is near the next one, and so do the number of another segment without bytes, and
+# what a side's first segment acknowledges.
 NEAR = 1 << 24
 
 
@@ -45,12 +46,12 @@ class Half:
     """
 
     __slots__ = ("stream", "side", "other", "opened", "first", "next", "place", "written", "sent", "end", "fin",
-                 "acknowledged", "apart", "spans", "ready")
+                 "acknowledged", "after", "apart", "spans", "ready")
 
     def __init__(self, stream, side):
         self.stream, self.side, self.other, self.first, self.next, self.end = stream, side, None, -1, -1, None
         self.opened, self.fin = False, None
-        self.place = self.written = self.sent = self.acknowledged = 0
+        self.place = self.written = self.sent = self.acknowledged = self.after = 0
         self.apart = self.spans = self.ready = ()
 
     def take(self, number, milliseconds, sequence, acknowledged, flags, data, snapped):
@@ -104,6 +105,8 @@ class Half:
                 self.sent = max(self.sent, after)
             if data:
                 self.put(Part(place, follows, number, milliseconds, data))
+        elif place - self.place < NEAR:
+            self.after = max(self.after, place)
         stream.write()
         return bool(self.fin or other.fin or stream.reset or stream.budget.held > stream.budget.most)
 
@@ -182,11 +185,12 @@ class Half:
         return self.written + (self.end == self.written)
 
     def lacks(self):
-        """Whether bytes are known to be missing at the end: the other side acknowledged them, or this side's reset has
-        a number after them. One number more is that of the end, which may not have been captured."""
+        """Whether bytes are known to be missing at the end: the other side acknowledged them, or a segment of this side
+        has a number after them. One number more is that of the end, which may not have been captured."""
         reset_at = self.stream.reset_at if self.stream.reset == self.side else 0
         more = self.end is not None or self.stream.sink.may_end(self.side)
-        return max(self.end or 0, self.sent) > self.place or max(self.acknowledged, reset_at) > self.place + more
+        return max(self.end or 0, self.sent) > self.place or \
+            max(self.acknowledged, self.after, reset_at) > self.place + more
 
 
 class Stream:
@@ -256,8 +260,8 @@ class Stream:
                     size = min(size, other.apart[0].place - other.place)
                 elif (other.end or 0) > other.place:
                     size = min(size, other.end - other.place)
-                if size == 1 and not other.apart and other.end is None and other.sent <= other.place \
-                        and self.sink.may_end(other.side):
+                if size == 1 and not other.apart and other.end is None \
+                        and max(other.sent, other.after - 1) <= other.place and self.sink.may_end(other.side):
                     other.end = other.place  # one alone, with nothing after it, is the end that wasn't captured
                 else:
                     other.lose(size, head.number, head.milliseconds)

@@ -183,6 +183,20 @@ class Ends(PcapCase):
                 if more and not whole:
                     self.assertIn(" closed=S lost=C:1,S:0 ", told[1])
 
+    def test_the_number_of_a_last_packet_without_bytes(self):
+        """It says that what is before it was sent, though nothing acknowledges that; or that the side had ended."""
+        client, server, ask = zkr.CLIENT, zkr.SERVER, zkr.Piece(zkr.CLIENT, None, FRAME)
+        end = client, wire.FIN | wire.ACK
+        for said, gone, more, words in (([ask, REPLY, REPLY], 5, [(server, wire.ACK)], ["open", "hole=S"]),
+                                        ([ask, REPLY, REPLY], None, [(server, wire.ACK)], ["open"]),
+                                        ([ask, REPLY], 5, [end, (client, wire.ACK)], ["open"]),
+                                        ([ask, REPLY], None, [end, (client, wire.ACK)], ["closed=C"]),
+                                        ([ask, REPLY, ask], 5, [end, (client, wire.ACK)], ["closed=C", "hole=C"])):
+            with self.subTest(gone=gone, words=words):
+                sent = then(opened(said), *more)
+                status, told, _ = self.convert(capture_of([each for at, each in enumerate(sent) if at != gone]))
+                self.assertEqual((status, told[0].split()[12:]), (int("hole" in words[-1]), words))
+
     def test_a_last_packet_that_was_not_captured_whole(self):
         """Its bytes are missing though nothing acknowledges them; also where it has the end."""
         for side, name, link, size in ((zkr.CLIENT, "C", "ethernet", 54), (zkr.SERVER, "S", "raw", 40)):
