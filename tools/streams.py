@@ -78,7 +78,7 @@ class Half:
             sequence = sequence + 1 & MASK
             stream.resent += self.opened
             self.opened = True
-        elif self.next < 0 and other.opened and flags & ACK \
+        elif self.next < 0 and other.opened and flags & ACK and not (data or snapped) \
                 and not 0 <= other.place_of(acknowledged) < other.place + NEAR \
                 or self.next >= 0 and flags & RST and abs(self.place_of(sequence) - self.place) >= NEAR:
             return False  # it is of a connection with the same ports, which one side alone still knows
