@@ -18,8 +18,7 @@ SIDES = (zkr.CLIENT, zkr.SERVER)
 WRAP, MASK = 1 << 31, (1 << 32) - 1
 # The memory of a part that waits, without its bytes.
 PART_COST = 256
-# A reset counts only where its number is near the next one, and so do the number of another segment without bytes, and
-# what a side's first segment acknowledges.
+# A segment without bytes counts only where its number is near those that are known.
 NEAR = 1 << 24
 
 
@@ -78,9 +77,9 @@ class Half:
             sequence = sequence + 1 & MASK
             stream.resent += self.opened
             self.opened = True
-        elif self.next < 0 and other.opened and flags & ACK and not (data or snapped) \
-                and not 0 <= other.place_of(acknowledged) < other.place + NEAR \
-                or self.next >= 0 and flags & RST and abs(self.place_of(sequence) - self.place) >= NEAR:
+        elif (flags & RST or not (data or snapped)) and not (
+                self.is_near(sequence) if self.next >= 0 else
+                not (other.opened and flags & ACK) or other.is_near(acknowledged)):
             return False  # it is of a connection with the same ports, which one side alone still knows
         self.begin(sequence)
         stream.snapped |= snapped > 0
@@ -105,7 +104,7 @@ class Half:
                 self.sent = max(self.sent, after)
             if data:
                 self.put(Part(place, follows, number, milliseconds, data))
-        elif place - self.place < NEAR:
+        else:
             self.after = max(self.after, place)
         stream.write()
         return bool(self.fin or other.fin or stream.reset or stream.budget.held > stream.budget.most)
@@ -118,6 +117,11 @@ class Half:
     def place_of(self, sequence):
         """The place of a sequence number: of all places with that number modulo 2^32, the nearest to `place`."""
         return self.place + (sequence - self.next + WRAP & MASK) - WRAP
+
+    def is_near(self, sequence):
+        """Whether a sequence number is near those of the bytes that are known, in order or not."""
+        place = self.place_of(sequence)
+        return any(abs(place - known) < NEAR for known in (self.place, *(self.spans[-1] if self.spans else ())))
 
     def put(self, part):
         """Takes bytes of any place."""

@@ -1,5 +1,6 @@
 """Tests of how pcap2zkr.py reports the ends of connections, and forgets them."""
 
+import itertools
 import random
 import signal
 import subprocess
@@ -233,12 +234,21 @@ class Ends(PcapCase):
             self.assertEqual((status, len(told), [sides(each) for each in made]), (0, 1, [(b"ask", b"reply")]), told)
             self.assertTrue(told[0].endswith(" packets=1-8 resent=1 open"), told)
 
-    def test_a_reset_of_something_else_ends_nothing(self):
+    def test_what_is_of_something_else_ends_nothing(self):
         sent = opened([ASK, REPLY, ASK, REPLY])
-        for number in (sent[4].number + 5, sent[4].number + (1 << 30)):
-            strange = sent[4]._replace(number=number, flags=wire.RST, data=b"")
+        for flags, number in ((wire.RST, 5), *itertools.product((wire.RST, wire.FIN | wire.ACK, wire.ACK), (1 << 30,))):
+            strange = sent[4]._replace(number=sent[4].number + number, flags=flags, data=b"",
+                                       acknowledged=sent[4].acknowledged + (1 << 30))
             found, _ = self.end_words([*sent[:5], strange, *sent[5:]])
             self.assertEqual(found, ["open"])
+
+    def test_an_end_after_many_bytes_that_were_not_captured(self):
+        sent = then(opened([ASK, REPLY, REPLY]), (zkr.SERVER, wire.FIN | wire.ACK))
+        for last, word in ((sent[6], "closed=S"), (sent[6]._replace(flags=wire.RST | wire.ACK), "reset=S")):
+            far = [each._replace(number=each.number + (1 << 25)) for each in (sent[5], last)]
+            status, told, _ = self.convert(capture_of([*sent[:5], *far]))
+            self.assertEqual((status, told[0].split()[-1]), (1, "hole=S"))
+            self.assertIn(f" {word} lost=C:0,S:{1 << 25} ", told[1])
 
 
 def sides_of(said):
