@@ -72,7 +72,10 @@ def came(client, size):
 
 
 def connect(port):
-    client = socket.create_connection(("127.0.0.1", port))
+    try:
+        client = socket.create_connection(("127.0.0.1", port))
+    except OSError as error:
+        raise SystemExit(f"no connection to port {port}: {error.strerror}") from None
     client.setsockopt(socket.IPPROTO_TCP, socket.TCP_NODELAY, 1)
     return client
 
@@ -152,7 +155,7 @@ def main():
             size = words.megabytes * 1_000_000
             for name, port in (("direct", direct), ("through record.py", through)):
                 print(f"{name}: {flood(port, size):,.0f} MB/s each way", flush=True)
-        except ConnectionError:
+        except (ConnectionError, TimeoutError):
             raise SystemExit("a connection has ended before its answers") from None     # it is no measure
         finally:
             end(recorder)

@@ -8,6 +8,7 @@ LIBRARY is libzk.so.1 (docs/LIBRARY.md).
 """
 
 import ctypes
+import io
 import sys
 
 CLIENT, SERVER = 0, 1
@@ -243,9 +244,9 @@ def said(library, listing):
     """The recording of the messages of a listing."""
     with Speaker(library) as speaker:
         yield b"ZKR1"
-        for line in listing.splitlines():
+        for line in io.BytesIO(listing):    # which ends at a line feed alone
             if not line.startswith(b"."):
-                frame = speaker.say(line)
+                frame = speaker.say(line.removesuffix(b"\n"))
                 yield line[:1] + len(frame).to_bytes(4, "big") + frame
 
 

@@ -194,6 +194,17 @@ def fail_within(shared):
     yield "talk.py, no memory", good, f"talk.py, no memory: {lines}, {status}"
 
 
+def say_lines(folder, *words):
+    """Whether talk.py --say takes lines that a line feed ends, as zkdump build does, and no other mark."""
+    first, _, rest = (CAPTURES / "kazoo_basic.show").read_bytes().partition(b"\n")
+    path = pathlib.Path(folder, "said.show")
+    for mark in (b"\n", b"\r", b"\r\n", b"\n\n", b"\f"):
+        path.write_bytes(first + mark + rest)
+        found = subprocess.run([*words, "--say", path], capture_output=True)
+        good = (found.returncode == 0) == (mark == b"\n") == (not found.stderr)
+        yield "--say", good, f"talk.py --say, {mark}: status {found.returncode}, {found.stderr}"
+
+
 def wait_late(folder, program):
     """Whether a reader that comes late reports that more requests wait than may, and that it reads no further."""
     path = pathlib.Path(folder, "waiting.zkr")
@@ -346,6 +357,7 @@ def check(folder, archive, shared, cc):
         yield from list_damaged(folder, name, words)
     yield from fail_to_read(folder, archive, cc)
     yield from fail_within(shared)
+    yield from say_lines(folder, sys.executable, EXAMPLES / "talk.py", str(shared))
     yield from come_late(programs["late"])
     yield from list_damaged(folder, "late.c", [programs["late"]], "2")
     yield from wait_late(folder, programs["late"])

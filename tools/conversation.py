@@ -5,6 +5,7 @@ such loss, PREFIX-1.2.zkr and so on, as far as that can be known (stretches.py).
 connect request and connect response, with -1 for every number.
 """
 
+import math
 import struct
 
 import contents
@@ -38,7 +39,7 @@ class Conversation:
         """Begins the first stretch. The client continues with the last one; those before it wait for replies."""
         self.cutter = zkr.Cutter(self.series.head)
         self.stretches = [Stretch(self.put, self.first, self.began, not self.late)]
-        self.stretches[0].owed += self.late
+        self.stretches[0].owed = math.inf if self.late else 0
         # The sides whose connect message has passed; the sides whose frames were not found yet, with the bytes in which
         # they may be; and those whose frames were certainly found.
         self.connected, self.sought, self.trusted = set(), {}, set(SIDES)
@@ -102,7 +103,9 @@ class Conversation:
         if side in self.cutter.broken:
             stretch = self.stretches[-1 if side == zkr.CLIENT else 0]
             if side in self.trusted and stretch.anchored:
-                self.record(stretch, side, number, milliseconds, bytes(self.cutter.held[side]))
+                begun = self.unfinished if side == zkr.SERVER else 0    # which was written before
+                self.record(stretch, side, number, milliseconds, bytes(self.cutter.held[side][begun:]))
+                self.unfinished -= begun
                 self.cutter.held[side].clear()
             else:
                 self.seek(side)
@@ -203,6 +206,10 @@ class Conversation:
             self.holes = self.holes or dict.fromkeys(SIDES, 0)
             self.holes[side] += size
 
+    def may_end(self, side):
+        """Whether a side may end after the bytes that it has: it doesn't within a frame, as far as frames are known."""
+        return not self.cutter or side in self.sought or not self.cutter.held[side]
+
     def go_on(self, number, milliseconds):
         """Continues after holes."""
         holes, self.holes = self.holes, None
@@ -255,7 +262,7 @@ class Conversation:
         if stream.reset:
             how, ended = {"reset": stream.reset.decode()}, stream.reset_time
         if closer := stream.closer():
-            how, ended = {"closed": closer.side.decode(), **how}, closer.fin.milliseconds
+            how, ended = {"closed": closer[0].decode(), **how}, closer[1]
         *others, last = self.stretches or [Stretch(self.put, self.first, self.began, not self.late)]
         for stretch, after in zip(others, [*others[1:], last]):
             stretch.end(True)

@@ -1,8 +1,8 @@
 """TCP segments out of capture files, as tcpdump and Wireshark write them: pcap and pcapng, also packed with gzip.
 
 Links: Ethernet and the cooked captures of Linux (SLL and SLL2), all with any number of VLAN tags, raw IP, and the
-loopback of BSD and macOS. Networks: IPv4 and IPv6. A packet that was sent in fragments is passed over, and so
-is what isn't TCP.
+loopback of BSD and macOS. Networks: IPv4 and IPv6. A packet that was sent in fragments is passed over, though not one
+whose only fragment is all of it, and so is what isn't TCP.
 
 A segment is a plain tuple, since there are many of them:
 
@@ -27,6 +27,7 @@ LINKS = {0: (None, 4), 108: (None, 4), 12: (None, 0), 14: (None, 0), 101: (None,
          ETHERNET: (12, 14), 113: (14, 16), 276: (0, 20)}
 VLANS, IP_KINDS = (b"\x81\x00", b"\x88\xa8", b"\x91\x00"), (b"\x08\x00", b"\x86\xdd")
 FRAGMENTED, EXTENSIONS, TCP = 0x3FFF, (0, 43, 60), 6
+FRAGMENT, PARTIAL = 44, 0xFFF9      # IPv6's header of fragments: its place, and whether more follow
 IPV4, TCP_HEAD = struct.Struct(">2xH2xHxB"), struct.Struct(">HHIIBB")
 # Ethernet, IPv4 without options, and TCP: the heads of nearly all packets.
 USUAL, IPV4_KIND, IPV4_PLAIN = struct.Struct(">12xHBxH2xHxB10xHHIIBB"), 0x0800, 0x45
@@ -78,7 +79,7 @@ def segments(stream):
     mark = source.exactly(4) if source.more(0) else b""
     packets = packets_of_pcapng(source) if mark == b"\x0a\x0d\x0d\x0a" else packets_of_pcap(source, mark)
     unpack_ip, unpack_tcp, unpack_usual, usual = IPV4.unpack_from, TCP_HEAD.unpack_from, USUAL.unpack_from, USUAL.size
-    for number, (milliseconds, link, packet, at, end) in enumerate(packets, 1):
+    for number, (milliseconds, link, packet, at, end, cut) in enumerate(packets, 1):
         if not 0 <= milliseconds < LATEST:
             raise NotRead(f"packet {number} has no time between the years 1970 and 9999: correct it with editcap -t")
         if link == ETHERNET and end - at >= usual:
@@ -86,7 +87,7 @@ def segments(stream):
                 unpack_usual(packet, at)
             if kind == IPV4_KIND and version == IPV4_PLAIN and protocol == TCP and not fragment & FRAGMENTED:
                 if length >= 0x50:
-                    whole, begin = at + 14 + size if size else end, at + 34 + (length >> 4) * 4
+                    whole, begin = at + 14 + size if size else end + cut, at + 34 + (length >> 4) * 4
                     yield (number, milliseconds, packet[at + 26:at + 38], source_port, target_port, sequence,
                            acknowledged, flags, packet[begin:whole if whole < end else end],
                            whole > end and max(0, whole - max(begin, end)))
@@ -97,12 +98,13 @@ def segments(stream):
             if kind != TCP or fragment & FRAGMENTED:
                 continue
             # 0 where the network card cuts the packet only later
-            whole, ends, at = at + size if size else end, packet[at + 12:at + 24], at + 20
+            whole, ends, at = at + size if size else end + cut, packet[at + 12:at + 24], at + 20
         else:
             found = other_network(packet, at, end)
             if not found:
                 continue
             at, whole, ends = found
+            whole = whole or end + cut
         source_port, target_port, sequence, acknowledged, length, flags = unpack_tcp(packet, at)
         if length < 0x50:
             continue
@@ -112,8 +114,8 @@ def segments(stream):
 
 
 def packets_of_pcap(source, mark):
-    """The packets of a pcap file, whose first four bytes were read: for each its time, its link type, and bytes with
-    the places in them where it begins and ends."""
+    """The packets of a pcap file, whose first four bytes were read: for each its time, its link type, bytes with the
+    places in them where it begins and ends, and how many bytes of its end were not captured."""
     forms = {struct.pack(order + "I", number): (order, unit)
              for order in "<>" for number, unit in ((0xA1B2C3D4, 1e-3), (0xA1B23C4D, 1e-6))}
     if mark not in forms:
@@ -126,11 +128,11 @@ def packets_of_pcap(source, mark):
     while True:
         size, last = 0, len(data)
         while at + 16 <= last:
-            seconds, part, size, _ = unpack(data, at)
+            seconds, part, size, sent = unpack(data, at)
             end = at + 16 + size
             if end > last:
                 break
-            yield seconds * 1000 + part * unit, link, data, at + 16, end
+            yield seconds * 1000 + part * unit, link, data, at + 16, end, sent > size and sent - size
             at = end
         if size > LARGEST_PACKET:
             raise NotRead(f"the capture is damaged: it has a packet of {size} bytes")
@@ -155,10 +157,11 @@ def packets_of_pcapng(source):
         if kind == INTERFACE:
             interfaces.append((struct.unpack_from(order + "H", body)[0], *clock_of(order, body[8:])))
         elif kind == PACKET:
-            interface, high, low, length = struct.unpack_from(order + "IIII", body)
+            interface, high, low, length, sent = struct.unpack_from(order + "IIIII", body)
             link, rate, offset = interfaces[interface]
             seconds, part = divmod((high << 32) + low, rate)    # a float has no room for all digits
-            yield (seconds + offset) * 1000 + part * 1000 / rate, link, body, 20, min(20 + length, len(body))
+            end = min(20 + length, len(body))
+            yield (seconds + offset) * 1000 + part * 1000 / rate, link, body, 20, end, sent > length and sent - length
         elif kind in OLD_PACKETS:
             raise NotRead("this is a pcapng of an old form: convert it with editcap -F pcapng OLD NEW")
         if source.at == len(source.data) and not source.more(source.at):
@@ -212,7 +215,8 @@ def network_place(link, packet, at):
 
 
 def other_network(packet, at, end):
-    """Of an IP packet: where TCP begins, where it should end, and the ends. None if there is no TCP."""
+    """Of an IP packet: where TCP begins, where the packet should end, or 0 if it doesn't say that, and the ends. None
+    if there is no TCP."""
     version = packet[at] >> 4 if at < end else 0
     if version == 4 and end - at >= 20:
         size, fragment, kind = IPV4.unpack_from(packet, at)
@@ -223,10 +227,15 @@ def other_network(packet, at, end):
         size, kind, tcp, addresses = struct.unpack_from(">H", packet, at + 4)[0], packet[at + 6], at + 40, \
             packet[at + 8:at + 40]
         size += 40 if size else 0
-        while kind in EXTENSIONS and end >= tcp + 8:
-            kind, tcp = packet[tcp], tcp + 8 + packet[tcp + 1] * 8
+        while end >= tcp + 8:
+            if kind in EXTENSIONS:
+                kind, tcp = packet[tcp], tcp + 8 + packet[tcp + 1] * 8
+            elif kind == FRAGMENT and not int.from_bytes(packet[tcp + 2:tcp + 4], "big") & PARTIAL:
+                kind, tcp = packet[tcp], tcp + 8
+            else:
+                break
     else:
         return None
     if kind != TCP or end < tcp + 20:
         return None
-    return tcp, at + size if size else end, addresses + packet[tcp:tcp + 4]
+    return tcp, at + size if size else 0, addresses + packet[tcp:tcp + 4]

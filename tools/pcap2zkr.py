@@ -15,12 +15,15 @@ again. `closed=C` means that the client sent the first FIN, `reset=S` that the s
 neither was captured; `ended` is the time of that, or of the last packet.
 
 Bytes are written only after everything that their sender had acknowledged, so no reply comes before its request, in
-whatever order packets were captured. Where bytes are missing, the recording ends before them, and its line has `hole=C`
-or `hole=S`, the side of the missing bytes. What follows them becomes PREFIX-1.2.zkr and so on, each with its line. Such
-a recording has a made-up connect request and response (all numbers -1), and then begins with the first request whose
-reply is there. Its line has the numbers of bytes of each side that were not captured before it (`lost=C:0,S:96`), of
-captured bytes that are left out (`skipped=C:120,S:300`), and of replies that are left out because their requests are
-not in it (`unasked=3`). `snapped` means that packets were not captured whole.
+whatever order packets were captured. They have the time of their packet, or where bytes before them were captured
+later, as after a loss on the network, the time from which all were there. Where bytes are missing, the recording ends
+before them, and its line has `hole=C` or `hole=S`, the side of the missing bytes. What follows them becomes
+PREFIX-1.2.zkr and so on, each with its line. Such a recording has a made-up connect request and response (all numbers
+-1), and then begins with the first request whose reply is there. Its line has the numbers of bytes of each side that
+were not captured before it (`lost=C:0,S:96`), of captured bytes that are left out (`skipped=C:120,S:300`), and of
+replies that are left out because their requests are not in it (`unasked=3`). `snapped` means that packets were not
+captured whole. One byte alone that is missing after a side's last whole message can't be told from its FIN, and counts
+as that.
 
 A connection that began before the capture gets a line with `late`, and no recording. With --late it gets one, which
 begins in the same way as after missing bytes.

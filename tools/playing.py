@@ -55,7 +55,8 @@ class Faults:
 
 class Play:
     """One connection. `pings` counts the client's pings that were answered and not recorded, `spare` those of them that
-    no recorded ping has been set against, and `missed` the recorded pings whose replies are still to be left out."""
+    no recorded ping has been set against, `owed` those whose replies wait for the end of a frame of the own side, and
+    `missed` the recorded pings whose replies are still to be left out."""
 
     def __init__(self, open_recording, own, connection, wait, faults=Faults(), writer=None):
         self.open_recording, self.own, self.connection, self.wait = open_recording, own, connection, wait
@@ -64,7 +65,7 @@ class Play:
         self.peer = zkr.SERVER if own == zkr.CLIENT else zkr.CLIENT
         self.at = {zkr.CLIENT: Position(), zkr.SERVER: Position()}
         self.heard, self.has_ended, self.zxid = bytearray(), False, bytes(8)
-        self.pings = self.spare = self.missed = 0
+        self.pings = self.spare = self.owed = self.missed = 0
         self.unsaid = b""                       # the beginning of a frame that may be left out
         # A recording of what is said, how the connection ended, and the sides of which the recording lacks bytes.
         self.writer, self.ended, self.hole = writer, {}, ()
@@ -106,6 +107,7 @@ class Play:
         said, at, is_end = bytearray(), self.at[self.own], False
         data, self.unsaid = self.unsaid + data, b""
         for part in at.parts(data):
+            said += self.due_replies()
             if self.missed and at.begins() and PING_REPLY.startswith(part[:len(PING_REPLY)]):
                 if len(part) < WHOLE_REPLY:
                     self.unsaid = part
@@ -122,7 +124,7 @@ class Play:
             if is_end:
                 at.offset += left
                 break
-        self.send(said)
+        self.send(said + self.due_replies())
         if is_end:
             self.end_here()
         return is_end
@@ -261,12 +263,12 @@ class Play:
             return True
         while True:
             head = bytes(self.heard[:len(PING)])
-            if due == PING and head:
-                return PING.startswith(head)
+            if head == PING and due == PING:
+                return True
             if head == PING:
                 self.answer_ping()
             elif not PING.startswith(head):
-                return True
+                return due != PING
             elif reason := self.take(until):
                 if due == PING and not head and (self.has_ended or time.monotonic() >= until):
                     return False
@@ -277,8 +279,14 @@ class Play:
 
     def answer_ping(self):
         del self.heard[:len(PING)]
-        self.pings, self.spare = self.pings + 1, self.spare + 1
-        self.send(PING_REPLY + self.zxid + bytes(4))
+        self.pings, self.spare, self.owed = self.pings + 1, self.spare + 1, self.owed + 1
+        self.send(self.due_replies())
+
+    def due_replies(self):
+        """The replies to pings that wait, where the own side is between two frames."""
+        owed = self.owed if self.at[self.own].begins() else 0
+        self.owed -= owed
+        return (PING_REPLY + self.zxid + bytes(4)) * owed
 
     def hear_end(self):
         """Waits for the peer's end, before which nothing but pings may come; silence counts as an end."""

@@ -6,6 +6,7 @@ captured later. They count as lost once the connection is over, or once too much
 on.
 """
 
+import bisect
 import collections
 import heapq
 from typing import NamedTuple
@@ -17,7 +18,7 @@ SIDES = (zkr.CLIENT, zkr.SERVER)
 WRAP, MASK = 1 << 31, (1 << 32) - 1
 # The memory of a part that waits, without its bytes.
 PART_COST = 256
-# A reset counts only where its number is near the next one.
+# A segment without bytes counts only where its number is near those that are known.
 NEAR = 1 << 24
 
 
@@ -44,13 +45,13 @@ class Half:
     """
 
     __slots__ = ("stream", "side", "other", "opened", "first", "next", "place", "written", "sent", "end", "fin",
-                 "acknowledged", "apart", "ready")
+                 "acknowledged", "after", "apart", "spans", "ready")
 
     def __init__(self, stream, side):
         self.stream, self.side, self.other, self.first, self.next, self.end = stream, side, None, -1, -1, None
         self.opened, self.fin = False, None
-        self.place = self.written = self.sent = self.acknowledged = 0
-        self.apart = self.ready = ()
+        self.place = self.written = self.sent = self.acknowledged = self.after = 0
+        self.apart = self.spans = self.ready = ()
 
     def take(self, number, milliseconds, sequence, acknowledged, flags, data, snapped):
         """Takes a segment of this side. True where the connection may be over now, or too much waits."""
@@ -76,6 +77,10 @@ class Half:
             sequence = sequence + 1 & MASK
             stream.resent += self.opened
             self.opened = True
+        elif (flags & RST or not (data or snapped)) and not (
+                self.is_near(sequence) if self.next >= 0 else
+                not (other.opened and flags & ACK) or other.is_near(acknowledged)):
+            return False  # it is of a connection with the same ports, which one side alone still knows
         self.begin(sequence)
         stream.snapped |= snapped > 0
         follows = 0
@@ -90,7 +95,7 @@ class Half:
             self.end = after
             self.fin = self.fin or Part(place, follows, number, milliseconds, b"")
         if flags & RST:
-            if abs(place - self.place) < NEAR and not stream.has_ended():
+            if not stream.has_ended():
                 stream.resets(self.side, place, milliseconds)
         elif data or snapped:
             if stream.reset and place >= stream.reset_at and stream.reset == self.side:
@@ -99,6 +104,8 @@ class Half:
                 self.sent = max(self.sent, after)
             if data:
                 self.put(Part(place, follows, number, milliseconds, data))
+        else:
+            self.after = max(self.after, place)
         stream.write()
         return bool(self.fin or other.fin or stream.reset or stream.budget.held > stream.budget.most)
 
@@ -111,13 +118,21 @@ class Half:
         """The place of a sequence number: of all places with that number modulo 2^32, the nearest to `place`."""
         return self.place + (sequence - self.next + WRAP & MASK) - WRAP
 
+    def is_near(self, sequence):
+        """Whether a sequence number is near those of the bytes that are known, in order or not."""
+        place = self.place_of(sequence)
+        return any(abs(place - known) < NEAR for known in (self.place, *(self.spans[-1] if self.spans else ())))
+
     def put(self, part):
         """Takes bytes of any place."""
         size = len(part.data)
-        if part.place < self.place:
-            # A byte before those that are next asks whether the other end is alive.
-            self.stream.resent += size > 1 or part.place < self.place - 1
-        if part.place + size <= self.place:
+        end, ends = part.place + size, (self.place, self.spans[-1][1] if self.spans else 0)
+        again = part.place < self.place and 0 < end
+        if end > self.place and (again or self.apart or part.place > self.place):
+            again |= self.cover(part.place, end)
+        # The last byte alone asks whether the other end is alive.
+        self.stream.resent += again and not (size == 1 and end in ends)
+        if end <= self.place:
             return
         self.stream.hold(size + PART_COST)
         if part.place == self.place and not self.apart:
@@ -126,12 +141,25 @@ class Half:
         if not self.apart:
             self.apart = []
         heapq.heappush(self.apart, part)
-        self.sort()
+        self.sort(part.milliseconds)
 
-    def sort(self):
-        """Moves what is in order now from `apart` to `ready`."""
+    def cover(self, begin, end):
+        """Notes that what came out of order has these places. Returns whether some of them were there before."""
+        spans = self.spans = self.spans or []
+        at, after = bisect.bisect_left(spans, (begin,)), bisect.bisect_left(spans, (end + 1,))
+        at -= at > 0 and spans[at - 1][1] >= begin
+        touched = spans[at:after]
+        places = [begin, end, *(place for span in touched for place in span)]
+        spans[at:after] = [(min(places), max(places))]
+        return any(span[0] < end and begin < span[1] for span in touched)
+
+    def sort(self, milliseconds=0):
+        """Moves what is in order now from `apart` to `ready`: since this time, at the earliest, as its receiver could
+        not read it before."""
         while self.apart and self.apart[0].place <= self.place:
             part = heapq.heappop(self.apart)
+            if part.milliseconds < milliseconds:
+                part = part._replace(milliseconds=milliseconds)
             if part.place < self.place:
                 data = part.data[self.place - part.place:]
                 self.stream.hold(len(data) - len(part.data))
@@ -140,7 +168,8 @@ class Half:
                 self.add(part, len(part.data))
             else:
                 self.stream.hold(-PART_COST)
-                self.stream.resent += 1
+        while self.spans and self.spans[0][1] <= self.place:
+            del self.spans[0]
 
     def add(self, part, size):
         if not self.ready:
@@ -160,15 +189,17 @@ class Half:
         return self.written + (self.end == self.written)
 
     def lacks(self):
-        """Whether bytes are known to be missing at the end: the other side acknowledged them, or this side's reset has
-        a number after them."""
+        """Whether bytes are known to be missing at the end: the other side acknowledged them, or a segment of this side
+        has a number after them. One number more is that of the end, which may not have been captured."""
         reset_at = self.stream.reset_at if self.stream.reset == self.side else 0
-        return max(self.end or 0, self.sent) > self.place or max(self.acknowledged, reset_at) > self.place + 1
+        more = self.end is not None or self.stream.sink.may_end(self.side)
+        return max(self.end or 0, self.sent) > self.place or \
+            max(self.acknowledged, self.after, reset_at) > self.place + more
 
 
 class Stream:
     """A connection. It gives `sink.piece(side, number, milliseconds, data)` the bytes, in order, and
-    `sink.hole(side, size)` where bytes are lost."""
+    `sink.hole(side, size)` where bytes are lost. `sink.may_end(side)` says whether a side may end after what it has."""
 
     __slots__ = ("sink", "budget", "halves", "ends", "first", "begun", "last", "last_time", "held", "snapped", "resent",
                  "reset", "reset_at", "reset_time")
@@ -233,7 +264,8 @@ class Stream:
                     size = min(size, other.apart[0].place - other.place)
                 elif (other.end or 0) > other.place:
                     size = min(size, other.end - other.place)
-                if size == 1 and not other.apart and other.end is None and other.sent <= other.place:
+                if size == 1 and not other.apart and other.end is None \
+                        and max(other.sent, other.after - 1) <= other.place and self.sink.may_end(other.side):
                     other.end = other.place  # one alone, with nothing after it, is the end that wasn't captured
                 else:
                     other.lose(size, head.number, head.milliseconds)
@@ -263,13 +295,16 @@ class Stream:
         return self.has_ended() and all(half.acknowledged > half.end for half in self.halves)
 
     def closer(self):
-        """The half that sent the first FIN, or None. It wasn't captured first where the other's acknowledges it."""
-        client, server = self.halves
-        if client.fin and server.fin:
-            if client.fin.follows > server.end:
-                return server
-            return client if server.fin.follows > client.end or client.fin.number < server.fin.number else server
-        return client if client.fin else server if server.fin else None
+        """The side that sent the first FIN, and its time; or None. It wasn't captured first, or not at all, where the
+        other's acknowledges it; its time is then that of the other's, at the latest."""
+        fins = [half for half in self.halves if half.fin]
+        if not fins:
+            return None
+        first = min(fins, key=lambda half: half.fin.number)
+        other = first.other
+        if first.fin.follows > (other.end if other.fin else other.place) and (other.fin or not other.lacks()):
+            return other.side, (other.fin or first.fin).milliseconds
+        return first.side, first.fin.milliseconds
 
     def is_silent(self):
         """Whether no byte was captured."""

@@ -54,8 +54,9 @@ class Stretch:
         self.recording, self.part, self.holes = None, 1, set()
         self.lost, self.skipped, self.unasked = dict.fromkeys(SIDES, 0), dict.fromkeys(SIDES, 0), 0
         self.anchored, self.matched = whole, whole
-        # How many replies to pings may be to pings from before it, and those that came; and the last messages that were
-        # held back when one came, and when bytes of the server were lost.
+        # How many replies to pings may be to pings from before it (of a capture that begins later: any number), and
+        # those that came; and the last messages that were held back when one came, and when bytes of the server were
+        # lost.
         self.owed, self.pongs, self.pinged, self.doubted = 0, [], None, None
         self.back, self.asked = collections.deque(), {}
         self.ordinary = collections.deque()

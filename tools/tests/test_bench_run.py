@@ -230,6 +230,14 @@ class Failing(ToolCase):
             self.assertEqual((done.returncode, done.stderr), (1, "a connection has ended before its answers\n"))
             self.assertEqual(done.stdout.count("\n"), lines)
 
+    def test_a_connection_that_is_refused(self):
+        script, record = self.checkout()
+        record.write_text(LISTENS + "listener.close()\nsignal.pause()\n")
+        done = subprocess.run([sys.executable, script, "--rounds", "1", "--megabytes", "1"], capture_output=True,
+                              text=True, check=False, timeout=50)
+        self.assertEqual(done.returncode, 1)
+        self.assertRegex(done.stderr, r"^no connection to port \d+: Connection refused\n$")
+
 
 class Library(ToolCase):
     def test_what_is_refused_or_cut(self):

@@ -211,6 +211,19 @@ class Order(PcapCase):
         self.assertEqual((status, sides(made[0])), (0, (ask, first + reply)))
 
 
+    def test_the_times_of_bytes_that_waited_for_others(self):
+        """They were there once those before them were: where these were sent again, and not where packets were only
+        captured in disorder."""
+        sent = list(wire.conversation([zkr.Piece(zkr.CLIENT, None, b"abcdef")], 2, close=False))
+        again = sent[4]._replace(milliseconds=sent[4].milliseconds + 200)
+        both = again._replace(data=b"cdef")
+        for more, times in (([sent[5], again], [3, 204, 204]), ([sent[5], sent[4]], [3, 4, 5]),
+                            ([sent[5], both], [3, 204])):
+            status, _, made = self.convert(capture_of([*sent[:4], *more]), "--format", "zkr2")
+            self.assertEqual((status, sides(made[0])), (0, (b"abcdef", b"")))
+            self.assertEqual([piece.milliseconds - wire.BEGUN for piece in pieces(made[0])], times)
+
+
 class Missing(PcapCase):
     def test_a_hole_ends_the_recording_before_it(self):
         chance = random.Random(11)

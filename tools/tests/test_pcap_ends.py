@@ -1,5 +1,6 @@
 """Tests of how pcap2zkr.py reports the ends of connections, and forgets them."""
 
+import itertools
 import random
 import signal
 import subprocess
@@ -14,6 +15,7 @@ import pcap2zkr
 
 ASK = zkr.Piece(zkr.CLIENT, None, b"ask")
 REPLY = zkr.Piece(zkr.SERVER, None, b"reply")
+FRAME = b"\0\0\0\x08\0\0\0\1\0\0\0\x0b"
 
 
 def opened(said=(ASK, REPLY), **more):
@@ -144,17 +146,57 @@ class Ends(PcapCase):
                 self.assertIn(f" reset={side.decode()}", told[0])
 
     def test_bytes_before_a_reset_that_were_not_captured(self):
-        """The number of the reset says that its side had sent them; an end that wasn't captured counts as one."""
-        for side, size, hole in ((zkr.CLIENT, 5, "C"), (zkr.SERVER, 5, "S"), (zkr.CLIENT, 1, None)):
+        """The number of the reset says that its side had sent them; an end that wasn't captured counts as one. One
+        number alone is that of the end, unless it is in a frame."""
+        for side, size, ask, hole in ((zkr.CLIENT, 5, FRAME, "C"), (zkr.SERVER, 5, FRAME, "S"),
+                                      (zkr.CLIENT, 1, FRAME, None), (zkr.CLIENT, 1, FRAME[:-1], "C"),
+                                      (zkr.CLIENT, 1, FRAME[:2], "C"), (zkr.CLIENT, 1, b"ask no zoo", None)):
             for fin in (0, wire.FIN):
-                with self.subTest(side=side, size=size, fin=fin):
-                    sent = opened([ASK, REPLY, zkr.Piece(side, None, bytes(size - bool(fin)))])
+                with self.subTest(side=side, size=size, ask=ask, fin=fin):
+                    said = [zkr.Piece(zkr.CLIENT, None, ask), REPLY, zkr.Piece(side, None, bytes(size - bool(fin)))]
+                    sent = opened(said)
                     if fin:
                         sent = then(sent, (side, fin | wire.ACK))
                     status, told, made = self.convert(capture_of([*sent[:5], then(sent, (side, wire.RST))[-1]]))
                     self.assertEqual((status, told[0].split()[12:]),
                                      (int(bool(hole)), [f"reset={side.decode()}"] + [f"hole={hole}"] * bool(hole)))
-                    self.assertEqual(sides(made[0]), (b"ask", b"reply"))
+                    self.assertEqual(sides(made[0]), (ask, b"reply"))
+
+    def test_one_number_alone_that_was_not_captured(self):
+        """What acknowledges it says that it was there: it is a byte where it is in a frame, and else the end, after
+        which the other side's end is the second one."""
+        closing = (zkr.SERVER, wire.FIN | wire.ACK)
+        for more, whole, ends, words in (((), True, (), ["open"]), ((), False, (), ["open", "hole=C"]),
+                                         ((), True, (closing,), ["closed=C"]),
+                                         ((), False, (closing,), ["closed=S", "hole=C"]),
+                                         ((REPLY,), True, (closing,), ["closed=C"]),
+                                         ((REPLY,), False, (closing,), ["hole=C"])):
+            with self.subTest(more=more, whole=whole, ends=ends):
+                sent = opened([zkr.Piece(zkr.CLIENT, None, FRAME[:len(FRAME) - (not whole)]), REPLY])
+                sent = then(sent, (zkr.CLIENT, wire.FIN | wire.ACK), (zkr.SERVER, wire.ACK))
+                for piece in more:
+                    sent.append(sent[-1]._replace(data=piece.data))
+                sent = then(sent, *ends)
+                del sent[5]
+                status, told, made = self.convert(capture_of(sent))
+                self.assertEqual((status, told[0].split()[12:]), (int("hole=C" in words), words))
+                self.assertEqual(sides(made[0])[0], FRAME[:len(FRAME) - (not whole)])
+                if more and not whole:
+                    self.assertIn(" closed=S lost=C:1,S:0 ", told[1])
+
+    def test_the_number_of_a_last_packet_without_bytes(self):
+        """It says that what is before it was sent, though nothing acknowledges that; or that the side had ended."""
+        client, server, ask = zkr.CLIENT, zkr.SERVER, zkr.Piece(zkr.CLIENT, None, FRAME)
+        end = client, wire.FIN | wire.ACK
+        for said, gone, more, words in (([ask, REPLY, REPLY], 5, [(server, wire.ACK)], ["open", "hole=S"]),
+                                        ([ask, REPLY, REPLY], None, [(server, wire.ACK)], ["open"]),
+                                        ([ask, REPLY], 5, [end, (client, wire.ACK)], ["open"]),
+                                        ([ask, REPLY], None, [end, (client, wire.ACK)], ["closed=C"]),
+                                        ([ask, REPLY, ask], 5, [end, (client, wire.ACK)], ["closed=C", "hole=C"])):
+            with self.subTest(gone=gone, words=words):
+                sent = then(opened(said), *more)
+                status, told, _ = self.convert(capture_of([each for at, each in enumerate(sent) if at != gone]))
+                self.assertEqual((status, told[0].split()[12:]), (int("hole" in words[-1]), words))
 
     def test_a_last_packet_that_was_not_captured_whole(self):
         """Its bytes are missing though nothing acknowledges them; also where it has the end."""
@@ -182,12 +224,31 @@ class Ends(PcapCase):
         status, told, _ = self.convert(wire.pcap([*packed(sent[:2]), (sent[2].milliseconds, bytes(packet))], snap=60))
         self.assertEqual((status, told[0].split()[12:]), (0, ["open"]))
 
-    def test_a_reset_of_something_else_ends_nothing(self):
+    def test_a_port_that_the_server_still_knows(self):
+        """It answers the first packet with what it acknowledged last, which the client resets, and asks once more."""
+        sent, old = opened(numbers=(1 << 31, 7)), opened(numbers=(1 << 20, 1 << 30))[-1]
+        for flags in (wire.ACK, wire.PUSH | wire.ACK):
+            known = old._replace(data=b"", flags=flags)
+            reset = wire.Sent(0, zkr.CLIENT, known.acknowledged, known.number, wire.RST | wire.ACK, b"")
+            status, told, made = self.convert(capture_of([sent[0], known, reset, sent[0], *sent[1:]]))
+            self.assertEqual((status, len(told), [sides(each) for each in made]), (0, 1, [(b"ask", b"reply")]), told)
+            self.assertTrue(told[0].endswith(" packets=1-8 resent=1 open"), told)
+
+    def test_what_is_of_something_else_ends_nothing(self):
         sent = opened([ASK, REPLY, ASK, REPLY])
-        for number in (sent[4].number + 5, sent[4].number + (1 << 30)):
-            strange = sent[4]._replace(number=number, flags=wire.RST, data=b"")
+        for flags, number in ((wire.RST, 5), *itertools.product((wire.RST, wire.FIN | wire.ACK, wire.ACK), (1 << 30,))):
+            strange = sent[4]._replace(number=sent[4].number + number, flags=flags, data=b"",
+                                       acknowledged=sent[4].acknowledged + (1 << 30))
             found, _ = self.end_words([*sent[:5], strange, *sent[5:]])
             self.assertEqual(found, ["open"])
+
+    def test_an_end_after_many_bytes_that_were_not_captured(self):
+        sent = then(opened([ASK, REPLY, REPLY]), (zkr.SERVER, wire.FIN | wire.ACK))
+        for last, word in ((sent[6], "closed=S"), (sent[6]._replace(flags=wire.RST | wire.ACK), "reset=S")):
+            far = [each._replace(number=each.number + (1 << 25)) for each in (sent[5], last)]
+            status, told, _ = self.convert(capture_of([*sent[:5], *far]))
+            self.assertEqual((status, told[0].split()[-1]), (1, "hole=S"))
+            self.assertIn(f" {word} lost=C:0,S:{1 << 25} ", told[1])
 
 
 def sides_of(said):

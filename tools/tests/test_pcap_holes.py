@@ -183,6 +183,16 @@ class AfterLoss(JoinedCase):
         _, _, made = self.parts(said, 2)
         self.assert_parts(made, [ask(1)], [EVENT, ask(2), reply(2)])
 
+    def test_bytes_of_the_server_that_are_no_frames_and_begin_before_the_loss(self):
+        """They are written as they came, and each once."""
+        other = bytes(range(200, 250))
+        for cut in (1, 3):
+            said = [ask(1), reply(1), reply(0)._replace(data=other[:cut]), ask(2),
+                    reply(0)._replace(data=other[cut:30]), ask(3), reply(0)._replace(data=other[30:])]
+            _, ends, made = self.parts(said, 3)
+            self.assertEqual(b"".join(data for side, data in made[0] if side == zkr.SERVER), reply(1).data + other,
+                             ends)
+
     def test_xids_that_come_twice_say_nothing(self):
         said = [ask(1), ask(1), reply(1), reply(1), ask(1), reply(1)]
         _, _, made = self.parts(said, 2)

@@ -66,14 +66,15 @@ class Talk:
 
 
 def recordings(sent, lost, folder):
-    """What pcap2zkr makes of a capture without these segments: of each recording its frames, with their times."""
+    """What pcap2zkr --late makes of a capture without these segments: of each recording its frames, with their
+    times."""
     source = pathlib.Path(folder, "capture")
     packets = [(each.milliseconds, wire.packet(each)) for at, each in enumerate(sent) if at not in lost]
     source.write_bytes(wire.pcap(packets))
     for old in pathlib.Path(folder).glob("r-*"):
         old.unlink()
     with contextlib.redirect_stdout(io.StringIO()), contextlib.redirect_stderr(io.StringIO()), \
-            unittest.mock.patch("sys.argv", ["pcap2zkr.py", "--times", str(source), f"{folder}/r"]):
+            unittest.mock.patch("sys.argv", ["pcap2zkr.py", "--late", "--times", str(source), f"{folder}/r"]):
         pcap2zkr.main()
     found = []
     for path in pathlib.Path(folder).glob("r-*.zkr"):
@@ -152,6 +153,15 @@ class Pairs(ToolCase):
                                      (200, 0.2, 0.05), (1, 0.05, 0.9), (3, 0.05, 0.5)):
             with self.subTest(depth=depth, share=share, others=others):
                 self.assertEqual(measure(range(2), depth, share, 1000, others=others)[3], 0)
+
+    def test_a_capture_that_begins_among_pings(self):
+        """Of how many pings from before it the replies still come isn't known."""
+        for seed in range(40):
+            talk = Talk(seed, seed % 5 + 1, 60, others=(0.3, 0.6, 0.9, 1)[seed % 4])
+            sent = talk.segments()
+            with self.subTest(seed=seed), tempfile.TemporaryDirectory() as folder:
+                found = Kept(talk, sent, set(range(talk.chance.randrange(5, 40))), folder, True)
+                self.assertEqual(set(found.pairs) - {(asked, answer) for answer, asked in talk.pairs.items()}, set())
 
     def test_messages_that_share_packets(self):
         for most in (60, 200, 1448):

@@ -104,15 +104,18 @@ class Zkplay(ToolCase):
         self.assertEqual(self.refusal(said, "--wait", "0.5"),
                          "client frame=1 offset=68 place=14: expected byte 0x01: nothing came for 0.5 s")
 
-    def assert_played(self, said, heard, *played, words=()):
-        """That a client that says this, and ends once it has heard that, fits the stored run's connect messages with
-        these pieces after them."""
+    def assert_played(self, said, heard, *played, words=(), cut=0):
+        """That a client that says this, `cut` bytes of it a moment before the others, and ends once it has heard that,
+        fits the stored run's connect messages with these pieces after them."""
         path, connect = self.folder / "pings.zkr", pieces(RUN.read_bytes())[:2]
         path.write_bytes(b"ZKR1" + b"".join(zkr.Head().piece(side, 0, data) for side, data in
                                             [*[piece[::2] for piece in connect], *played]))
         player, address = self.play(path, *words)
         with socket.create_connection(address, SECONDS) as client:
-            client.sendall(connect[0].data + said)
+            client.setsockopt(socket.IPPROTO_TCP, socket.TCP_NODELAY, 1)
+            client.sendall(connect[0].data + said[:cut])
+            time.sleep(0.05 if cut else 0)
+            client.sendall(said[cut:])
             self.assertEqual(receive(client, 41 + len(heard)), connect[1].data + heard)
             client.shutdown(socket.SHUT_WR)
             self.assertEqual(receive(client, 1), b"")
@@ -127,6 +130,12 @@ class Zkplay(ToolCase):
             self.assert_played(b"", b"", *played)
             self.assert_played(PING, pong, *both)
         self.assert_played(b"", event, *both, (zkr.SERVER, event), words=("--wait", "0.5"))
+
+    def test_a_request_in_two_pieces_where_a_ping_does_not_come(self):
+        """Its first bytes may be the ping's."""
+        for cut in (1, 4):
+            self.assert_played(CLOSE, b"", (zkr.CLIENT, PING), (zkr.SERVER, PONG + bytes(12)), (zkr.CLIENT, CLOSE),
+                               cut=cut)
 
     def test_a_reply_in_two_pieces_to_a_ping_that_does_not_come(self):
         pong, other = PONG + bytes(12), PONG[:4] + bytes(16)
@@ -257,6 +266,15 @@ class Zkplay(ToolCase):
     def test_pings_before_a_frame_that_was_recorded_in_parts(self):
         for size in (1, 3, 4):
             self.assert_played(PING + CLOSE, PONG + bytes(12), (zkr.CLIENT, CLOSE[:size]), (zkr.CLIENT, CLOSE[size:]))
+
+    def test_pings_within_a_frame_of_the_server(self):
+        """They are answered after it, also where it is the last, or another comes in the same piece."""
+        reply, pong = PONG[:4] + b"\0\0\0\1" + bytes(12), PONG + bytes(12)
+        for size in (1, 10, 19):
+            before, after = reply[:size], reply[size:]
+            for more in (b"", reply, reply[:7]):
+                self.assert_played(PING + PING + CLOSE, reply + pong + pong + more, (zkr.SERVER, before),
+                                   (zkr.CLIENT, CLOSE), (zkr.SERVER, after + more))
 
     def test_a_damaged_recording(self):
         path = self.folder / "damaged.zkr"

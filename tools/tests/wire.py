@@ -57,7 +57,7 @@ def pcap(packets, link="ethernet", order="<", nanoseconds=False, snap=65535):
     return b"".join(parts)
 
 
-def pcapng(packets, link="ethernet", order="<"):
+def pcapng(packets, link="ethernet", order="<", snap=65535):
     """A pcapng file with a second interface of nanoseconds, which has the packets, and a block of another kind."""
     def block(kind, body):
         body += bytes(-len(body) % 4)
@@ -69,5 +69,5 @@ def pcapng(packets, link="ethernet", order="<"):
              block(1, interface + nanoseconds), block(4, b"names")]
     for milliseconds, data in packets:
         high, low = divmod(round(milliseconds * 10**6), 2**32)
-        parts.append(block(6, struct.pack(order + "IIIII", 1, high, low, len(data), len(data)) + data))
+        parts.append(block(6, struct.pack(order + "IIIII", 1, high, low, len(data[:snap]), len(data)) + data[:snap]))
     return b"".join(parts)
