@@ -18,7 +18,7 @@ SIDES = (zkr.CLIENT, zkr.SERVER)
 WRAP, MASK = 1 << 31, (1 << 32) - 1
 # The memory of a part that waits, without its bytes.
 PART_COST = 256
-# A segment without bytes counts only where its number is near those that are known.
+# A segment without bytes counts only where one of its numbers is near those that are known.
 NEAR = 1 << 24
 
 
@@ -78,8 +78,8 @@ class Half:
             stream.resent += self.opened
             self.opened = True
         elif (flags & RST or not (data or snapped)) and not (
-                self.is_near(sequence) if self.next >= 0 else
-                not (other.opened and flags & ACK) or other.is_near(acknowledged)):
+                self.is_near(sequence) if self.next >= 0 else not (other.opened and flags & ACK)) \
+                and not (flags & ACK and other.next >= 0 and other.is_near(acknowledged)):
             return False  # it is of a connection with the same ports, which one side alone still knows
         self.begin(sequence)
         stream.snapped |= snapped > 0
@@ -121,7 +121,8 @@ class Half:
     def is_near(self, sequence):
         """Whether a sequence number is near those of the bytes that are known, in order or not."""
         place = self.place_of(sequence)
-        return any(abs(place - known) < NEAR for known in (self.place, *(self.spans[-1] if self.spans else ())))
+        last = self.spans[-1] if self.spans else ()
+        return any(abs(place - known) < NEAR for known in (self.place, self.sent, self.acknowledged, *last))
 
     def put(self, part):
         """Takes bytes of any place."""
