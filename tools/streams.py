@@ -40,17 +40,19 @@ class Half:
     `opened` says whether its SYN was captured. `first` and `next` are the sequence numbers of its first byte and after
     the bytes that are in order, or -1; `place` is the place of the latter. `apart` has what came out of order. `ready`
     has what is in order and waits for the other side's bytes that it follows. `written` is the place up to which bytes
-    were passed on, `sent` that up to which it sent some, where these were not captured whole, `end` that of the side's
-    end, and `fin` what is known of the first segment with a FIN.
+    were passed on, `sent` that up to which it sent some, where these were not captured whole, `after` that of the last
+    segment without bytes, `end` that of the side's end, and `fin` what is known of the first segment with a FIN.
+    `spans` has where what came out of order begins and ends, without those of it that touch or overlap, in order; of
+    the first `passed` of them nothing is `apart` any more.
     """
 
     __slots__ = ("stream", "side", "other", "opened", "first", "next", "place", "written", "sent", "end", "fin",
-                 "acknowledged", "after", "apart", "spans", "ready")
+                 "acknowledged", "after", "apart", "spans", "passed", "ready")
 
     def __init__(self, stream, side):
         self.stream, self.side, self.other, self.first, self.next, self.end = stream, side, None, -1, -1, None
         self.opened, self.fin = False, None
-        self.place = self.written = self.sent = self.acknowledged = self.after = 0
+        self.place = self.written = self.sent = self.acknowledged = self.after = self.passed = 0
         self.apart = self.spans = self.ready = ()
 
     def take(self, number, milliseconds, sequence, acknowledged, flags, data, snapped):
@@ -142,13 +144,23 @@ class Half:
         if not self.apart:
             self.apart = []
         heapq.heappush(self.apart, part)
-        self.sort(part.milliseconds)
+        if part.place <= self.place:
+            self.sort(part.milliseconds)
 
     def cover(self, begin, end):
         """Notes that what came out of order has these places. Returns whether some of them were there before."""
         spans = self.spans = self.spans or []
-        at, after = bisect.bisect_left(spans, (begin,)), bisect.bisect_left(spans, (end + 1,))
-        at -= at > 0 and spans[at - 1][1] >= begin
+        if not spans or spans[-1][1] < begin:
+            spans.append((begin, end))
+            return False
+        if spans[-1][1] == begin:
+            spans[-1] = spans[-1][0], end
+            return False
+        if begin <= self.place and end <= spans[self.passed][0]:
+            return False    # it is in order at once
+        at = bisect.bisect_left(spans, (begin,), self.passed)
+        after = bisect.bisect_left(spans, (end + 1,), at)
+        at -= at > self.passed and spans[at - 1][1] >= begin
         touched = spans[at:after]
         places = [begin, end, *(place for span in touched for place in span)]
         spans[at:after] = [(min(places), max(places))]
@@ -160,7 +172,7 @@ class Half:
         while self.apart and self.apart[0].place <= self.place:
             part = heapq.heappop(self.apart)
             if part.milliseconds < milliseconds:
-                part = part._replace(milliseconds=milliseconds)
+                part = Part(*part[:3], milliseconds, part.data)
             if part.place < self.place:
                 data = part.data[self.place - part.place:]
                 self.stream.hold(len(data) - len(part.data))
@@ -169,8 +181,11 @@ class Half:
                 self.add(part, len(part.data))
             else:
                 self.stream.hold(-PART_COST)
-        while self.spans and self.spans[0][1] <= self.place:
-            del self.spans[0]
+        while self.passed < len(self.spans) and self.spans[self.passed][1] <= self.place:
+            self.passed += 1
+        if 2 * self.passed > len(self.spans):   # else each would move all that are left
+            del self.spans[:self.passed]
+            self.passed = 0
 
     def add(self, part, size):
         if not self.ready:
