@@ -79,7 +79,7 @@ def segments(stream):
     mark = source.exactly(4) if source.more(0) else b""
     packets = packets_of_pcapng(source) if mark == b"\x0a\x0d\x0d\x0a" else packets_of_pcap(source, mark)
     unpack_ip, unpack_tcp, unpack_usual, usual = IPV4.unpack_from, TCP_HEAD.unpack_from, USUAL.unpack_from, USUAL.size
-    for number, (milliseconds, link, packet, at, end, cut) in enumerate(packets, 1):
+    for number, (milliseconds, link, packet, at, end, sent) in enumerate(packets, 1):
         if not 0 <= milliseconds < LATEST:
             raise NotRead(f"packet {number} has no time between the years 1970 and 9999: correct it with editcap -t")
         if link == ETHERNET and end - at >= usual:
@@ -87,24 +87,24 @@ def segments(stream):
                 unpack_usual(packet, at)
             if kind == IPV4_KIND and version == IPV4_PLAIN and protocol == TCP and not fragment & FRAGMENTED:
                 if length >= 0x50:
-                    whole, begin = at + 14 + size if size else end + cut, at + 34 + (length >> 4) * 4
+                    whole, begin = at + 14 + size if size else max(end, at + sent), at + 34 + (length >> 4) * 4
                     yield (number, milliseconds, packet[at + 26:at + 38], source_port, target_port, sequence,
                            acknowledged, flags, packet[begin:whole if whole < end else end],
                            whole > end and max(0, whole - max(begin, end)))
                 continue
-        at = network_place(link, packet, at)
+        begun, at = at, network_place(link, packet, at)
         if end - at >= 40 and packet[at] == 0x45:
             size, fragment, kind = unpack_ip(packet, at)
             if kind != TCP or fragment & FRAGMENTED:
                 continue
             # 0 where the network card cuts the packet only later
-            whole, ends, at = at + size if size else end + cut, packet[at + 12:at + 24], at + 20
+            whole, ends, at = at + size if size else max(end, begun + sent), packet[at + 12:at + 24], at + 20
         else:
             found = other_network(packet, at, end)
             if not found:
                 continue
             at, whole, ends = found
-            whole = whole or end + cut
+            whole = whole or max(end, begun + sent)
         source_port, target_port, sequence, acknowledged, length, flags = unpack_tcp(packet, at)
         if length < 0x50:
             continue
@@ -115,7 +115,7 @@ def segments(stream):
 
 def packets_of_pcap(source, mark):
     """The packets of a pcap file, whose first four bytes were read: for each its time, its link type, bytes with the
-    places in them where it begins and ends, and how many bytes of its end were not captured."""
+    places in them where it begins and ends, and how many bytes it had when it was sent."""
     forms = {struct.pack(order + "I", number): (order, unit)
              for order in "<>" for number, unit in ((0xA1B2C3D4, 1e-3), (0xA1B23C4D, 1e-6))}
     if mark not in forms:
@@ -132,7 +132,7 @@ def packets_of_pcap(source, mark):
             end = at + 16 + size
             if end > last:
                 break
-            yield seconds * 1000 + part * unit, link, data, at + 16, end, sent > size and sent - size
+            yield seconds * 1000 + part * unit, link, data, at + 16, end, sent
             at = end
         if size > LARGEST_PACKET:
             raise NotRead(f"the capture is damaged: it has a packet of {size} bytes")
@@ -161,7 +161,7 @@ def packets_of_pcapng(source):
             link, rate, offset = interfaces[interface]
             seconds, part = divmod((high << 32) + low, rate)    # a float has no room for all digits
             end = min(20 + length, len(body))
-            yield (seconds + offset) * 1000 + part * 1000 / rate, link, body, 20, end, sent > length and sent - length
+            yield (seconds + offset) * 1000 + part * 1000 / rate, link, body, 20, end, sent
         elif kind in OLD_PACKETS:
             raise NotRead("this is a pcapng of an old form: convert it with editcap -F pcapng OLD NEW")
         if source.at == len(source.data) and not source.more(source.at):

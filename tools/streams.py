@@ -18,7 +18,7 @@ SIDES = (zkr.CLIENT, zkr.SERVER)
 WRAP, MASK = 1 << 31, (1 << 32) - 1
 # The memory of a part that waits, without its bytes.
 PART_COST = 256
-# A segment without bytes counts only where its number is near those that are known.
+# A segment without bytes counts only where one of its numbers is near those that are known.
 NEAR = 1 << 24
 
 
@@ -40,17 +40,19 @@ class Half:
     `opened` says whether its SYN was captured. `first` and `next` are the sequence numbers of its first byte and after
     the bytes that are in order, or -1; `place` is the place of the latter. `apart` has what came out of order. `ready`
     has what is in order and waits for the other side's bytes that it follows. `written` is the place up to which bytes
-    were passed on, `sent` that up to which it sent some, where these were not captured whole, `end` that of the side's
-    end, and `fin` what is known of the first segment with a FIN.
+    were passed on, `sent` that up to which it sent some, where these were not captured whole, `after` that of the last
+    segment without bytes, `end` that of the side's end, and `fin` what is known of the first segment with a FIN.
+    `spans` has where what came out of order begins and ends, without those of it that touch or overlap, in order; of
+    the first `passed` of them nothing is `apart` any more.
     """
 
     __slots__ = ("stream", "side", "other", "opened", "first", "next", "place", "written", "sent", "end", "fin",
-                 "acknowledged", "after", "apart", "spans", "ready")
+                 "acknowledged", "after", "apart", "spans", "passed", "ready")
 
     def __init__(self, stream, side):
         self.stream, self.side, self.other, self.first, self.next, self.end = stream, side, None, -1, -1, None
         self.opened, self.fin = False, None
-        self.place = self.written = self.sent = self.acknowledged = self.after = 0
+        self.place = self.written = self.sent = self.acknowledged = self.after = self.passed = 0
         self.apart = self.spans = self.ready = ()
 
     def take(self, number, milliseconds, sequence, acknowledged, flags, data, snapped):
@@ -78,8 +80,8 @@ class Half:
             stream.resent += self.opened
             self.opened = True
         elif (flags & RST or not (data or snapped)) and not (
-                self.is_near(sequence) if self.next >= 0 else
-                not (other.opened and flags & ACK) or other.is_near(acknowledged)):
+                self.is_near(sequence) if self.next >= 0 else not (other.opened and flags & ACK)) \
+                and not (flags & ACK and other.next >= 0 and other.is_near(acknowledged)):
             return False  # it is of a connection with the same ports, which one side alone still knows
         self.begin(sequence)
         stream.snapped |= snapped > 0
@@ -121,7 +123,8 @@ class Half:
     def is_near(self, sequence):
         """Whether a sequence number is near those of the bytes that are known, in order or not."""
         place = self.place_of(sequence)
-        return any(abs(place - known) < NEAR for known in (self.place, *(self.spans[-1] if self.spans else ())))
+        last = self.spans[-1] if self.spans else ()
+        return any(abs(place - known) < NEAR for known in (self.place, self.sent, self.acknowledged, *last))
 
     def put(self, part):
         """Takes bytes of any place."""
@@ -141,13 +144,23 @@ class Half:
         if not self.apart:
             self.apart = []
         heapq.heappush(self.apart, part)
-        self.sort(part.milliseconds)
+        if part.place <= self.place:
+            self.sort(part.milliseconds)
 
     def cover(self, begin, end):
         """Notes that what came out of order has these places. Returns whether some of them were there before."""
         spans = self.spans = self.spans or []
-        at, after = bisect.bisect_left(spans, (begin,)), bisect.bisect_left(spans, (end + 1,))
-        at -= at > 0 and spans[at - 1][1] >= begin
+        if not spans or spans[-1][1] < begin:
+            spans.append((begin, end))
+            return False
+        if spans[-1][1] == begin:
+            spans[-1] = spans[-1][0], end
+            return False
+        if begin <= self.place and end <= spans[self.passed][0]:
+            return False    # it is in order at once
+        at = bisect.bisect_left(spans, (begin,), self.passed)
+        after = bisect.bisect_left(spans, (end + 1,), at)
+        at -= at > self.passed and spans[at - 1][1] >= begin
         touched = spans[at:after]
         places = [begin, end, *(place for span in touched for place in span)]
         spans[at:after] = [(min(places), max(places))]
@@ -159,7 +172,7 @@ class Half:
         while self.apart and self.apart[0].place <= self.place:
             part = heapq.heappop(self.apart)
             if part.milliseconds < milliseconds:
-                part = part._replace(milliseconds=milliseconds)
+                part = Part(*part[:3], milliseconds, part.data)
             if part.place < self.place:
                 data = part.data[self.place - part.place:]
                 self.stream.hold(len(data) - len(part.data))
@@ -168,8 +181,11 @@ class Half:
                 self.add(part, len(part.data))
             else:
                 self.stream.hold(-PART_COST)
-        while self.spans and self.spans[0][1] <= self.place:
-            del self.spans[0]
+        while self.passed < len(self.spans) and self.spans[self.passed][1] <= self.place:
+            self.passed += 1
+        if 2 * self.passed > len(self.spans):   # else each would move all that are left
+            del self.spans[:self.passed]
+            self.passed = 0
 
     def add(self, part, size):
         if not self.ready:

@@ -249,6 +249,15 @@ class Ends(PcapCase):
             status, told, _ = self.convert(capture_of([*sent[:5], *far]))
             self.assertEqual((status, told[0].split()[-1]), (1, "hole=S"))
             self.assertIn(f" {word} lost=C:0,S:{1 << 25} ", told[1])
+            status, told, _ = self.convert(capture_of([*sent[:5], far[1]._replace(number=last.number + (1 << 25))]))
+            self.assertEqual((status, told[0].split()[12:]), (1, [word, "hole=S"]))
+
+    def test_ends_after_many_bytes_of_which_the_heads_alone_were_captured(self):
+        sent = list(wire.conversation([ASK, REPLY, ASK, REPLY]))
+        far = [each._replace(number=each.number + (1 << 25), acknowledged=each.acknowledged + (1 << 25))
+               for each in sent[5:]]
+        status, told, _ = self.convert(wire.pcap(packed([*sent[:5], *far]), snap=54))
+        self.assertEqual((status, told[0].split()[12:]), (1, ["closed=C", "hole=C", "hole=S", "snapped"]))
 
 
 def sides_of(said):
