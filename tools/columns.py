@@ -36,7 +36,8 @@ LETTERS = {"u8": "Q", "f8": "d", "i8": "q", "u4": "I", "i4": "i", "u2": "H", "u1
 RECORD = struct.Struct("=" + "".join(LETTERS[kind] for _, kind in FIELDS))
 Record = collections.namedtuple("Record", [name for name, _ in FIELDS])
 TEXT, WHOLE_TEXT, DATA = 1, 2, 3
-MOST_EXACT = 2 ** 52            # microseconds of which a double has each, and which numpy rounds to none
+MOST_EXACT = 2 ** 52            # microseconds that counted.py counts in arrays
+MOST_WHOLE = 2 ** 53            # microseconds of which a double has each; longer ones have no fractions (recording.c)
 PIPE_SIZE, F_SETPIPE_SZ = 1 << 20, 1031
 WORTH_A_LINE = 1 << 23          # the size of a recording of which a line says what would be faster
 said = False
@@ -123,8 +124,8 @@ def exact(moment, whole):
 
 
 def took(microseconds, moment, asked):
-    """How long a reply took; what a float has not exactly is of whole milliseconds (columns/recording.c)."""
-    return int(microseconds) if microseconds < MOST_EXACT else (int(moment) - int(asked)) * 1000
+    """How long a reply took; what a float has not exactly is of whole milliseconds."""
+    return int(microseconds) if microseconds < MOST_WHOLE else (int(moment) - int(asked)) * 1000
 
 
 def text_of(value):

@@ -229,7 +229,7 @@ class Run:
         self.whole += first is None
         connection.label = first.label.partition(".")[0] if first else f"#{self.whole}"
         connection.label += f".{about.part}" if first or about.first else ""
-        self.by_source[about] = connection
+        self.by_source[about] = first or connection
         if about.first and not first:
             self.by_source[about.first] = connection
 

@@ -18,7 +18,7 @@ function since(at) {
 }
 
 // The columns of the requests, with times in milliseconds since the run began and latencies in milliseconds; `exactly` has
-// both where a number doesn't have them exactly.
+// both where a number doesn't have them exactly, and `hasDigits` says whether there are such latencies.
 function unpack(columns) {
   const count = columns.n.length, x = new Float64Array(count), ms = new Float64Array(count);
   let at = 0;
@@ -28,7 +28,8 @@ function unpack(columns) {
     x[i] = data.begun === null ? columns.n[i] : columns.at[i] === null ? NaN : late ? since(columns.at[i]) : at / 1000;
     ms[i] = columns.ms[i] === null ? NaN : typeof columns.ms[i] === "string" ? +columns.ms[i] : columns.ms[i] / 1000;
   }
-  return { ...columns, count, x, ms, exactly: { at: columns.at, ms: columns.ms } };
+  return { ...columns, count, x, ms, exactly: { at: columns.at, ms: columns.ms },
+    hasDigits: columns.ms.some(each => typeof each === "string") };
 }
 
 function outcome(i) {
@@ -120,16 +121,27 @@ function timeOf(i) {
 
 // How long a request took, in milliseconds.
 function latencyOf(i) {
-  return /^\d+$/.test(requests.exactly.ms[i]) && typeof requests.exactly.ms[i] === "string" ? requests.exactly.ms[i] : requests.ms[i];
+  const exactly = requests.exactly.ms[i];
+  return typeof exactly === "string" && /^\d+$/.test(exactly) ? exactly : requests.ms[i];
 }
 
+// The difference of two latencies: of equal numbers by their digits, if they have these.
 function byLatency(a, b) {
-  return a - b || compareKeys(sortKey("ms", a), sortKey("ms", b));
+  return a - b || (typeof a === "string" ? compareKeys(BigInt(a), BigInt(b)) : 0);
+}
+
+function byRequest(i, j) {
+  return requests.ms[i] - requests.ms[j] || (requests.hasDigits ? byLatency(latencyOf(i), latencyOf(j)) : 0);
+}
+
+function sortedLatencies(indices) {
+  const found = indices.map(latencyOf).filter(ms => !Number.isNaN(ms));
+  return requests.hasDigits ? found.sort(byLatency) : new Float64Array(found).sort();
 }
 
 function slowestOf(indices) {
   let best = indices[0];
-  for (const i of indices) if (requests.ms[i] > requests.ms[best] || Number.isNaN(requests.ms[best])) best = i;
+  for (const i of indices) if (byRequest(i, best) > 0 || Number.isNaN(requests.ms[best])) best = i;
   return best;
 }
 
@@ -138,7 +150,7 @@ const derive = {
   operations(indices) {
     return [...groups(indices, i => requests.op[i])].map(([op, all]) => {
       const answered = all.filter(i => outcome(i) < UNANSWERED), lost = all.filter(i => outcome(i) === NOT_CAPTURED).length;
-      const times = answered.map(latencyOf).filter(ms => !Number.isNaN(ms)).sort(byLatency);
+      const times = sortedLatencies(answered);
       return [data.ops[op], all.length, answered.length, all.filter(i => outcome(i) === FAILED).length,
         all.length - answered.length - lost, quantile(times, 0.5), quantile(times, 0.95), quantile(times, 0.99),
         quantile(times, 1), ...(requests.lost ? [lost] : []), ...link(slowestOf(all))];
@@ -151,7 +163,7 @@ const derive = {
       .sort((a, b) => b[2] - a[2]);
   },
   slowest(indices) {
-    return indices.filter(i => !Number.isNaN(requests.ms[i])).sort((a, b) => byLatency(latencyOf(b), latencyOf(a)))
+    return indices.filter(i => !Number.isNaN(requests.ms[i])).sort((a, b) => byRequest(b, a))
       .slice(0, 20).map(i => [latencyOf(i), timeOf(i), connectionName(requests.connection[i]),
         requests.n[i], data.ops[requests.op[i]], data.errors[requests.error[i]] ?? null, data.paths[requests.path[i]] ?? null,
         ...link(i)]);

@@ -84,6 +84,6 @@ def microseconds(milliseconds):
     """Milliseconds as whole microseconds, which the readers of traces have to have exactly."""
     found = round(milliseconds * 1000)
     if found >= MOST:
-        raise ValueError(f"{zkr.clock(milliseconds)} is after the year 2255, and readers of traces round such times: "
-                         "times are milliseconds since 1970")
+        raise ValueError(f"{zkr.clock(milliseconds)} is too late for a trace, whose readers round times from June "
+                         "2255 on: times are milliseconds since 1970")
     return found

@@ -20,7 +20,7 @@ def note(line, made):
 
 def is_watching(line):
     """Whether a request asks for a watch: the field is the last one of its line."""
-    return line.endswith(" watch=1") or line.startswith("{") and bool(json.loads(line).get("watch"))
+    return line.endswith(" watch=1") or line.startswith("{") and "true" in line and bool(json.loads(line).get("watch"))
 
 
 def watched_paths(line):

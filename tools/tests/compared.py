@@ -105,6 +105,16 @@ def late_times(data):
     return bytes(made)
 
 
+def long_latencies(folder, data):
+    """The recording with times of microseconds, after 1970 and, of every third piece, before the year 2224."""
+    pieces = list(zkr.Reader(io.BytesIO(data)))
+    made, head = folder / "long.zkr", zkr.Head()
+    made.write_bytes(head.to_bytes() + b"".join(head.piece(piece.side, 0, piece.data) for piece in pieces))
+    made.with_name("long.zkr.times").write_text("".join(
+        f"{(1, 7_999_999_900_000, 5)[number % 3] + number}.{number * 7 % 1000:03}\n" for number in range(len(pieces))))
+    return made
+
+
 def lossy_recordings(folder, paths):
     """Recordings with their facts and times, of captures of these, from which packets are missing."""
     chance = random.Random(3)
@@ -143,7 +153,8 @@ def recordings(zkdump, folder, paths):
     late = folder / "late.zkr"
     late.write_bytes(late_times(made.read_bytes()))
     lossy = lossy_recordings(folder, [path for path in paths if path.stat().st_size < 30_000][:6])
-    yield from ((path, False) for path in (*paths, made, late, *lossy))
+    long = long_latencies(folder, made.read_bytes())
+    yield from ((path, False) for path in (*paths, made, late, long, *lossy))
     chance = random.Random(17)
     for number, path in enumerate(chance.choices([path for path in paths if path.stat().st_size < 100_000], k=40)):
         path, (data, times) = folder / f"{number}.zkr", cut(path.read_bytes(), chance)

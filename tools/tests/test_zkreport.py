@@ -217,12 +217,12 @@ class Zkreport(ToolCase):
                          [("b", 2_000_000), ("e", 2_000_000)])
 
     def test_a_trace_has_no_times_that_are_rounded(self):
-        """A reader has times as floats of microseconds, which have each up to the year 2255."""
+        """A reader has times as floats of microseconds, which have each up to June 2255."""
         path, trace = self.folder / "late.json", self.folder / "trace.json"
         for at, wanted in ((2 ** 53 // 1000, 0), (2 ** 53 // 1000 + 1, 1), (1_795_332_633_000_123_904, 1)):
             path.write_text(json.dumps({"n": 1, "side": "C", "xid": 1, "op": "sync", "path": "/a", "at": at}) + "\n")
             status, out, err = self.run_tool("zkreport.py", "--trace", trace, path)
-            self.assertEqual((status, out, "after the year 2255" in err), (wanted, "", bool(wanted)), err)
+            self.assertEqual((status, out, "from June 2255 on" in err), (wanted, "", bool(wanted)), err)
             self.assertEqual(trace.exists(), not wanted)
             trace.unlink(missing_ok=True)
 

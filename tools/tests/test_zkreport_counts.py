@@ -83,18 +83,19 @@ class Counts(ToolCase):
         self.assertEqual(self.report("--jobs", 2, *choice, path, status=1), found)
 
     def test_a_later_part_in_the_lines_before_the_first(self):
-        """They are one connection, between whose parts is no gap, whichever is chosen first."""
+        """They are one connection, between whose parts is no gap, whichever is chosen first, and so is a third part."""
         known = {"client": "10.0.0.1:40001", "server": "10.0.0.2:2181", "connected": report_lines.T}
         parts = []
-        for name, at, more in (("a", 0, {"hole": ["S"]}), ("a.2", 50, {"part": 2, "lost": {"C": 0, "S": 9}})):
+        later = [(f"a.{part}", 50 * part, {"part": part, "lost": {"C": 0, "S": 9}}) for part in (2, 3)]
+        for name, at, more in (("a", 0, {"hole": ["S"]}), *later):
             lines = report_lines.Lines()
             lines.connect(at, 1)
             lines.ask(at + 2, "sync", 1, path="/a")
             ending = {"ending": "whole", "unanswered": 1, "facts": {**known, **more}, "notCaptured": [3], "waiting": []}
             parts.append([json.dumps({"connection": name, **each}) for each in (*lines.objects, ending)])
-        first, later = parts
-        path = self.listing("a.json", *later[:1], *first, *later[1:])
-        for words, labels in (((), ["#1", "#1.1"]), (("--op", "sync"), ["#1.1", "#1.2"])):
+        first, later, third = parts
+        path = self.listing("a.json", *later[:1], *first, *later[1:], *third)
+        for words, labels in (((), ["#1", "#1.1", "#1.3"]), (("--op", "sync"), ["#1.1", "#1.2", "#1.3"])):
             found = self.report(*words, path, status=1)
             self.assertRegex(found, "^1 connections, 1 sessions, ")
             session, = self.table(found, "Sessions")

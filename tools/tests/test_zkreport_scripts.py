@@ -130,12 +130,12 @@ class Scripts(ToolCase):
                 "const plain = all(); filter.slower = 1; const filtered = all(); filter.from = 1;\n"
                 "orders.slowest = { column: 1, direction: 1 }; filter.from = null; const [early] = shown('slowest');\n"
                 "const messages = data.messages[0].map(each => [timeOfDay(each.at), each.stat && each.stat.ctime]);\n"
-                "console.log(JSON.stringify([plain, filtered, early, messages, iso(data.ended)]));")
-        plain, filtered, early, messages, ended = self.of_page(code, path)
+                "console.log(JSON.stringify([plain, filtered, early, messages, iso(data.ended), slowestOf([0, 1])]));")
+        plain, filtered, early, messages, ended, slowest = self.of_page(code, path)
         times, (short, long) = [f"{begun + more} ms" for more in (0, 1, 2 ** 60, 2 ** 60 + 2)], (2 ** 60, 2 ** 60 + 1)
         self.assertEqual(plain, [[[times[0], times[3]]], [[times[0]]], [[str(long)], [str(short)]],
                                  [[str(long), times[1]], [str(short), times[0]]], [[str(short)], [str(long)]]])
-        self.assertEqual((filtered, early, ended), (plain, [str(short), times[0]], times[3]))
+        self.assertEqual((filtered, early, ended, slowest), (plain, [str(short), times[0]], times[3], 1))
         self.assertEqual(messages, [[time, None] for time in times[:3]] + [[times[3], str(-2 ** 60 - 1)]])
 
     def test_filters_say_that_they_leave_out_the_paths_of_multis(self):
