@@ -11,7 +11,7 @@ WATCH_LISTS = ("dataWatches", "existWatches", "childWatches")
 
 
 def note(line, made):
-    """Notes what a request watches, which its reply sets: whether the node of its path, or the paths of a setWatches."""
+    """Notes what a request watches, which its reply sets: the node of its path or not, or the paths of a setWatches."""
     if made.op in WATCHING:
         made.is_watching = is_watching(line)
     elif made.op == "setWatches":
