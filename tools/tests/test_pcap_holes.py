@@ -109,14 +109,14 @@ class Late(JoinedCase):
 class AfterLoss(JoinedCase):
     """What follows a loss."""
 
-    def parts(self, said, *gone):
+    def parts(self, said, *gone, are_frames=True):
         """The lines without their paths, and what is in the recordings, where the segments of these pieces were not
         captured."""
         sent = list(wire.conversation([*CONNECT, *said]))
         keep = [each for at, each in enumerate(sent) if at - 5 not in gone]
         status, told, made = self.convert(capture_of(keep))
         self.assertEqual(status, 1 if gone else 0)
-        for recording in made:
+        for recording in made if are_frames else ():
             self.assert_no_refusal(recording)
         names = [line.split()[0].rpartition("/")[2] for line in told]
         ends = [" ".join(line.split()[10:]) for line in told]
@@ -189,7 +189,7 @@ class AfterLoss(JoinedCase):
         for cut in (1, 3):
             said = [ask(1), reply(1), reply(0)._replace(data=other[:cut]), ask(2),
                     reply(0)._replace(data=other[cut:30]), ask(3), reply(0)._replace(data=other[30:])]
-            _, ends, made = self.parts(said, 3)
+            _, ends, made = self.parts(said, 3, are_frames=False)
             self.assertEqual(b"".join(data for side, data in made[0] if side == zkr.SERVER), reply(1).data + other,
                              ends)
 
