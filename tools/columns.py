@@ -296,5 +296,5 @@ def times_options(path, beside):
     beside = beside or zkr.times_path(path)
     try:
         return None if facts.are_of(path, beside)[0] is False else ["--times", beside]
-    except OSError:
+    except (OSError, ValueError):
         return None

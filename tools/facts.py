@@ -12,6 +12,7 @@ import os
 import re
 from typing import NamedTuple, Optional
 
+import files
 import running
 from newfile import NewFile
 from operations import PROFILES
@@ -145,7 +146,7 @@ def facts_path(path):
 def mark_of(path):
     """What marks a file: the number of its bytes, and the SHA-256 of its first and its last ones."""
     import hashlib      # it takes longer to load than most recordings without facts to read
-    with open(path, "rb") as file:
+    with files.open_again(path, files.RECORDING) as file:
         size, digest = file.seek(0, os.SEEK_END), hashlib.sha256()
         for at in (0, max(0, size - MARKED)):
             file.seek(at)
@@ -172,8 +173,10 @@ def read(path):
     """The object of the facts beside the recording at this path, or to which that links; None if there are none. A
     ValueError where these are not such facts."""
     try:
-        with open(facts_path(path), encoding="ascii", errors="replace") as file:
+        with files.open_again(facts_path(path), mode="r", encoding="ascii", errors="replace") as file:
             line = file.read(LONGEST + 1)
+    except files.NoFile as found:
+        raise ValueError(f"it is a {found.kind}, and no file") from None
     except FileNotFoundError:
         linked = os.path.realpath(path)
         return read(linked) if os.path.islink(path) and linked != os.fspath(path) else None

@@ -5,6 +5,7 @@ import re
 import struct
 
 import contents
+import files
 import listing
 import operations
 import zkr
@@ -135,7 +136,7 @@ class Times:
 def times_of(parser, path, beside, foreign):
     """The times of the messages of the recording at this path: in the file `beside`, where that is named; else in the
     recording, or in the usual file. None if there are none, unless the listing is `foreign`, which needs them."""
-    pieces = zkr.Reader(open(path, "rb"))
+    pieces = zkr.Reader(files.open_again(path, files.RECORDING))
     if pieces.head.form == "zkr2" and not beside:
         return Times(pieces, None, foreign)
     if not beside and not os.path.exists(zkr.times_path(path)):

@@ -20,6 +20,7 @@ import struct
 from typing import NamedTuple, Optional
 
 import facts
+import files
 import frames
 from newfile import NewFile, flush
 from operations import PROFILES
@@ -192,7 +193,7 @@ def times_path(path):
 
 def read_times(path):
     """The times in a file of times, one for each piece of its recording, as the file spells them."""
-    with open(path, encoding="ascii", errors="replace") as lines:
+    with files.open_again(path, mode="r", encoding="ascii", errors="replace") as lines:
         for number, line in enumerate(iter(lambda: lines.readline(LONGEST_TIME), ""), 1):
             if not TIME.fullmatch(line):
                 raise ValueError(f"{path}: line {number} is not a time: a line has milliseconds since 1970, as "
@@ -205,7 +206,7 @@ def times_beside(path, beside=None):
     ValueError where that has another number of times than the recording has pieces."""
     beside = beside or times_path(path)
     times = sum(1 for _ in read_times(beside))
-    with open(path, "rb") as recording:
+    with files.open_again(path, files.RECORDING) as recording:
         pieces = Reader(recording).count()
     if times != pieces:
         raise ValueError(f"{beside} has {times} times, and {path} {pieces} pieces: these are not the times of this "
