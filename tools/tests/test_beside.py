@@ -4,7 +4,7 @@ import json
 import os
 import shutil
 
-from support import PROGRAM, TOP, ToolCase
+from support import PROGRAM, TOP, ToolCase, pieces, zkr
 
 RUN = TOP / "crates" / "zkdump" / "stdin"
 SECONDS = 20
@@ -74,3 +74,20 @@ class NoFile(ToolCase):
             status, out, err = self.run_tool(tool, "--recording", pipe, listing, seconds=SECONDS)
             self.assertEqual((status, out, err), (1, "", f"{tool}: {pipe} is a pipe, and a recording is read more than "
                                                          "once: name a file\n"))
+
+
+class Decimals(ToolCase):
+    def test_the_times_beside_a_recording_that_has_whole_milliseconds(self):
+        """The four pieces of the stored run, at these times: the replies took 0.25 and 1.125 ms."""
+        if not PROGRAM.exists():
+            self.skipTest("the program zkdump is not built")
+        path, moments = self.folder / "r.zkr", (1795332633000.5, 1795332633000.75, 1795332634000, 1795332634001.125)
+        writer = zkr.Writer(path, zkr.Head("zkr2"), True)
+        for (side, _, data), moment in zip(pieces(RUN.read_bytes()), moments):
+            writer.piece(side, moment, data)
+        writer.close()
+        for beside, wanted in ((True, [0.25, 1.125]), (False, [0, 1])):
+            out = self.run_inside("zkjson.py", path)[1]
+            self.assertEqual([each["ms"] for each in map(json.loads, out.splitlines()) if "ms" in each], wanted)
+            if beside:
+                (self.folder / "r.zkr.times").unlink()
