@@ -33,6 +33,7 @@ import fleet
 import forms
 import inputs
 import listing
+import pythons
 import selection
 import zkr
 
@@ -241,6 +242,7 @@ def write_parts(parser, words, out):
 
 def main():
     parser, words = words_of()
+    pythons.continue_with_numpy(words)
     sys.stdout.reconfigure(encoding="utf-8")
     if fleet.is_asked(words):
         missing, untimed = write_parts(parser, words, sys.stdout)

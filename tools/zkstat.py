@@ -24,6 +24,7 @@ import counted
 import fleet
 import inputs
 import listing
+import pythons
 import selection
 import tables
 import zkr
@@ -269,6 +270,7 @@ def partial(options, paths):
 
 def main():
     parser, words = words_of()
+    pythons.continue_with_numpy(words)
     sys.stdout.reconfigure(errors="backslashreplace")
     found = Statistics(selection.Selection(words))
     if fleet.is_asked(words):

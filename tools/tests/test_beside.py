@@ -9,9 +9,9 @@ from support import PROGRAM, TOP, ToolCase, pieces, zkr
 RUN = TOP / "crates" / "zkdump" / "stdin"
 SECONDS = 20
 # Each tool that reads what is beside a recording, with words before and after the recording.
-FACTS = (("zkstat.py", (), ()), ("zkstat.py", ("--jobs", 2), ()), ("zkjson.py", (), ()), ("zkjson.py", ("--jobs", 2), ()),
-         ("zkreport.py", ("--text",), ()), ("zkreport.py", ("--text", "--jobs", 2), ()), ("zkskip.py", (), ("{out}.zkr",)),
-         ("zkr2pcap.py", (), ("{out}.pcap",)))
+FACTS = (("zkstat.py", (), ()), ("zkstat.py", ("--jobs", 2), ()), ("zkjson.py", (), ()),
+         ("zkjson.py", ("--jobs", 2), ()), ("zkreport.py", ("--text",), ()), ("zkreport.py", ("--text", "--jobs", 2), ()),
+         ("zkskip.py", (), ("{out}.zkr",)), ("zkr2pcap.py", (), ("{out}.pcap",)))
 
 
 class NoFile(ToolCase):
