@@ -2,9 +2,7 @@
 
 import itertools
 
-import facts
-import files
-import zkr
+from . import facts, files, zkr
 
 LARGEST_CONNECTED = 1 << 10
 MADE_UP = b"\xff" * 8       # the session in a connect response that pcap2zkr makes up

@@ -4,12 +4,8 @@ import os
 import re
 import struct
 
-import contents
-import files
-import listing
-import operations
-import zkr
-from frames import LARGEST, Beginning
+from . import contents, files, listing, operations, zkr
+from .frames import LARGEST, Beginning
 
 LETTERS = {zkr.CLIENT: "C", zkr.SERVER: "S"}
 LENGTH_AND_XID = struct.Struct(">ii")

@@ -10,8 +10,7 @@ import shutil
 import subprocess
 import sys
 
-import columns
-import zkr
+from . import columns, zkr
 
 PLACES = ("python3", "/usr/bin/python3")
 WORTH_IT = 1 << 22      # the bytes of recordings from which on it is faster, although a Python begins twice more
