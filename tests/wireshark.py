@@ -30,6 +30,7 @@ import invented
 from listed import listings_of
 from odd import Odd
 import placed
+from shown import Shown
 from zkdump_tools import resync
 import wanted
 
@@ -37,7 +38,7 @@ PACKAGES = ("tshark", "wireshark-dev", "gcc", "pkg-config", "cmake")
 MUTANTS_A_RUN = 250
 
 
-class Tests(Connections, Odd):
+class Tests(Connections, Odd, Shown):
     """Each test_ gives pairs: whether it is as it should be, and what to print otherwise."""
 
     def __init__(self, plugin, folder, words):

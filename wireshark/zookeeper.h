@@ -139,6 +139,11 @@ struct piece {
     gboolean may_wait;       /* for more after them */
 };
 
+/* Whether the SYN of a side was captured; and how many of the bytes of a side whose SYN has this number are before
+ * another number of TCP's. */
+gboolean has_begun(const struct tcp_analysis *tcp, guint32 side);
+guint32 bytes_before(guint32 number, guint32 syn);
+
 /* What these bytes begin with: on the first pass found out, later looked up; NULL: it isn't known. */
 const struct kept *kept_of(struct connection *connection, packet_info *pinfo, const struct piece *piece);
 
