@@ -116,7 +116,7 @@ class Scripts(ToolCase):
                                         for name in ("model.js", "draw.js", "tables.js")) + code)
 
     def script(self, *names):
-        return "".join((TOOLS / "report" / name).read_text("utf-8") for name in names)
+        return "".join((SCRIPTS / name).read_text("utf-8") for name in names)
 
     def test_many_requests_without_times_have_no_axis_of_latencies(self):
         """Also where the page has not every one of them, and would show how many there were by latency."""
@@ -126,7 +126,7 @@ class Scripts(ToolCase):
             lines.answer(None, n, zxid="0x1")
         path = lines.write(self.folder / "a.json", ending="whole", unanswered=0)
         code = self.script("latency.js") + "console.log(JSON.stringify([data.complete, latencyAxis(matching())]));"
-        with unittest.mock.patch("report.kept.SLOWEST", 2):
+        with unittest.mock.patch("zkdump_tools.report.kept.SLOWEST", 2):
             self.assertEqual(self.of_page(code, path), [False, None])
 
     def test_how_requests_went_over_time(self):
@@ -148,7 +148,8 @@ class Scripts(ToolCase):
         began = asked[0][0]
         for most, complete in ((8_000, True), (2, False)):
             (self.folder / "a.html").unlink(missing_ok=True)
-            with unittest.mock.patch("report.kept.SLOWEST", most), unittest.mock.patch("report.kept.OTHER_FAILED", most):
+            with unittest.mock.patch("zkdump_tools.report.kept.SLOWEST", most), \
+                    unittest.mock.patch("zkdump_tools.report.kept.OTHER_FAILED", most):
                 is_complete, count, failed, are_apart, steps = self.of_page(code, path)
             self.assertEqual((is_complete, count, failed, are_apart),
                              (complete, len(asked), sum(each[2] for each in asked), True))
