@@ -116,7 +116,8 @@ def connection_of(each):
     return {"name": each.name, "label": each.label, "server": about.server, "begun": exact(begun), "ended": exact(ended),
             "messages": each.messages, "refused": each.is_refused(), "closed": summary.closed_by(each),
             "end": summary.ending_of(each), "first": each.first and each.first.number,
-            "hole": "hole" in about.notes or bool(ending) and ending["ending"] != "whole"}
+            "hole": not {"hole", "unfinished"}.isdisjoint(about.notes) or
+            bool(ending) and ending["ending"] != "whole"}
 
 
 def session_of(session):
