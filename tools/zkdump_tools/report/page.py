@@ -12,7 +12,7 @@ from . import kept, paths, summary, text
 from .messages import exact
 
 HERE = pathlib.Path(__file__).resolve().parent
-SCRIPTS = ("model.js", "draw.js", "sessions.js", "latency.js", "tables.js", "messages.js", "page.js")
+SCRIPTS = ("model.js", "draw.js", "sessions.js", "trends.js", "latency.js", "tables.js", "messages.js", "page.js")
 
 
 def page(title, found, messages, compared=None):
