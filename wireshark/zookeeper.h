@@ -182,15 +182,16 @@ struct call *call_new(struct connection *connection, packet_info *pinfo, struct 
                       guint32 length);
 void call_answer(struct connection *connection, packet_info *pinfo, struct frame *frame);
 
-/* ---- Fields (tree.c, register.c) */
+/* ---- Fields (tree.c, values.c, register.c) */
 
 enum { MOST_FIELDS = 4096 };
 
 /* The filterable fields of messages. */
 enum name {
     FIELD_XID, FIELD_OP, FIELD_ZXID, FIELD_ERR,
-    FIELD_PATH, FIELD_DATA, FIELD_VERSION, FIELD_FLAGS, FIELD_WATCH,
-    FIELD_ACL, FIELD_PERMS, FIELD_SCHEME, FIELD_ID, FIELD_AUTH_TYPE, FIELD_AUTH,
+    FIELD_PATH, FIELD_DATA, FIELD_DATA_TEXT, FIELD_VERSION, FIELD_FLAGS, FIELD_EPHEMERAL, FIELD_SEQUENTIAL, FIELD_WATCH,
+    FIELD_ACL, FIELD_PERMS, FIELD_PERM_READ, FIELD_PERM_WRITE, FIELD_PERM_CREATE, FIELD_PERM_DELETE, FIELD_PERM_ADMIN,
+    FIELD_SCHEME, FIELD_ID, FIELD_AUTH_TYPE, FIELD_AUTH,
     FIELD_CHILDREN, FIELD_CHILD,
     FIELD_RELATIVE_ZXID, FIELD_DATA_WATCHES, FIELD_EXIST_WATCHES, FIELD_CHILD_WATCHES, FIELD_WATCHED,
     FIELD_EVENT_KIND, FIELD_EVENT_STATE,
@@ -207,7 +208,7 @@ extern int hf_field[FIELD_NAMES];
 extern int hf_length, hf_side, hf_kind, hf_frame, hf_unread, hf_no_frame, hf_words;
 extern int hf_response_in, hf_response_to, hf_response_time, hf_expected_xid;
 extern int hf_verdict, hf_reason, hf_place, hf_line;
-extern gint ett_message, ett_list, ett_stat, ett_part, ett_acl;
+extern gint ett_message, ett_list, ett_stat, ett_part, ett_acl, ett_bits;
 extern expert_field ei_refused, ei_unread, ei_newer, ei_order, ei_unasked, ei_error, ei_no_frame, ei_again, ei_cut,
     ei_many;
 
@@ -222,6 +223,10 @@ void tree_head(tvbuff_t *tvb, proto_tree *tree, guint32 kind, guint32 length);
 /* Adds these fields of a payload. */
 void tree_fields(tvbuff_t *tvb, packet_info *pinfo, proto_tree *tree, guint32 kind, const struct zk_field *fields,
                  size_t count);
+
+/* Shows what the value of this field means, of which this is the item. */
+void show_value(proto_item *item, tvbuff_t *tvb, packet_info *pinfo, enum name name, const struct zk_field *field,
+                int at);
 
 /* Adds the header by which a multi, or its results, end. */
 void tree_last_header(tvbuff_t *tvb, proto_tree *tree, guint32 place);
