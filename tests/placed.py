@@ -63,13 +63,12 @@ def plugins(field, before, kind):
 
 def meaning(name, place, length, payload):
     """A field, and what is below it: bits, or the text that data is."""
-    content = payload[place:place + length]
-    below = BITS.get(name, ())
-    if name == "flags" and not 0 <= int.from_bytes(content, "big", signed=True) <= 3:
-        below = ()
+    content, found = payload[place:place + length], [(name, place, length)]
     if name == "data" and length and all(32 <= byte < 127 or byte in b"\t\r\n" for byte in content):
-        below = ("text",)
-    return [(name, place, length), *((f"{name}.{each}", place, length) for each in below)]
+        return [*found, ("data.text", place, length)]
+    if name == "flags" and not 0 <= int.from_bytes(content, "big", signed=True) <= 3:
+        return found
+    return found + [(f"{name}.{each}", place + 3, 1) for each in BITS.get(name, ())]
 
 
 def wanted(call, payload, place, trails, whole):

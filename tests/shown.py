@@ -12,6 +12,7 @@ from odd import HEADS, piece
 PROGRAM = TOP / "crates" / "zkdump" / "out" / "zkdump"
 # Of a mutated byte; and reasons that the plugin has no refusal for, as it goes on there.
 BYTES, NO_REFUSAL = (0, 1, 0x7F, 0x80, 0xFF), ("UnknownOp", "BadPart")
+LATER = 21                  # createTTL
 LONG = "00000000 00000bb8" + "61" * 3000 + "00" * 68     # the rest of a reply to getData, in three segments
 
 
@@ -72,7 +73,7 @@ class Shown:
                     yield [*told.values()] == [{wanted}], f"{size} bytes a segment, {words}: {told}, not {wanted}"
 
     def test_a_reply_that_was_held_back(self):
-        """The request 2 isn't captured, and the last segment of reply 1, which has reply 2 behind it and says that the
+        """The request 2 isn't captured, and the last segment of reply 1, which has reply 2 after it and says that the
         server has more, comes before the one in the middle: TCP holds it back, and nothing is refused."""
         short = piece(zkr.SERVER, "00000002 0000000000000005 ffffff9b")
         parts = [answered(1).data[:2896], answered(1).data[2896:] + short.data]
@@ -80,8 +81,8 @@ class Shown:
         sent = list(wire.conversation(pieces))
         first, middle, lost, last = range(6, 10)
         kept = [*sent[:middle], sent[last], sent[middle], *sent[last + 1:]]
-        yield [sent[at].side for at in (first, middle, lost, last)] == [zkr.SERVER, zkr.SERVER, zkr.CLIENT, zkr.SERVER], \
-            "the segments are others"
+        sides = b"".join(sent[at].side for at in (first, middle, lost, last))
+        yield sides == b"SSCS", f"the segments are others: {sides}"
         for words in ((), IN_ORDER):
             found = self.plugin.frames(wire.pcap(packed(kept)), *words)
             yield found and not any(each["refused"] for each in found), f"{words}: refused"
@@ -97,3 +98,84 @@ class Shown:
         told = self.refusals(joined(list(wire.conversation(pieces)) for pieces, _ in cases))
         for at, (_, wanted) in enumerate(cases):
             yield told[40_000 + at] == {wanted}, f"mutant {at}: {told[40_000 + at]}, not {wanted}"
+
+    def test_connect_is_a_pair(self):
+        """It takes the milliseconds between its packets, in a row of its own, on either pass, and whichever of the two
+        was captured first; a connection without a response has none."""
+        sent = list(wire.conversation(HEADS))
+        begun, welcome = (next(at for at, each in enumerate(sent) if each.data and each.side == side)
+                          for side in (zkr.CLIENT, zkr.SERVER))
+        for words in ((), ("-2",)):
+            request, response = self.plugin.frames(wire.pcap(packed(sent)), *words)
+            took = f"{(sent[welcome].milliseconds - sent[begun].milliseconds) / 1000:.9f}"
+            found = response["response_to"], response["response_time"], response["op"], request["op"]
+            yield found == ([str(begun + 1)], [took], [], []), f"{words}: {found}"
+            yield request["response_in"] == ([str(welcome + 1)] if words else []), f"{words}: {request['response_in']}"
+        times = self.plugin.read(wire.pcap(packed(sent)), "-q", "-z", "zookeeper,srt")
+        rows = re.findall(r"^ +-?\d+ +(\w+) +(\d+) .* ([\d.]+)$", times, re.M)
+        yield rows == [("connect", "1", took[:8])], f"{rows}"
+        alone, = self.plugin.frames(wire.pcap(packed(sent[:welcome])), "-2")
+        yield not alone["response_in"], f"{alone['response_in']}"
+        exchanged = [*sent[:begun], sent[welcome], sent[begun], *sent[welcome + 1:]]
+        found = [(each["kind"], each["response_in"], each["response_to"]) for each in
+                 self.plugin.frames(wire.pcap(packed(exchanged)), "-2", "-o", "tcp.analyze_sequence_numbers:FALSE")]
+        yield found == [(["3"], [], [str(begun + 2)]), (["1"], [str(begun + 1)], [])], f"{found}"
+
+    def test_a_multi_with_parts_of_later_releases(self):
+        """It is noted as that, and is neither refused nor malformed; nor is its reply, or what follows. Its first part
+        is read. A part that no release has is refused as before."""
+        first = "0000000d 00 ffffffff 00000002 2f61 00000003"       # check /a
+        last = "ffffffff 01 ffffffff"
+        for later in (LATER, 9999):
+            part = f"{later:08x} 00 ffffffff 00000002 2f62 00000000 00000000 00000005 0000000000000064"
+            reply = (f"00000001 0000000000000005 00000000 0000000d 00 00000000 {later:08x} 00 00000000 00000002 2f62 "
+                     f"{last}")
+            pieces = [*HEADS, piece(zkr.CLIENT, f"00000001 0000000e {first} {part} {last}"), piece(zkr.SERVER, reply),
+                      asked(2), piece(zkr.SERVER, "00000002 0000000000000005 ffffff9b")]
+            found = self.plugin.frames(capture_of(pieces))
+            wrong = [each["packet"] for each in found if each["refused"] or each["malformed"]]
+            noted = [bool(each["newer"]) for each in found]
+            if later == LATER:
+                yield not wrong and noted == [False, False, True, True, False, False], f"{wrong}, {noted}"
+                yield found[2]["path"] == ["/a"] and found[2]["part.op"] == ["13"], f"{found[2]['path']}"
+            else:
+                yield wrong == [found[2]["packet"]] and not any(noted), f"no release's: {wrong}, {noted}"
+            pairs = [(each["packet"], reply["response_to"]) for each, reply in zip(found[2::2], found[3::2])]
+            yield all([str(packet)] == to for packet, to in pairs), f"{pairs}"
+
+    def test_data_as_text(self):
+        """Printable UTF-8, with tabs and line ends, is shown as text; its bytes stay a field."""
+        for data, shown in ((b"a 1", '"a 1"'), ("\u00e9\u4e2d\n\t".encode(), '"\u00e9\u4e2d\\n\\t"'), (b"a\0", None),
+                            (b"a\x01", None), (b"\xff", None), (b"\xe4\xb8", None), (b"", None),
+                            (b"x" * 300, f'"{"x" * 160}"..'), (b"x" * 160, f'"{"x" * 160}"'),
+                            (b"x" * 159 + "\u4e2d".encode(), f'"{"x" * 159}"..')):
+            text = f"00000001 00000005 00000002 2f61 {len(data):08x} {data.hex()} ffffffff"
+            capture = capture_of([*HEADS, piece(zkr.CLIENT, text)])
+            *_, found = self.plugin.frames(capture)
+            told = re.findall(r"^ +Data: (.*)$", self.plugin.read(capture, "-V", "-O", "zookeeper"), re.M)
+            wanted = [re.sub(r"\s", " ", data.decode())] if shown else []     # as an attribute of XML has it
+            yield found["data"] == [":".join(f"{byte:02x}" for byte in data)] or not data, f"{data}: {found['data']}"
+            yield found["data.text"] == wanted, f"{data}: {found['data.text']}"
+            yield [each for each in told if each[0] == '"'] == ([shown] if shown else []), f"{data}: {told}"
+
+    def test_flags_and_permissions_as_bits(self):
+        """Each bit is a field; the modes of later releases are numbers, and no bits."""
+        names = {0: "PERSISTENT", 1: "EPHEMERAL", 2: "PERSISTENT_SEQUENTIAL", 3: "EPHEMERAL_SEQUENTIAL", 4: "CONTAINER",
+                 5: "PERSISTENT_WITH_TTL", 6: "PERSISTENT_SEQUENTIAL_WITH_TTL", 7: None, -1: None}
+        bits = {"read": 1, "write": 2, "create": 4, "delete": 8, "admin": 16}
+        for flags, name in names.items():
+            perms = (flags + 1) * 5 % 32
+            text = (f"00000001 00000001 00000002 2f61 00000000 00000001 {perms:08x} 00000005 776f726c64 00000006 "
+                    "616e796f6e65")
+            capture = capture_of([*HEADS, piece(zkr.CLIENT, f"{text} {flags & 0xffffffff:08x}")])
+            *_, found = self.plugin.frames(capture)
+            shown = [found[f"flags.{each}"] for each in ("ephemeral", "sequential")]
+            wanted = [[str(flags & 1)], [str(flags >> 1)]] if 0 <= flags <= 3 else [[], []]
+            yield (found["flags"], shown) == ([str(flags)], wanted), f"{flags}: {found['flags']}, {shown}"
+            shown = {each: found[f"acl.perms.{each}"] for each in bits}
+            yield shown == {each: [str(int(bool(perms & bit)))] for each, bit in bits.items()}, f"{perms}: {shown}"
+            told = self.plugin.read(capture, "-V", "-O", "zookeeper")
+            words = ", ".join(each.upper() for each, bit in bits.items() if perms & bit)
+            line = f"{perms} ({words})" if words else f"{perms}"
+            yield re.findall(r"^ +Permissions: (.*)$", told, re.M) == [line], told
+            yield not name or f"Flags: {name} ({flags})\n" in told, told

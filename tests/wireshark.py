@@ -260,9 +260,10 @@ class Tests(Connections, Odd, Shown):
         path = TOP / "captures" / "kazoo_basic.zkr"
         asked = collections.Counter(line.split()[2] for line in path.with_suffix(".show").read_text().splitlines()
                                     if re.match(r"C -?\d", line))
+        answered = {**asked, "connect": 1}
         times = self.plugin.read(capture_of(pieces_of(path)), "-q", "-z", "zookeeper,srt")
         found = {name: int(calls) for name, calls in re.findall(r"^ +-?\d+ +(\w+) +(\d+) ", times, re.M)}
-        yield found == dict(asked), f"srt: {found}, not {dict(asked)}"
+        yield found == answered, f"srt: {found}, not {answered}"
         counts = self.plugin.read(capture_of(pieces_of(path)), "-q", "-z", "zookeeper,tree")
         found = {name: int(count) for name, count in re.findall(r"^ +(\w+) +(\d+) ", counts, re.M)}
         yield all(found.get(name) == count for name, count in asked.items()), f"tree: {found}"

@@ -29,8 +29,8 @@ static gboolean acknowledges_nothing(packet_info *pinfo, const struct piece *pie
 }
 
 /* Whether who says this may have read more of the other side than is known here: it acknowledges bytes that make no
- * frame, and not the middle of the next one alone. TCP gives the acknowledgement of the packet that it is at: of a frame
- * beyond that packet's bytes, which TCP has held back till they came, it isn't known. */
+ * frame, and not the middle of the next one alone. TCP gives the acknowledgement of the packet that it is at; that of a
+ * frame beyond the packet's bytes, which TCP has held back till these came, isn't known. */
 static gboolean may_know_more(packet_info *pinfo, const struct way *other, const struct piece *piece) {
     const struct tcpinfo *tcp = piece->tcp;
     gint32 acknowledged = (gint32)(tcp->lastackseq - other->next), next = (gint32)(other->end - other->next);
@@ -57,7 +57,11 @@ static void judge(struct connection *connection, packet_info *pinfo, const struc
         return;
     }
     frame->verdict = judge_take(judge, piece->side, piece->bytes, size, &frame->fault);
-    if (frame->verdict == VERDICT_REFUSED) {
+    if (frame->verdict == VERDICT_REFUSED && frame->fault.reason == ZK_BAD_PART && is_asking(frame) &&
+        frame->call->later_part) {
+        frame->verdict = VERDICT_NONE;
+        judge_no_more(connection, pinfo, "has a multi with an operation of a later release");
+    } else if (frame->verdict == VERDICT_REFUSED) {
         connection->refused = pinfo->num;
     } else if (frame->verdict == VERDICT_WELL) {
         gsize length = judge_line_length(judge, piece->side);
@@ -108,10 +112,12 @@ struct frame *frame_new(struct connection *connection, packet_info *pinfo, const
             way->sure = TRUE;
             client->sure |= !client->sought && frame->call->asked >= client->since;
         }
-    } else if (frame->kind == ZK_CONNECT && there >= 24) {
-        connection->session = (guint64)long_at(payload + 16);
-    } else if (frame->kind == ZK_CONNECTED && there >= 16) {
-        connection->session = (guint64)long_at(payload + 8);
+    } else if (frame->kind == ZK_CONNECT || frame->kind == ZK_CONNECTED) {
+        guint32 place = frame->kind == ZK_CONNECT ? 16 : 8;
+        call_connect(connection, pinfo, frame);
+        if (there >= place + 8) {
+            connection->session = (guint64)long_at(payload + place);
+        }
     }
     frame->session = connection->session;
     if (piece->there < size) {

@@ -39,7 +39,7 @@ static const enum_val_t profiles[] = {
 #define HEX(name, text, abbreviation) PLAIN(name, text, abbreviation, FT_UINT64, BASE_HEX)
 #define BOOL(name, text, abbreviation) PLAIN(name, text, abbreviation, FT_BOOLEAN, BASE_NONE)
 #define BIT(name, text, abbreviation, mask) \
-    {&(hf_field[name]), {text, "zookeeper." abbreviation, FT_BOOLEAN, 32, NULL, mask, NULL, HFILL}}
+    {&(hf_field[name]), {text, "zookeeper." abbreviation, FT_BOOLEAN, 8, NULL, mask, NULL, HFILL}}
 #define TEXT(name, text, abbreviation) PLAIN(name, text, abbreviation, FT_STRING, BASE_NONE)
 #define BLOB(name, text, abbreviation) PLAIN(name, text, abbreviation, FT_BYTES, BASE_NONE)
 #define TIME(name, text, abbreviation) PLAIN(name, text, abbreviation, FT_ABSOLUTE_TIME, ABSOLUTE_TIME_UTC)

@@ -23,11 +23,12 @@ static const struct bit permissions[] = {
 };
 static const struct bit flags[] = {{FIELD_EPHEMERAL, 1, NULL}, {FIELD_SEQUENTIAL, 2, NULL}};
 
+/* The bits are in the last of a number's four bytes. */
 static void show_bits(proto_item *item, tvbuff_t *tvb, gint64 number, int at, const struct bit *bits, size_t count) {
     proto_tree *tree = proto_item_add_subtree(item, ett_bits);
     const char *before = " (";
     for (size_t k = 0; k < count; k++) {
-        proto_tree_add_item(tree, hf_field[bits[k].name], tvb, at, 4, ENC_BIG_ENDIAN);
+        proto_tree_add_item(tree, hf_field[bits[k].name], tvb, at + 3, 1, ENC_NA);
         if (bits[k].word && (number & bits[k].mask)) {
             proto_item_append_text(item, "%s%s", before, bits[k].word);
             before = ", ";

@@ -29,7 +29,7 @@ typedef gboolean wmem_flag;
 
 /* ---- Connections (connection.c) */
 
-/* A request, and what is known of its reply. */
+/* A request, or the connect request, and what is known of its reply. */
 struct call {
     gint32 xid, op;
     guint32 asked, answered; /* packets; 0: none */
@@ -39,6 +39,7 @@ struct call {
     guint32 count;           /* of parts */
     gint32 *parts;
     gboolean is_known;       /* all of it was read */
+    gboolean later_part;     /* of a multi: a part is an operation that the profile lacks */
     gboolean passed;         /* a later one was answered before it */
     struct call *same;       /* the next that waits with this xid */
     struct call *before, *behind;
@@ -120,6 +121,7 @@ struct connection {
     guint64 session;
     struct judge judge;
     guint32 refused;         /* in this packet; 0: nowhere */
+    struct call *connect;    /* the connect request, or that which its response answers */
     wmem_map_t *waiting;     /* by xid, a queue */
     struct calls calls, passed; /* that wait, with xids of their own: those that weren't passed, and those that were */
     wmem_map_t *early;       /* by xid, a reply that was captured before its request */
@@ -181,6 +183,18 @@ struct frame *frame_without_payload(struct connection *connection, packet_info *
 struct call *call_new(struct connection *connection, packet_info *pinfo, struct frame *frame, const guint8 *payload,
                       guint32 length);
 void call_answer(struct connection *connection, packet_info *pinfo, struct frame *frame);
+
+/* Takes one of the connect messages, which are a pair. */
+void call_connect(struct connection *connection, packet_info *pinfo, struct frame *frame);
+
+/* Whether a frame is a request, or the connect request; and whether it is the reply to one that is known. */
+static inline gboolean is_asking(const struct frame *frame) {
+    return frame->call && (frame->kind == ZK_REQUEST || frame->kind == ZK_CONNECT);
+}
+
+static inline gboolean is_answer(const struct frame *frame) {
+    return frame->call && (frame->kind == ZK_REPLY || frame->kind == ZK_CONNECTED) && frame->call->asked;
+}
 
 /* ---- Fields (tree.c, values.c, register.c) */
 
