@@ -7,11 +7,11 @@ import signal
 import subprocess
 import sys
 
-import test_pcap_pairs as made
-import wire
-from proxied import TroubleCase
-from support import CAPTURES, PROGRAM, TOOLS, TOP, ToolCase, sides
-from zkdump_tools import contents, facts
+from . import test_pcap_pairs as made
+from . import wire
+from .proxied import TroubleCase
+from .support import CAPTURES, PROGRAM, TOOLS, TOP, ToolCase, sides
+from tools.zkdump_tools import contents, facts
 
 RUN = TOP / "crates" / "zkdump" / "stdin"
 SESSION = "0x100000000000001"

@@ -8,10 +8,10 @@ import sys
 import time
 import unittest.mock
 
-import wire
-from captured import SMALL, PcapCase, capture_of, packed
-from support import TOOLS, pieces, sides, zkr
-from zkdump_tools import pcap2zkr
+from . import wire
+from .captured import SMALL, PcapCase, capture_of, packed
+from .support import TOOLS, pieces, sides, zkr
+from tools.zkdump_tools import pcap2zkr
 
 ASK = zkr.Piece(zkr.CLIENT, None, b"ask")
 REPLY = zkr.Piece(zkr.SERVER, None, b"reply")

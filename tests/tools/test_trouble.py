@@ -10,9 +10,9 @@ import threading
 import time
 import unittest.mock
 
-from proxied import NO_IPV6, SECONDS, TroubleCase
-from support import TOOLS, pieces, receive
-from zkdump_tools import addresses, proxy
+from .proxied import NO_IPV6, SECONDS, TroubleCase
+from .support import TOOLS, pieces, receive
+from tools.zkdump_tools import addresses, proxy
 
 
 class Descriptors(TroubleCase):

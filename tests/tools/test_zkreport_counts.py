@@ -7,10 +7,10 @@ import subprocess
 import sys
 import unittest.mock
 
-import report_lines
-from support import PROGRAM, TOOLS, ToolCase, zkr
+from . import report_lines
+from .support import PROGRAM, TOOLS, ToolCase, zkr
 
-from zkdump_tools import facts
+from tools.zkdump_tools import facts
 
 CONNECTED = ["C connect version=0 zxid=0 timeout=9000 session=0 passwd=#00 ro=0",
              "S connect version=0 timeout=9000 session=72 passwd=#00 ro=0"]

@@ -6,8 +6,8 @@ import shutil
 import subprocess
 import unittest.mock
 
-import report_lines
-from support import TOOLS, ToolCase
+from . import report_lines
+from .support import TOOLS, ToolCase
 
 SCRIPTS = TOOLS / "zkdump_tools" / "report"
 
