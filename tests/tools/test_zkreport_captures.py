@@ -107,7 +107,7 @@ class Captures(ToolCase):
         for said, connections in (("", 0), (LINES.splitlines()[3], 1)):
             killed.write_text(f"import os\nprint({said!r}, flush=True)\nos.kill(os.getpid(), 9)\n")
             found, warnings = [], []
-            with unittest.mock.patch("zkdump_tools.report.sources.TOOLS", self.folder):
+            with unittest.mock.patch("tools.zkdump_tools.report.sources.TOOLS", self.folder):
                 try:
                     found += sources.captured("x.pcap", "x.pcap", "/t/x", 2181, warnings)
                 except ValueError as error:

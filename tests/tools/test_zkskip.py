@@ -181,7 +181,7 @@ class Zkskip(ToolCase):
                 raise KeyboardInterrupt
             return take(skipping, piece)
         for name, taken, status, left in (("b", take, 0, True), ("c", interrupted, 130, False)):
-            with unittest.mock.patch("zkdump_tools.zkskip.Skipping.take", taken):
+            with unittest.mock.patch("tools.zkdump_tools.zkskip.Skipping.take", taken):
                 self.assertEqual(self.run_inside("zkskip.py", source, self.folder / f"{name}.zkr")[0], status)
             self.assertTrue((self.folder / f"{name}.zkr").exists())
             self.assertEqual((self.folder / f"{name}.facts.json").exists(), left)
