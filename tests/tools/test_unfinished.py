@@ -3,9 +3,9 @@ place."""
 
 import json
 
-from proxied import TroubleCase
-from support import PROGRAM, TOP, pieces
-from zkdump_tools import facts
+from tools.zkdump_tools import facts
+from .proxied import TroubleCase
+from .support import PROGRAM, TOP, pieces
 
 RUN = TOP / "crates" / "zkdump" / "stdin"
 

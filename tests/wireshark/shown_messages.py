@@ -5,9 +5,9 @@ import random
 import re
 import subprocess
 
-from connections import IN_ORDER, WHOLE
-from dissected import TOP, capture_of, joined, packed, pieces_of, wire, zkr
-from odd import HEADS, piece
+from .connections import IN_ORDER, WHOLE
+from .installed_plugin import TOP, capture_of, joined, packed, pieces_of, wire, zkr
+from .unusual_captures import HEADS, piece
 
 PROGRAM = TOP / "crates" / "zkdump" / "out" / "zkdump"
 # Of a mutated byte; and reasons that the plugin has no refusal for, as it goes on there.
