@@ -19,7 +19,7 @@ import re
 import struct
 from typing import NamedTuple, Optional
 
-from . import facts, files, frames
+from . import facts, files, frames, program
 from .newfile import NewFile, flush
 from .operations import PROFILES
 from .running import (Progress, allow_many_files, complain, hold_standard_streams, drop_standard_output,  # noqa: F401
@@ -359,6 +359,7 @@ class Words(argparse.ArgumentParser):
     def __init__(self, description):
         super().__init__(description=description, allow_abbrev=False,
                          formatter_class=argparse.RawDescriptionHelpFormatter)
+        self.add_argument("--version", action=program.Version, nargs=0, help="print the version, and end")
 
     def error(self, message):
         complain(" ".join(message.split()))

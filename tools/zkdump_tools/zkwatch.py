@@ -22,7 +22,7 @@ import subprocess
 import sys
 import time
 
-from . import addresses, program, proxy, zkr, zkskip
+from . import addresses, program, proxy, running, zkr, zkskip
 from .proxy import READ, WRITE
 
 BLOCK = 65536
@@ -222,7 +222,7 @@ class Watch(proxy.Proxy):
     descriptors = 8         # the pipes of a `show`, with those that are open only while it begins
 
     def __init__(self, server, words):
-        super().__init__("zkwatch.py", server)
+        super().__init__(running.name(), server)
         self.command = [words.zkdump, "show", "--profile", words.profile, "--limit", str(words.limit)]
         self.head = zkr.Head(client_limit=words.limit, server_limit=words.limit)
         self.profile, self.once, self.shows, self.server_text = words.profile, words.once, set(), words.server
