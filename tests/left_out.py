@@ -1,4 +1,4 @@
-"""What a test leaves out for want of a tool, in one wording, by which ./test gathers it and counts the checks:
+"""What a test leaves out for lack of a tool, in one wording, by which ./test gathers it and counts the checks:
 
     left out: 4 checks of examples/go, since go is not here
 """
