@@ -26,6 +26,7 @@ from dev import source
 from examples import talk
 from packaging import make_library
 from packaging.build_library import CRATE, built
+from .. import left_out
 from . import examples, fields, messages, packages, passages, reused_handles, verdicts, written_frames
 
 TOP = pathlib.Path(__file__).resolve().parents[2]
@@ -43,6 +44,7 @@ C_TYPES = {"u8": "uint8_t", "u16": "uint16_t", "u32": "uint32_t", "u64": "uint64
 INSIDE = {"TalkBox", "PassageBox", "VoiceBox"}
 NAMED = {"uint32_t", "int32_t", "int64_t"}  # parameters of these types have the crate's names
 FIELDS = TOP / "crates" / "zk_fields" / "src"
+LINKED = "what is linked with libzk"        # in CHECKS of left_out.py
 
 
 def c_words(name, word):
@@ -154,7 +156,7 @@ def check(folder, options):
     lacking = make_library.missing()
     cc = examples.compiler()
     if lacking or not cc:
-        print(f"skipped: the library is not linked, as {', '.join(lacking) or 'a compiler of C'} is missing")
+        left_out.say(LINKED, left_out.lacking(lacking or ["a compiler for C"]))
         return
     archive, shared = make_library.make(folder, options.library)
     yield from compare_calls(shared)
@@ -173,7 +175,8 @@ def main():
         options.library = built()
     results = list(compare_header())
     with tempfile.TemporaryDirectory() as folder:
-        results += check(pathlib.Path(folder), options)
+        linked = list(check(pathlib.Path(folder), options))
+    results += [*linked, left_out.compared(LINKED, len(linked))] if linked else []
     failures = [told for _, good, told in results if not good]
     print("\n".join(failures[:50]), end="\n" if failures else "")
     print(f"{len(results) - len(failures)} passed, {len(failures)} failed")
