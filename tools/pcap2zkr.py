@@ -43,7 +43,7 @@ import resync
 import zkr
 from conversation import Conversation
 from recordings import Series
-from streams import MASK, Stream
+from streams import MASK, Budget, Stream
 
 MOST_HELD, MOST_SILENT, MOST_LINGERING, MOST_OVER, MOST_PORTS = 1 << 25, 8192, 256, 8192, 8
 DAMAGED = (struct.error, IndexError, zlib.error)
@@ -57,19 +57,12 @@ def address_text(ends, at):
     return f"{text}:{int.from_bytes(ends[port:port + 2], 'big')}"
 
 
-class Budget:
-    """How many bytes wait, of all connections, and how many may."""
-
-    def __init__(self, most):
-        self.held, self.most = 0, most
-
-
 class Capture:
     """All connections of a capture."""
 
     def __init__(self, words, head):
         self.port, self.begun, self.left_out = words.port, 0, False
-        self.series = Series(words.prefix, head, words.times, words.late)
+        self.series = Series(words.prefix, head, words.times, words.late, Budget(MOST_HELD))
         self.budget, self.heard = Budget(MOST_HELD), {}
         # By the ends of a direction, the half of a connection, or where the bytes of one that is over were. And the
         # connections of which no byte was captured yet, and those of which no more is expected, the oldest first.
