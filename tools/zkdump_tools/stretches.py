@@ -23,9 +23,8 @@ import heapq
 import math
 from typing import NamedTuple, Optional
 
-import resync
-import zkr
-from streams import SIDES
+from . import resync, zkr
+from .streams import SIDES
 
 EVENT, PING, *OTHERS = (xid.to_bytes(4, "big", signed=True) for xid in (resync.EVENT, *resync.LANES))
 LANES = (PING, *OTHERS)
