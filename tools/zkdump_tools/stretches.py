@@ -239,7 +239,7 @@ class Stretch:
     def is_certain(self):
         """Whether the next reply to a ping is certainly one to the last ping of it."""
         come = self.all.pongs - self.counted
-        if self.anchored or self.since != 1 or not self.certain or come == 0:
+        if self.anchored or self.since != 1 or not self.certain or come == 0 or not self.waiting[PING]:
             return False
         asked = self.undecided[self.waiting[PING][-1][1]].milliseconds
         return come >= self.owed + len(self.waiting[PING]) - 1 or asked - self.all.pong_time >= QUIET
@@ -299,6 +299,8 @@ class Stretch:
                 self.waiting.get(message.xid(), self.ordinary).popleft()
                 self.owed += message.xid() == PING
                 self.leave(order)
+        if self.before and not (self.undecided and next(iter(self.undecided)) < self.boundary):
+            self.end_before()
         if self.before:
             self.flush(self.before)
         elif self.anchored or not self.undecided:
