@@ -21,7 +21,8 @@ UNREAD = object()
 def add_words(parser):
     """Adds the arguments that say what is read."""
     parser.add_argument("inputs", metavar="FILE", nargs="*", help="listings, or recordings, whose listings zkdump show "
-                        "makes; without one, a listing on standard input")
+                        "makes; or a folder of recordings, or @LIST, a file with a path on each line, of which what "
+                        "can't be read becomes a row; without one, a listing on standard input")
     parser.add_argument("--recording", metavar="FILE", help="the recording that the listing is of, for its times")
     parser.add_argument("--times-file", metavar="FILE", dest="times", help="the times of its pieces (RECORDING.times)")
     parser.add_argument("--times", dest="times", help=argparse.SUPPRESS)    # as it was called
@@ -107,6 +108,13 @@ def columns_of(words, path, fast, known, progress):
         columns.said = True
         zkr.report(f"this takes longer than it could, since {lacking} (tools/README.md, \"The fast way\")")
     return None
+
+
+def messages_of(parser, words, path, progress):
+    """The messages of a recording, whatever its times and its facts, as columns where that can be."""
+    if not columns.lacks(words, False) and (found := columns.opened(words, path, None, progress, ["--lines"])):
+        return found
+    return listing.Listing(path, lines_of_show(parser, words, path, lambda: None), None, progress, True)
 
 
 def lines_of_show(parser, words, path, before_read):

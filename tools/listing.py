@@ -25,7 +25,7 @@ ASKED = {CONNECT, *(operation.name for operation in operations.ALL if operation.
 UNREAD = "unread"       # in place of the ending of one of many recordings, which can't be read
 STOPPED = ("cut", "refused", "recording")       # the endings of what wasn't read to its end
 # What becomes of a request that waits at the end of what was read.
-UNANSWERED, NOT_CAPTURED, NOT_KNOWN = "unanswered", "notCaptured", "notKnown"
+UNANSWERED, NOT_CAPTURED, NOT_KNOWN = FATES = "unanswered", "notCaptured", "notKnown"
 # From these milliseconds on a float has not each microsecond (columns/recording.c), and not each millisecond.
 COARSE, TOO_COARSE = 8e12, 2.0 ** 53
 

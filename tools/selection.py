@@ -107,8 +107,8 @@ class LeftOut:
     """What choices left out since what they choose by isn't known of it: how many connections have messages without
     times, and how many requests are shown by number alone, without a path."""
 
-    def __init__(self):
-        self.untimed = self.pathless = 0
+    def __init__(self, untimed=0, pathless=0):
+        self.untimed, self.pathless = untimed, pathless
 
     def merge(self, other):
         self.untimed, self.pathless = self.untimed + other.untimed, self.pathless + other.pathless
@@ -134,8 +134,7 @@ class Selection:
         self.needs_times = (self.slower, self.begin, self.end) != (None,) * 3
         self.by_message = bool(self.needs_times or self.paths or self.operations)
         self.all = not self.by_message and not self.sessions
-        self.left_out = LeftOut()
-        # Since the last end_connections: the connections with a message without a time, where times choose, and the
+        # Since the last take_left_out: the connections with a message without a time, where times choose, and the
         # number of requests without a path, where paths do, by connection.
         self.untimed, self.pathless = set(), collections.Counter()
 
@@ -150,13 +149,14 @@ class Selection:
         return [made for made in talk.left() if (made.chosen and self.slower is None or not self.by_message)
                 and (not self.sessions or made.connection.session in self.sessions)]
 
-    def end_connections(self):
-        """Adds to `left_out` what the choices left out of the connections that were read since the last call."""
+    def take_left_out(self):
+        """What the choices left out of the connections that were read since the last call, as a LeftOut."""
         def is_chosen(connection):
             return not self.sessions or connection.session in self.sessions
-        self.left_out.untimed += sum(map(is_chosen, self.untimed))
-        self.left_out.pathless += sum(count for each, count in self.pathless.items() if is_chosen(each))
+        found = LeftOut(sum(map(is_chosen, self.untimed)),
+                        sum(count for each, count in self.pathless.items() if is_chosen(each)))
         self.untimed, self.pathless = set(), collections.Counter()
+        return found
 
     def of_messages(self, talk, messages):
         for line, made, asked in messages:

@@ -173,7 +173,7 @@ def ending_of(talk, chosen):
 
 def write_all(parser, words, progress, out):
     """Writes what the arguments choose. Whether a connection is incomplete, and what the choices left out."""
-    chosen, incomplete = selection.Selection(words), False
+    chosen, incomplete, left_out = selection.Selection(words), False, selection.LeftOut()
 
     def fast(name):
         options = chosen.options(name)
@@ -189,8 +189,8 @@ def write_all(parser, words, progress, out):
         incomplete |= talk.connection.is_incomplete()
         if talk.connection.ending:
             print(f"{head}, {json.dumps(ending_of(talk, chosen))[1:]}", file=out)
-        chosen.end_connections()
-    return incomplete, chosen.left_out
+        left_out.merge(chosen.take_left_out())
+    return incomplete, left_out
 
 
 def words_of(arguments=None, kind=zkr.Words):

@@ -99,6 +99,7 @@ class Statistics:
         self.events, self.by_number, self.is_incomplete = collections.Counter(), collections.Counter(), False
         self.waiting = {listing.UNANSWERED: [], listing.NOT_CAPTURED: [], listing.NOT_KNOWN: []}
         self.slowest, self.order, self.least = [], itertools.count(), -1
+        self.left_out = selection.LeftOut()
 
     def counts_of(self, connection):
         """What is counted of a connection."""
@@ -126,7 +127,7 @@ class Statistics:
             made.path = cut(made.path)
             self.waiting[made.fate].append(request(made))
         self.is_incomplete |= any(connection.is_incomplete() for connection in talk.connections())
-        self.selection.end_connections()
+        self.left_out.merge(self.selection.take_left_out())
 
     def read_messages(self, talk):
         """Counts the messages of a conversation one by one; counted.add_block does it with columns."""
@@ -176,7 +177,7 @@ class Statistics:
         """What was counted, for `merge` in another process."""
         connections = {connection: Finished(counts) for connection, counts in self.connections.items()}
         return (dict(self.operations), connections, self.events, self.by_number, self.waiting, self.is_incomplete,
-                self.selection.left_out,
+                self.left_out,
                 [(microseconds, row) for microseconds, _, row in sorted(self.slowest, key=lambda entry: -entry[1])])
 
     def merge(self, partial):
@@ -190,7 +191,7 @@ class Statistics:
         for fate, found in waiting.items():
             self.waiting[fate] += found
         self.is_incomplete |= is_incomplete
-        self.selection.left_out.merge(left_out)
+        self.left_out.merge(left_out)
         for microseconds, row in slowest:
             if microseconds > self.least:
                 self.put_slow(microseconds, row)
@@ -289,7 +290,7 @@ def main():
     else:
         for line in tables.lines(found.summary()):
             print(line.rstrip())
-    return 1 if found.selection.left_out.complain() or found.is_incomplete else 0
+    return 1 if found.left_out.complain() or found.is_incomplete else 0
 
 
 if __name__ == "__main__":

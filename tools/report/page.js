@@ -98,13 +98,15 @@ function head() {
       : "no times",
     timed && data.counts.timed < data.counts.answered && `${count(data.counts.timed)} of ${count(data.counts.answered)} replies timed`]
     .filter(Boolean).join(" · ");
-  document.getElementById("warnings").append(...data.warnings.map(text => element("p", { class: "failed", text: `Not read: ${visible(text)}` })));
+  document.getElementById("warnings").append(...data.warnings.map(text => element("p", { class: "failed", text: `Not read: ${visible(text)}` })),
+    ...data.headlines.map(text => element("p", { class: "failed", text: visible(text) })));
   const one = (name, value, kind = "") => element("li", { class: value ? kind : "" },
     element("b", { text: count(value) }), ` ${name}`);
   document.getElementById("counts").append(
     one("sessions", data.sessions.length), one("connections", data.counts.connections), one("requests", data.counts.asked),
     one("failed", data.counts.failed, "failed"), one("unanswered", data.counts.unanswered, "unanswered"),
-    ...(data.counts.notCaptured ? [one("replies not captured", data.counts.notCaptured)] : []), one("events", data.counts.events), one("messages", data.counts.messages));
+    ...(data.counts.notCaptured ? [one("replies not captured", data.counts.notCaptured)] : []),
+    ...(data.counts.notKnown ? [one("not known", data.counts.notKnown)] : []), one("events", data.counts.events), one("messages", data.counts.messages));
   data.sessions.forEach((_, number) => field("session").append(element("option", { value: sessionKeys[number], text: visible(sessionName(number)) })));
   [...data.tables.operations.rows].map(row => row[0]).sort().forEach(op => field("op").append(element("option", { value: op, text: visible(op) })));
   field("from").placeholder = timed ? place(0) : "1";
