@@ -16,7 +16,7 @@ SOURCES = TOP / "wireshark"
 sys.path += [str(TOP / "packaging"), str(TOP / "tools" / "tests"), str(TOP / "tools")]
 import make_library  # noqa: E402
 import wire  # noqa: E402
-import zkr  # noqa: E402
+from zkdump_tools import zkr
 from build_library import LIBRARY  # noqa: E402
 
 NOBODY = 65534

@@ -11,8 +11,7 @@ import test_pcap_pairs as made
 import wire
 from proxied import TroubleCase
 from support import CAPTURES, PROGRAM, TOOLS, TOP, ToolCase, sides
-import contents
-import facts
+from zkdump_tools import contents, facts
 
 RUN = TOP / "crates" / "zkdump" / "stdin"
 SESSION = "0x100000000000001"

@@ -9,7 +9,7 @@ import wire
 from captured import PcapCase, packed
 from proxied import SECONDS, TroubleCase
 from support import CAPTURES, TOOLS, pieces, zkr
-import facts
+from zkdump_tools import facts
 
 ASK, REPLY = zkr.Piece(zkr.CLIENT, None, bytes(300)), zkr.Piece(zkr.SERVER, None, bytes(300))
 

@@ -9,12 +9,14 @@ import unittest.mock
 import report_lines
 from support import TOOLS, ToolCase
 
+SCRIPTS = TOOLS / "zkdump_tools" / "report"
+
 
 class Scripts(ToolCase):
     def test_latencies_in_tables_are_exact(self):
         """To the microsecond, as in zkstat's tables and those of --text."""
         code = ("const document = { getElementById() {} }, data = {};\n"
-                + "".join((TOOLS / "report" / name).read_text("utf-8") for name in ("draw.js", "tables.js"))
+                + "".join((SCRIPTS / name).read_text("utf-8") for name in ("draw.js", "tables.js"))
                 + "console.log(JSON.stringify([0.001, 1.25, 12345.678, 123456.7, 1e9, null].map(\n"
                 "  each => cellText(\"ms\", each))));")
         self.assertEqual(self.of_script(code), ["0.001", "1.25", "12345.678", "123456.7", "1000000000", "–"])
@@ -27,7 +29,7 @@ class Scripts(ToolCase):
                   "error": [None, None, "-999", "NODEEXISTS", "NONODE"], "path": [None, "/a", sizes, "/c"],
                   "ms": [None, 0.5, 2, 10], "counts": [{}, {"NodeCreated": 2}, {"NodeCreated": 1, "NodeDeleted": 9}]}
         code = ("const document = { getElementById() {} }, data = { tables: { a: { columns: [] } } };\n"
-                + "".join((TOOLS / "report" / name).read_text("utf-8") for name in ("draw.js", "tables.js"))
+                + "".join((SCRIPTS / name).read_text("utf-8") for name in ("draw.js", "tables.js"))
                 + f"const values = {json.dumps(values)};\n"
                 "console.log(JSON.stringify(Object.keys(values).map(kind => [1, -1].map(direction => {\n"
                 "  orders.a = { column: 0, direction }; data.tables.a.columns[0] = ['', '', kind];\n"
@@ -40,7 +42,7 @@ class Scripts(ToolCase):
     def of_draw(self, data, found):
         """What draw.js makes of this data."""
         return self.of_script("const document = { getElementById() {} }, filter = {}, timed = true, "
-                              f"data = {json.dumps(data)};\n{(TOOLS / 'report' / 'draw.js').read_text('utf-8')}\n"
+                              f"data = {json.dumps(data)};\n{(SCRIPTS / 'draw.js').read_text('utf-8')}\n"
                               f"console.log(JSON.stringify({found}));")
 
     def test_times_after_the_year_9999(self):
@@ -65,7 +67,7 @@ class Scripts(ToolCase):
         times, path, second = (0.1, 9.999, 10, 10.001, 10.5, 10.999, 11), self.folder / "a.json", "2023-11-14T22:13:20"
         path.write_text("".join(json.dumps({"n": n, "side": "C", "xid": n, "op": "sync", "path": "/a",
                                             "at": report_lines.T + at}) + "\n" for n, at in enumerate(times, 1)))
-        script = (TOOLS / "report" / "page.js").read_text("utf-8")
+        script = (SCRIPTS / "page.js").read_text("utf-8")
         script = script[script.index("function placeOf"):script.index("function placeText")]
         borders = (".010", ".010000", ".010500", ".010999", ".011")
         code = (f"{script}\nconst chosen = () => matching().map(i => requests.n[i]);\n"
@@ -98,7 +100,7 @@ class Scripts(ToolCase):
 
     def test_how_a_connection_ended(self):
         """By an error with a name or without one as by a reset, whatever else has such a word."""
-        code = (f"{(TOOLS / 'report' / 'sessions.js').read_text('utf-8')}\n"
+        code = (f"{(SCRIPTS / 'sessions.js').read_text('utf-8')}\n"
                 "console.log(JSON.stringify(['client: reset', 'server: lost', 'server: ETIMEDOUT', 'server: FIN',\n"
                 "  'open at the end', 'not recorded', 'client: closeSession'].map(closed => endOf({ closed }))));")
         self.assertEqual(self.of_script(code), [*["reset"] * 3, "closed", "still", "still", "closed"])
@@ -109,7 +111,7 @@ class Scripts(ToolCase):
         self.assertEqual(self.run_inside("zkreport.py", "-o", path, *inputs), (0, "", ""))
         data = re.search('id="data">(.*?)</script>', path.read_text("utf-8"))[1]
         return self.of_script(f"const document = {{ getElementById: () => ({{ textContent: {json.dumps(data)} }}) }};\n"
-                              + "".join((TOOLS / "report" / name).read_text("utf-8")
+                              + "".join((SCRIPTS / name).read_text("utf-8")
                                         for name in ("model.js", "draw.js", "tables.js")) + code)
 
     def test_numbers_that_a_browser_would_round(self):
@@ -159,7 +161,8 @@ class Scripts(ToolCase):
         code = ("const told = id => (filter.session = id,\n"
                 "  [rowsOf('operations', matching()).map(row => row.slice(0, 2)), / alone\\.$/.test(shortcoming())]);\n"
                 "console.log(JSON.stringify([told('0x7'), told('0x8')]));")
-        with unittest.mock.patch("report.kept.SLOWEST", 2), unittest.mock.patch("report.summary.MOST_SESSIONS", 1):
+        with unittest.mock.patch("zkdump_tools.report.kept.SLOWEST", 2), \
+                unittest.mock.patch("zkdump_tools.report.summary.MOST_SESSIONS", 1):
             busy, other = self.of_page(code, *paths)
         self.assertEqual(busy, [[[name, 1] for name in ("closeSession", "connect", "multi", "setData", "setWatches")],
                                 False])
@@ -174,7 +177,7 @@ class Scripts(ToolCase):
         code = ("const told = id => (filter.session = id, ['sessions', 'connections', 'operations'].map(name =>\n"
                 "  [rowsOf(name, matching()).length, rest(name)]));\n"
                 "console.log(JSON.stringify([told(''), told('0x8')]));")
-        with unittest.mock.patch("report.summary.MOST_CONNECTIONS", 1):
+        with unittest.mock.patch("zkdump_tools.report.summary.MOST_CONNECTIONS", 1):
             every, other = self.of_page(code, *paths)
         self.assertEqual(every, [[1, "and 1 more"], [1, "and 1 more"], [5, ""]])
         filtered = "The filters go through the rows of this table, and not through 1 more."
@@ -202,7 +205,7 @@ class Scripts(ToolCase):
         """The axis of latencies: its least and its greatest power of ten, and the place of no time at all."""
         code = ("const document = { getElementById() {} }, data = { complete: true, density: {} }, filter = {}, "
                 f"requests = {{ ms: [{', '.join(map(str, milliseconds))}] }};\n"
-                + "".join((TOOLS / "report" / name).read_text("utf-8") for name in ("draw.js", "latency.js"))
+                + "".join((SCRIPTS / name).read_text("utf-8") for name in ("draw.js", "latency.js"))
                 + "const axis = latencyAxis(requests.ms.map((_, i) => i));\n"
                 "console.log(JSON.stringify(axis && [axis.from, axis.to, axis.y(0) === axis.y(10 ** axis.from)]));")
         return self.of_script(code)

@@ -1,4 +1,4 @@
-"""Reads recordings as columns, which the program zkcolumns writes (columns/columns.c): a record for each message.
+"""Reads recordings as columns, which the program zkcolumns writes (zkcolumns/columns.c): a record for each message.
 
 It is the fast form of listing.Listing, which reads the lines of `zkdump show`, and says the same. Where the program
 isn't there, the plain form is used. The environment variable ZKCOLUMNS names the program, or is empty for none.
@@ -12,26 +12,19 @@ import pathlib
 import struct
 import subprocess
 
-import errors
-import facts
-import forms
-import listing
-import operations
-import passages
-import program
-import zkr
+from . import errors, facts, forms, listing, operations, passages, program, zkr
 
 numpy = None        # loaded where something is counted: it takes longer than most listings, and 15 MB
 
-TOOLS = pathlib.Path(__file__).resolve().parent
-PLACES = (TOOLS / "columns" / "out" / "zkcolumns", TOOLS.parent.parent.parent / "lib" / "zkdump" / "zkcolumns")
+HERE = pathlib.Path(__file__).resolve().parent
+PLACES = (HERE / "zkcolumns" / "out" / "zkcolumns", HERE.parents[3] / "lib" / "zkdump" / "zkcolumns")
 HEAD, PATCH = struct.Struct("=IIIIQQQQddqq"), struct.Struct("=QII")
 NAMES, MESSAGES, END = range(3)
 NOT_READ = 4                    # the status of a recording whose trouble the plain form reports
 ERROR, XID, PATH, NULL_PATH, CHOSEN, WATCH, MADE_UP, BY_NUMBER = (1 << bit for bit in range(8))
 CLIENT = ord("C")
 CONNECT, EVENT = -1 << 31, (-1 << 31) + 1      # in place of an operation's number
-# The fields of a record, as columns/state.h has them.
+# The fields of a record, as zkcolumns/state.h has them.
 FIELDS = (("n", "u8"), ("of", "u8"), ("moment", "f8"), ("asked_moment", "f8"), ("microseconds", "f8"), ("zxid", "i8"),
           ("text", "u8"), ("text_length", "u4"), ("at_length", "u4"), ("path", "u4"), ("path_length", "u4"),
           ("xid", "i4"), ("operation", "i4"), ("error", "i4"), ("flags", "u2"), ("side", "u1"), ("spare", "u1"))

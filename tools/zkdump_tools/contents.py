@@ -2,8 +2,7 @@
 
 import itertools
 
-import facts
-import zkr
+from . import facts, zkr
 
 LARGEST_CONNECTED = 1 << 10
 MADE_UP = b"\xff" * 8       # the session in a connect response that pcap2zkr makes up

@@ -12,9 +12,9 @@ import os
 import re
 from typing import NamedTuple, Optional
 
-import running
-from newfile import NewFile
-from operations import PROFILES
+from . import running
+from .newfile import NewFile
+from .operations import PROFILES
 
 VERSION, MARKED, LONGEST = 1, 1 << 16, 1 << 16
 SIDES = ("C", "S")

@@ -6,14 +6,8 @@ import os
 import stat
 import subprocess
 
-import columns
-import facts
-import joined
-import listing
-import passages
-import program
-import zkr
-from times import times_of
+from . import columns, facts, joined, listing, passages, program, zkr
+from .times import times_of
 
 UNREAD = object()
 

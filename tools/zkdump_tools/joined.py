@@ -4,9 +4,7 @@ import json
 import math
 import re
 
-import errors
-import facts
-import listing
+from . import errors, facts, listing
 
 WORD = re.compile(r"[A-Za-z0-9-]+", re.ASCII)
 SESSION = re.compile("0x[0-9a-f]{1,16}", re.ASCII)

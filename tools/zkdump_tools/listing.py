@@ -11,8 +11,7 @@ import contextlib
 import math
 import re
 
-import errors
-import operations
+from . import errors, operations
 
 BLOCK = 1 << 16
 STANDARD_INPUT = "-"

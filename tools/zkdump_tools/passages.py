@@ -20,11 +20,7 @@ import subprocess
 import threading
 from typing import NamedTuple
 
-import errors
-import listing
-import operations
-import zkr
-import zkskip
+from . import errors, listing, operations, zkr, zkskip
 
 EVENT_XID, LANES = -1, (-2, -4, -8)     # the other xids have a lane together (docs/CONVERSATION.md)
 NEVER_OUT = (-2, -4)                    # requests under these are never left out

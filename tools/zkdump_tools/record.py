@@ -1,4 +1,3 @@
-#!/usr/bin/env -S sh -c '[ -d /dev/stdin ] && exec <&-; exec python3 "$0" "$@"'
 """Records the connections of ZooKeeper clients, one file each, as a proxy in front of a server.
 
     record.py [HOST:]PORT SERVER:PORT PREFIX
@@ -13,14 +12,9 @@ direction is passed on, and so is a reset. Only their owner may read the files: 
 including session passwords and the data of nodes.
 """
 
-import sys
 import time
 
-import addresses
-import contents
-import facts
-import proxy
-import zkr
+from . import addresses, contents, facts, proxy, zkr
 
 
 def now():
@@ -129,7 +123,3 @@ def main():
     recorder.complaints.wait()  # the first lines on a terminal
     recorder.run(listeners)
     return recorder.status
-
-
-if __name__ == "__main__":
-    sys.exit(main())

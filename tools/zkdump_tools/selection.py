@@ -7,11 +7,7 @@ import itertools
 import operator
 import re
 
-import columns
-import listing
-import operations
-import passages
-import zkr
+from . import columns, listing, operations, passages, zkr
 
 MILLISECONDS = re.compile(r"\d{1,19}", re.ASCII)
 MICROSECONDS = re.compile(r"[.,]\d{6}", re.ASCII)

@@ -3,10 +3,7 @@
 import json
 import re
 
-import facts
-import listing
-import passages
-import zkr
+from . import facts, listing, passages, zkr
 
 PERCENTS = (50, 95, 99)
 COUNTS = ("asked", "answered", "failed")

@@ -4,11 +4,8 @@ import os
 import re
 import struct
 
-import contents
-import listing
-import operations
-import zkr
-from frames import LARGEST, Beginning
+from . import contents, listing, operations, zkr
+from .frames import LARGEST, Beginning
 
 LETTERS = {zkr.CLIENT: "C", zkr.SERVER: "S"}
 LENGTH_AND_XID = struct.Struct(">ii")

@@ -1,4 +1,3 @@
-#!/usr/bin/env -S sh -c '[ -d /dev/stdin ] && exec <&-; exec python3 "$0" "$@"'
 """Checks many recordings at once, by zkdump check.
 
     zkfleet.py check [--jobs N | --scheduler ADDRESS] [--all] [--json] [--profile RELEASE] [--limit N] DIR|LIST ..
@@ -15,13 +14,7 @@ import os
 import subprocess
 import sys
 
-import fleet
-import inputs
-import listing
-import passages
-import program
-import tables
-import zkr
+from . import fleet, inputs, listing, passages, program, tables, zkr
 
 PLACES = ("side", "reason", "place")
 
@@ -72,7 +65,7 @@ def read(parser, words, path):
 
 def endings(words):
     """Each recording with what `check` finds, or with an Unread."""
-    for paths, found in fleet.results(words, "zkfleet", sys.argv[1:], paths_of(words.inputs)):
+    for paths, found in fleet.results(words, __name__, sys.argv[1:], paths_of(words.inputs)):
         yield from zip(paths, [found] if isinstance(found, fleet.Unread) else found)
 
 
@@ -133,7 +126,3 @@ def main():
                   f"{tables.plain(path)}: {tables.ending(ending, None)}")
     print(json.dumps(found.summary()) if words.json else "\n".join(found.lines()))
     return 0 if set(found.endings) <= {"whole"} else 1
-
-
-if __name__ == "__main__":
-    sys.exit(zkr.tool(main))

@@ -1,4 +1,3 @@
-#!/usr/bin/env -S sh -c '[ -d /dev/stdin ] && exec <&-; exec python3 "$0" "$@"'
 """Makes JSON of listings and recordings: one object a line, for jq and for programs.
 
     zkjson.py [--recording REC.zkr [--times FILE]] [CHOICE ..] [FILE ..]
@@ -28,13 +27,7 @@ import shutil
 import sys
 import tempfile
 
-import columns
-import fleet
-import forms
-import inputs
-import listing
-import selection
-import zkr
+from . import columns, fleet, forms, inputs, listing, selection, zkr
 
 FAILS = re.compile(rf" zxid={listing.NUMBER} err=", re.ASCII)
 PART = re.compile(r"([{;])([A-Za-z]+)", re.ASCII)
@@ -228,7 +221,7 @@ def write_parts(parser, words, out):
     what the choices left out."""
     missing, left_out = False, selection.LeftOut()
     with tempfile.TemporaryDirectory(prefix="zkjson-") as folder:
-        for (path,), result in fleet.of_inputs(parser, words, "zkjson", "--parts", folder):
+        for (path,), result in fleet.of_inputs(parser, words, __name__, "--parts", folder):
             if isinstance(result, fleet.Unread):
                 missing = True
                 print(f'{head_of(path)}, "ending": "unread", "reason": {forms.readable(result.reason)}}}',
@@ -255,7 +248,3 @@ def main():
         progress = zkr.Progress("zkjson", may=not sys.stdout.isatty())
         missing, left_out = write_all(parser, words, progress, sys.stdout)
     return 1 if left_out.complain() or missing else 0
-
-
-if __name__ == "__main__":
-    sys.exit(zkr.tool(main))

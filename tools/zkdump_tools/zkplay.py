@@ -1,4 +1,3 @@
-#!/usr/bin/env -S sh -c '[ -d /dev/stdin ] && exec <&-; exec python3 "$0" "$@"'
 """Plays the server of a recording to a client: a test bench without a ZooKeeper.
 
     zkplay.py [OPTIONS] [HOST:]PORT RECORDING
@@ -28,14 +27,7 @@ import sys
 import threading
 import time
 
-import addresses
-import contents
-import facts
-import frames
-import playing
-import program
-import running
-import zkr
+from . import addresses, contents, facts, frames, playing, program, running, zkr
 
 LONGEST_WAIT = 1_000_000
 MOST_CONNECTIONS = range(1, 10_001)
@@ -219,7 +211,3 @@ def main():
     listeners = addresses.listen(words.address)
     print(f"listening on {addresses.address_text(listeners[0].getsockname())}", flush=True)
     return bench.run(clients(listeners, words.connections))
-
-
-if __name__ == "__main__":
-    sys.exit(zkr.tool(main))

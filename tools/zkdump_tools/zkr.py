@@ -19,12 +19,11 @@ import re
 import struct
 from typing import NamedTuple, Optional
 
-import facts
-import frames
-from newfile import NewFile, flush
-from operations import PROFILES
-from running import (Progress, allow_many_files, complain, hold_standard_streams, drop_standard_output,  # noqa: F401
-                     report, shown, standard_input, tool)
+from . import facts, frames
+from .newfile import NewFile, flush
+from .operations import PROFILES
+from .running import (Progress, allow_many_files, complain, hold_standard_streams, drop_standard_output,  # noqa: F401
+                      report, shown, standard_input, tool)
 
 CLIENT, SERVER = b"C", b"S"
 OTHER = {CLIENT: SERVER, SERVER: CLIENT}

@@ -1,4 +1,3 @@
-#!/usr/bin/env -S sh -c '[ -d /dev/stdin ] && exec <&-; exec python3 "$0" "$@"'
 """Makes a capture of recordings, which Wireshark and tcpdump open.
 
     zkr2pcap.py [--port N] REC.zkr [REC.zkr ..] CAPTURE.pcap
@@ -13,13 +12,10 @@ may read it: it has everything that was said.
 import heapq
 import os
 import struct
-import sys
 from typing import NamedTuple
 
-import contents
-import facts
-import zkr
-from packets import ACK, ETHERNET, FIN, SYN
+from . import contents, facts, zkr
+from .packets import ACK, ETHERNET, FIN, SYN
 
 PUSH = 8
 CLIENT_HOST, SERVER_HOST = b"\x0a\0\0\1", b"\x0a\0\0\2"
@@ -158,7 +154,3 @@ def main():
         os.unlink(words.capture)
         raise OSError(error.errno, error.strerror, error.filename or words.capture) from error
     return 0
-
-
-if __name__ == "__main__":
-    sys.exit(zkr.tool(main))

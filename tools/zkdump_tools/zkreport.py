@@ -1,12 +1,12 @@
-#!/usr/bin/env -S sh -c '[ -d /dev/stdin ] && exec <&-; exec python3 "$0" "$@"'
 """Reports what happened on many connections, as a page for a browser, as text, or as a trace.
 
     zkreport.py [-o REPORT.html] [--text] [--trace TRACE.json] [--against OTHER] [--port N] [CHOICE ..] INPUT ..
     zkreport.py --text --jobs N|--scheduler ADDRESS [--port N] [CHOICE ..] INPUT ..
 
 An INPUT is a capture of tcpdump or Wireshark, a recording, or a listing of one, also as the lines of zkjson; or a folder
-of recordings, in it and below it, or @LIST, a file with a path on each line. A capture has any number of connections. Captures have times; recordings have them within (ZKR2) or beside (RECORDING.times).
-Requests of operations that the profile lacks count, too: they are shown by number, without their paths.
+of recordings, in it and below it, or @LIST, a file with a path on each line. A capture has any number of connections.
+Captures have times; recordings have them within (ZKR2) or beside (RECORDING.times). Requests of operations that the
+profile lacks count, too: they are shown by number, without their paths.
 
 -o writes one page that needs no other file and no network: the sessions in time, the latency of requests, and tables,
 each row of which leads to the messages around it. --text writes the tables to standard output. --trace writes the
@@ -21,17 +21,11 @@ The page has no passwords of sessions and no credentials, but it has data of nod
 import contextlib
 import itertools
 import os
-import sys
 import tempfile
 
-import fleet
-import passages
-import program
-import selection
-import tables
-import zkr
-from inputs import refuse_repetition
-from report import against, gather, merged, messages, page, sources, summary, text, trace
+from . import fleet, passages, program, selection, tables, zkr
+from .inputs import refuse_repetition
+from .report import against, gather, merged, messages, page, sources, summary, text, trace
 
 NAMED = 6       # the files that a page's title names
 
@@ -153,7 +147,7 @@ def partial(options, paths):
 def read_all(parser, words):
     """The summary of many files; what can't be read is a connection without a message. And whether there was such."""
     found, unread = merged.Merged(), False
-    for (path,), result in fleet.of_inputs(parser, words, "zkreport"):
+    for (path,), result in fleet.of_inputs(parser, words, __name__):
         if isinstance(result, fleet.Unread):
             found.add_unread(sources.Source(path, os.path.basename(path)), result.reason)
             unread = True
@@ -188,7 +182,3 @@ def main():
     if words.text:
         write_text(found, compared)
     return 1 if is_incomplete(found) or compared and compared["first"] else 0
-
-
-if __name__ == "__main__":
-    sys.exit(zkr.tool(main))

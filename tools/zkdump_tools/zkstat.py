@@ -1,4 +1,3 @@
-#!/usr/bin/env -S sh -c '[ -d /dev/stdin ] && exec <&-; exec python3 "$0" "$@"'
 """Counts conversations: requests, replies, errors and latencies of each operation and each connection, events, the
 slowest requests, and those without a reply.
 
@@ -21,15 +20,8 @@ import itertools
 import json
 import sys
 
-import columns
-import counted
-import fleet
-import inputs
-import listing
-import selection
-import tables
-import zkr
-from histogram import Histogram
+from . import columns, counted, fleet, inputs, listing, selection, tables, zkr
+from .histogram import Histogram
 
 SLOWEST = 20
 LONGEST_PATH = 1000
@@ -281,7 +273,7 @@ def main():
     sys.stdout.reconfigure(errors="backslashreplace")
     found = Statistics(selection.Selection(words))
     if fleet.is_asked(words):
-        for paths, result in fleet.of_inputs(parser, words, "zkstat", together=True):
+        for paths, result in fleet.of_inputs(parser, words, __name__, together=True):
             found.take(paths[0], result)
     else:
         read(parser, words, found, zkr.Progress("zkstat"))
@@ -291,7 +283,3 @@ def main():
         for line in tables.lines(found.summary()):
             print(line.rstrip())
     return 1 if found.left_out.complain() or found.is_incomplete else 0
-
-
-if __name__ == "__main__":
-    sys.exit(zkr.tool(main))

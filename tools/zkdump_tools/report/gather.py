@@ -3,11 +3,9 @@
 import collections
 import json
 
-import listing
-import selection
-import zkjson
-from histogram import Histogram
-from report import kept, paths, sources, watching
+from . import kept, paths, sources, watching
+from .. import listing, selection, zkjson
+from ..histogram import Histogram
 
 CLOSE = "closeSession"
 HEARD = {listing.CONNECT, CLOSE}         # the operations that a Heard takes

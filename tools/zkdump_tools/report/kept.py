@@ -10,7 +10,7 @@ import math
 import random
 from typing import NamedTuple, Optional
 
-import listing
+from .. import listing
 
 SLOWEST, SLOWEST_FAILED, OTHER_FAILED, MOST_UNANSWERED = 8_000, 1_000, 4_000, 2_000
 MOST_PATHS = 40_000

@@ -7,9 +7,9 @@ import json
 import pathlib
 import re
 
-import listing
-from report import kept, paths, summary, text
-from report.messages import exact
+from .. import listing
+from . import kept, paths, summary, text
+from .messages import exact
 
 HERE = pathlib.Path(__file__).resolve().parent
 SCRIPTS = ("model.js", "draw.js", "sessions.js", "latency.js", "tables.js", "messages.js", "page.js")

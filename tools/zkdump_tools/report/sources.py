@@ -10,12 +10,9 @@ import subprocess
 import sys
 import tempfile
 
-import facts
-import inputs
-import listing
-import zkr
+from .. import facts, inputs, listing, zkr
 
-TOOLS = pathlib.Path(__file__).resolve().parent.parent
+TOOLS = pathlib.Path(__file__).resolve().parents[2]
 LISTINGS = re.compile(rb"[CS] |\. |\{")
 CAPTURED = re.compile(r"(.+) (\S+) > (\S+) begun (\S+)(?: ended (\S+))?((?: \S+)*)")
 PART = re.compile(r"-(\d+)(?:\.(\d+))?\.zkr")

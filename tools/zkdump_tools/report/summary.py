@@ -7,9 +7,8 @@ the connection's number and the message's number that the row leads to.
 import collections
 from typing import NamedTuple
 
-import listing
-import tables
-from report import gather
+from . import gather
+from .. import listing, tables
 
 SLOWEST, ROWS, MOST_CONNECTIONS, MOST_SESSIONS = 20, 50, 300, 200
 SIDES = {"C": "client", "S": "server"}

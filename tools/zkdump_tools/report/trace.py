@@ -6,9 +6,8 @@ at once; events of watches are instants. Times are microseconds since 1970.
 
 import json
 
-import listing
-import zkr
-from report import paths
+from . import paths
+from .. import listing, zkr
 
 MOST = 2 ** 53
 FACTS = {listing.UNANSWERED: "answered", listing.NOT_CAPTURED: "captured", listing.NOT_KNOWN: "known"}

@@ -158,7 +158,7 @@ static void take_request(struct state *state, const struct zk_message *view, con
     ask(lane_of(state->lanes, view->kind, view->xid), asked, ordinary ? &state->of_message : &(struct bytes){0});
 }
 
-/* The line of a message that is shown by number, as tools/passages.py has it. */
+/* The line of a message that is shown by number, as zkdump_tools/passages.py has it. */
 static void put_line_by_number(struct bytes *out, const struct message *message) {
     put_text(out, message->side == ZK_CLIENT ? "C " : "S ");
     put_number(out, message->view.xid);
