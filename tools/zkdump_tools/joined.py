@@ -238,7 +238,7 @@ class Known:
         """The requests to which no reply has come: those that the ending lists, if it does."""
         left = [made for made in self.requests.values() if self.waiting is None or made.n in self.waiting]
         for made in left:
-            made.fate = self.fates.get(made.n, listing.UNANSWERED)
+            made.fate = self.fates.get(made.n) or self.connection.fate()
         return left
 
 
