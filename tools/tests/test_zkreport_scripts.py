@@ -1,6 +1,7 @@
 """Tests of the scripts of zkreport's page, without a browser."""
 
 import json
+import math
 import re
 import shutil
 import subprocess
@@ -113,6 +114,59 @@ class Scripts(ToolCase):
         return self.of_script(f"const document = {{ getElementById: () => ({{ textContent: {json.dumps(data)} }}) }};\n"
                               + "".join((SCRIPTS / name).read_text("utf-8")
                                         for name in ("model.js", "draw.js", "tables.js")) + code)
+
+    def script(self, *names):
+        return "".join((SCRIPTS / name).read_text("utf-8") for name in names)
+
+    def test_many_requests_without_times_have_no_axis_of_latencies(self):
+        """Also where the page has not every one of them, and would show how many there were by latency."""
+        lines = report_lines.Lines()
+        for n in range(1, 9):
+            lines.ask(None, "exists", n, path="/a", watch=False)
+            lines.answer(None, n, zxid="0x1")
+        path = lines.write(self.folder / "a.json", ending="whole", unanswered=0)
+        code = self.script("latency.js") + "console.log(JSON.stringify([data.complete, latencyAxis(matching())]));"
+        with unittest.mock.patch("zkdump_tools.report.kept.SLOWEST", 2):
+            self.assertEqual(self.of_page(code, path), [False, None])
+
+    def test_how_requests_went_over_time(self):
+        """By time the rate, the share that failed and the percentiles of latencies: of all requests, whether the page has
+        each of them or not. Here 40 take 1 to 4 ms, every fourth of them fails, and then one in two of 10 takes 400 ms."""
+        lines, asked = report_lines.Lines(), []
+        for n in range(1, 51):
+            slow = n > 40 and n % 2 == 0
+            at, took, failed = 100 * n, 400 if slow else 1 + n % 4, n <= 40 and n % 4 == 0
+            asked.append((at, took, failed))
+            lines.ask(at, "setData", n, path="/a", blob="x", version=-1)
+            lines.answer(at + took, n, zxid="0x1", **(report_lines.BADVERSION if failed else {}))
+        path = lines.write(self.folder / "a.json", ending="whole", unanswered=0)
+        code = (self.script("trends.js", "latency.js") + "const steps = trend(matching());\n"
+                "const sum = name => steps.reduce((all, each) => all + each[name], 0);\n"
+                "console.log(JSON.stringify([data.complete, sum('count'), sum('failed'),\n"
+                "  steps.every((each, at) => !at || each.x >= steps[at - 1].x + steps[at - 1].length - 1e-9),\n"
+                "  steps.map(each => [each.x, each.length, each.count, each.failed, each.p50, each.p99])]));")
+        began = asked[0][0]
+        for most, complete in ((8_000, True), (2, False)):
+            (self.folder / "a.html").unlink(missing_ok=True)
+            with unittest.mock.patch("zkdump_tools.report.kept.SLOWEST", most), \
+                    unittest.mock.patch("zkdump_tools.report.kept.OTHER_FAILED", most):
+                is_complete, count, failed, are_apart, steps = self.of_page(code, path)
+            self.assertEqual((is_complete, count, failed, are_apart),
+                             (complete, len(asked), sum(each[2] for each in asked), True))
+            for x, length, count, failed, p50, p99 in steps:
+                inside = [each for each in asked if x <= each[0] - began < x + length]
+                took = sorted(each[1] for each in inside)
+                self.assertEqual((count, failed), (len(inside), sum(each[2] for each in inside)), (complete, x))
+                for found, wanted in ((p50, took[(len(took) + 1) // 2 - 1]), (p99, took[-1])):
+                    # (a bin is an eighth of a factor of ten)
+                    self.assertLess(abs(math.log10(found / wanted)), 1e-9 if complete else 1 / 8, (complete, x))
+
+    def test_a_node_s_times_are_dates(self):
+        code = ("const element = (name, { text }) => text, document = { getElementById() {} };\n"
+                + re.sub("(?s)function element.*?\n}\n", "", self.script("draw.js")) + self.script("messages.js")
+                + "console.log(JSON.stringify(['ctime', 'mtime', 'pzxid'].map(name => valueOf(name, 1700000000123)[0])));")
+        date = "2023-11-14T22:13:20.123Z (1700000000123)"
+        self.assertEqual(self.of_script(code), [date, date, "1700000000123"])
 
     def test_numbers_that_a_browser_would_round(self):
         """Of times and latencies, as where a file has nanoseconds, all digits are shown and sorted, with filters too;

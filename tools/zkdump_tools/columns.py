@@ -298,12 +298,10 @@ def opened(words, path, known, progress, options):
 def times_options(path, beside):
     """The arguments that name a recording's times, as times.times_of finds them; None where the plain form has to say
     what is wrong with them."""
-    if not beside:
-        with open(path, "rb") as recording:
-            if recording.read(4) == b"ZKR2" or not os.path.exists(zkr.times_path(path)):
-                return []
+    if not beside and not os.path.exists(zkr.times_path(path)):
+        return []
     beside = beside or zkr.times_path(path)
     try:
         return None if facts.are_of(path, beside)[0] is False else ["--times", beside]
-    except OSError:
+    except (OSError, ValueError):
         return None

@@ -27,7 +27,7 @@ import shutil
 import sys
 import tempfile
 
-from . import columns, fleet, forms, inputs, listing, selection, zkr
+from . import columns, fleet, forms, inputs, listing, pythons, selection, zkr
 
 FAILS = re.compile(rf" zxid={listing.NUMBER} err=", re.ASCII)
 PART = re.compile(r"([{;])([A-Za-z]+)", re.ASCII)
@@ -241,6 +241,7 @@ def write_parts(parser, words, out):
 
 def main():
     parser, words = words_of()
+    pythons.continue_with_numpy(words)
     sys.stdout.reconfigure(encoding="utf-8")
     if fleet.is_asked(words):
         missing, left_out = write_parts(parser, words, sys.stdout)

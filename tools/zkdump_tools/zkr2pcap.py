@@ -117,7 +117,8 @@ def packets(path, reader, client, server):
     """The packets of a recording, each with its time in nanoseconds and the port of its client."""
     times = contents.times_beside(path) if os.path.exists(zkr.times_path(path)) else None
     known = facts.facts_of(path)
-    segments = conversation(timed(path, reader, times), close=not (known and (known.open or known.hole)))
+    ends = not (known and (known.open or known.hole or known.unfinished))
+    segments = conversation(timed(path, reader, times), close=ends)
     return ((sent.milliseconds, client, ETHERNET_HEAD + ipv4(sent.side, tcp(sent, client, server)))
             for sent in segments)
 

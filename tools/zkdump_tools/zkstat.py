@@ -20,7 +20,7 @@ import itertools
 import json
 import sys
 
-from . import columns, counted, fleet, inputs, listing, selection, tables, zkr
+from . import columns, counted, fleet, inputs, listing, pythons, selection, tables, zkr
 from .histogram import Histogram
 
 SLOWEST = 20
@@ -270,6 +270,7 @@ def partial(options, paths):
 
 def main():
     parser, words = words_of()
+    pythons.continue_with_numpy(words)
     sys.stdout.reconfigure(errors="backslashreplace")
     found = Statistics(selection.Selection(words))
     if fleet.is_asked(words):

@@ -38,7 +38,7 @@ class Source:
 
     def has_hole(self):
         """Whether bytes of the connection are known to be missing."""
-        return not {"hole", "lost"}.isdisjoint(self.notes)
+        return not {"hole", "lost", "unfinished"}.isdisjoint(self.notes)
 
     def take_facts(self, known, parts):
         """Takes the facts of the recording, or None. `parts` has the first part of each connection that has several,

@@ -143,6 +143,8 @@ def closed_by(connection):
         return f"{SIDES.get(side, side)}: {error}"
     if "open" in notes:
         return "open at the end"
+    if "unfinished" in notes:
+        return "not known: the recording is unfinished"
     return "not known: bytes are missing" if "hole" in notes else "not recorded"
 
 
