@@ -77,10 +77,20 @@ def name_of(number):
     return found.name if found else str(number)
 
 
+def number_of(name):
+    """The number of an operation that has this name, or that is called by its number."""
+    found = operations.BY_NAME.get(name)
+    return found.number if found else int(name)
+
+
+def ordered(counts):
+    """Counts by operation, the most frequent first, and of equally frequent ones the lesser number."""
+    return dict(sorted(counts.items(), key=lambda item: (-item[1], number_of(item[0]))))
+
+
 def called(name):
     """The number of an operation, and its name if it has one."""
-    found = operations.BY_NAME.get(name)
-    return f"{found.number} {name}" if found else name
+    return f"{number_of(name)} {name}" if name in operations.BY_NAME else name
 
 
 class Turn(NamedTuple):

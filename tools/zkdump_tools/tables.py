@@ -92,7 +92,7 @@ def by_number(counts):
     """What is said, after their number, of operations that are shown by number alone, each with that of its requests."""
     what = "operations are" if len(counts) > 1 else "operation is"
     return f"{what} shown by number alone: " + ", ".join(
-        f"{passages.called(name)} ({count})" for name, count in counts.items())
+        f"{passages.called(name)} ({count})" for name, count in passages.ordered(counts).items())
 
 
 def connections(found, heads):

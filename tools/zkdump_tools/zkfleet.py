@@ -90,7 +90,7 @@ class Counts:
     def summary(self):
         return {"recordings": self.recordings, "bytes": self.bytes, "endings": dict(sorted(self.endings.items())),
                 "refused": [{**dict(zip(PLACES, key)), "count": count} for key, count in self.rows()],
-                **({"byNumber": dict(self.by_number.most_common())} if self.by_number else {})}
+                **({"byNumber": passages.ordered(self.by_number)} if self.by_number else {})}
 
     def lines(self):
         yield f"{self.recordings} recordings, {self.bytes} bytes"
@@ -99,7 +99,7 @@ class Counts:
         for key, count in self.rows():
             yield f"{count:>8} refused: " + " ".join(f"{name}={value}" for name, value in zip(PLACES, key))
         if self.by_number:
-            yield f"{len(self.by_number):>8} {tables.by_number(dict(self.by_number.most_common()))}"
+            yield f"{len(self.by_number):>8} {tables.by_number(self.by_number)}"
 
 
 def paths_of(inputs):

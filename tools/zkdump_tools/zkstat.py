@@ -20,7 +20,7 @@ import itertools
 import json
 import sys
 
-from . import columns, counted, fleet, inputs, listing, pythons, selection, tables, zkr
+from . import columns, counted, fleet, inputs, listing, passages, pythons, selection, tables, zkr
 from .histogram import Histogram
 
 SLOWEST = 20
@@ -194,7 +194,7 @@ class Statistics:
                                for name, counts in ordered},
                 "events": dict(self.events.most_common()), "connections": list(self.rows()),
                 **{fate: found for fate, found in self.waiting.items() if found or fate == listing.UNANSWERED},
-                **({"byNumber": dict(self.by_number.most_common())} if self.by_number else {}),
+                **({"byNumber": passages.ordered(self.by_number)} if self.by_number else {}),
                 "slowest": [row for _, _, row in sorted(self.slowest, key=lambda entry: entry[:2], reverse=True)]}
 
     def rows(self):

@@ -282,8 +282,7 @@ class Summary:
         if len(run.stopped) > ROWS:
             yield f"and {len(run.stopped) - ROWS} more connections that were not read to the end"
         if run.by_number:
-            counts = dict(run.by_number.most_common())
-            yield f"{len(counts)} {tables.by_number(counts)}"
+            yield f"{len(run.by_number)} {tables.by_number(run.by_number)}"
 
     def short(self):
         """By table whose rarest rows were forgotten, how much too low a count of it may be."""
