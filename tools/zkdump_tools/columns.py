@@ -205,12 +205,12 @@ class Columns(listing.Listing):
         try:
             while found := self.next_block():
                 kind, block = found
-                n += len(block.records) // RECORD.size
                 if kind == END:
                     self.end(block.text.decode(), n + 1)
                     self.waiting = [self.message(block, record) for record in block.tuples()]
                     self.progress.end()
                     break
+                n += len(block.records) // RECORD.size
                 yield block
                 self.progress.show(f"{n:,} lines")
             if self.status:
