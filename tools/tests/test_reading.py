@@ -2,17 +2,16 @@
 
 import json
 import os
-import pathlib
 import re
+import signal
 import struct
-import subprocess
 import unittest.mock
 
 import reckoned
-from support import CAPTURES, PROGRAM, TOP, ToolCase, zkr
-from test_columns import ColumnsCase, interpreter
+from support import CAPTURES, PROGRAM, TOP, ToolCase
+from test_columns import ColumnsCase
 
-from zkdump_tools import columns, errors, zkreport, zkstat
+from zkdump_tools import columns, errors
 
 CONNECT = bytes(24) + b"\0\0\0\x10" + bytes(17)       # frames of 49 and 41 bytes
 CONNECTED = struct.pack(">iiqi", 0, 30_000, 0x100000000000001, 16) + bytes(17)
@@ -57,9 +56,11 @@ class ReadingCase(ToolCase):
     """What both ways of reading find: by the lines of zkdump, and by columns where they can be made here."""
 
     ways = ("",)
+    run_tool = ToolCase.run_inside
 
     def setUp(self):
         super().setUp()
+        signal.alarm(300)
         if not PROGRAM.exists():
             self.skipTest("the program zkdump is not built")
 
@@ -199,7 +200,7 @@ class Reading(ReadingCase):
 
     def test_the_page_says_it(self):
         path, page = self.write(recording(NEWER[:-1] + [ask(6, 3, PATH + b"\2")])), self.folder / "page.html"
-        self.assertEqual(self.each_way("zkreport.py", "-o", page, "--profile", "3.4", path)[0], 1)
+        self.assertEqual(self.run_tool("zkreport.py", "-o", page, "--profile", "3.4", path)[0], 1)
         data = json.loads(re.search('id="data">(.*?)</script>', page.read_text("utf-8"), re.S)[1])
         self.assertEqual(data["headlines"], [
             f"a: not read to the end: refused side=C frame=7 offset={self.offset(path)} place=14 reason=BadBool "
@@ -287,8 +288,8 @@ class Reading(ReadingCase):
     def test_many_left_out(self):
         """More than are handed over at once, before and between messages that are not."""
         frames = []
-        for xid in range(1, 30_001):
-            frames += [ask(xid, 21 if xid % 7000 else 3, PATH + b"\0"), answer(xid, xid, -110)]
+        for xid in range(1, 10_001):
+            frames += [ask(xid, 21 if xid % 3000 else 3, PATH + b"\0"), answer(xid, xid, -110)]
         path = self.write(recording(frames))
         self.assert_counted(path, reckoned.Reckoned(path.read_bytes()), "--profile", "3.4")
 
