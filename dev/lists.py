@@ -1,14 +1,12 @@
-"""The lists of names that docs/names.py writes: each function takes the lines that are there, and returns those that
+"""The lists of names that dev/names.py writes: each function takes the lines that are there, and returns those that
 should be, by the crates' sources (source.py)."""
 
 import ast
 import re
-import runpy
 
-import source
-from source import TOP
+from . import source
 
-BEGIN, END = "The lines from here on are written by docs/names.py", "Up to here."
+BEGIN, END = "The lines from here on are written by dev/names.py", "Up to here."
 # Kinds of numbers: the types of C and of Rust, the table in Python, and of what they are.
 KINDS = (("operation", "int32_t", "i32", "OPERATIONS", "an operation, or of a part of a multi"),
          ("error", "int32_t", "i32", "ERRORS", "a reply's err"),
@@ -75,7 +73,7 @@ def header_functions(_):
 
 
 def python_names(_):
-    found = ['"""Names of numbers (include/zk.h), and profiles, written by docs/names.py."""', "", "import enum",
+    found = ['"""Names of numbers (include/zk.h), and profiles, written by dev/names.py."""', "", "import enum",
              "from typing import Dict"]
     for kind, _, _, table, _ in KINDS:
         rows = [f'{number}: "{name}",' for number, name in in_order(kind, source.names()[kind])]
@@ -86,7 +84,7 @@ def python_names(_):
 
 def rust_names(_):
     rows = [f"    V{number} = {number}," for number in source.profiles().values()]
-    found = ['//! Names of numbers, "" where a number has none, and profiles; written by docs/names.py.', "",
+    found = ['//! Names of numbers, "" where a number has none, and profiles; written by dev/names.py.', "",
              "/// The operations of a release.", "#[derive(Clone, Copy, Debug, PartialEq, Eq)]", "pub enum Profile {",
              *rows, "}"]
     for kind, _, rust_type, _, of in KINDS:
@@ -131,7 +129,7 @@ def with_others(names, there):
 
 def of_tools():
     """What zkdump_tools/operations.py has by name, its operations of later releases too."""
-    return runpy.run_path(str(TOP / "tools" / "zkdump_tools" / "operations.py"))
+    return source.python_names("tools/zkdump_tools/operations.py")
 
 
 def plugin_names(lines):
@@ -268,9 +266,9 @@ WHOLE = {"examples/python/libzk/_names.py": python_names, "examples/rust/zk/src/
 PARTS = {"include/zk.h": (header_profiles, header_enum, header_functions),
          "tools/zkdump_tools/operations.py": (operation_rows,),
          "wireshark/names.c": (plugin_names, newer_ranges), "wireshark/hole.c": (hole_shapes,),
-         "tools/zkdump_tools/zkcolumns/json.c": (json_keys,), "tests/chosen.h": (random_profiles, random_operations),
+         "tools/zkdump_tools/zkcolumns/json.c": (json_keys,), "tests/library/chosen.h": (random_profiles, random_operations),
          "examples/go/libzk.go": (go_profiles,), "wireshark/register.c": (plugin_profiles,),
-         "completion/zkdump.bash": (completed_profiles,),
+         "packaging/completion/zkdump.bash": (completed_profiles,),
          "bench/peer/peer.rs": (peer_operations,)}
 
 

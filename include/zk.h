@@ -1,6 +1,6 @@
 /* A conversation of ZooKeeper's client protocol, parsed as its bytes arrive, by the proved library libzk.
  *
- * docs/LIBRARY.md says how to link a program with it, and what each call promises. tests/library.py checks this header
+ * docs/LIBRARY.md says how to link a program with it, and what each call promises. tests/library checks this header
  * against the library's source (crates/zk_c/src).
  *
  * The caller's duties: a pointer points to as much as the call says; nothing else writes there during the call, and
@@ -34,7 +34,7 @@ extern "C" {
 enum { ZK_CLIENT = 0, ZK_SERVER = 1 };
 
 /* Profiles, each the operations of a release: docs/FORMATS.md, section 4.
- * The lines from here on are written by docs/names.py. */
+ * The lines from here on are written by dev/names.py. */
 enum { ZK_PROFILE_34 = 34, ZK_PROFILE_35 = 35 };
 /* Up to here. */
 
@@ -216,7 +216,7 @@ enum {
 
 /* Names of a field (docs/FORMATS.md, sections 3 and 4; data, type, id and children are jute's). The elements of a list
  * have the list's name, except that each field of an access right has its own; the header of a part has none. */
-/* The lines from here on are written by docs/names.py. */
+/* The lines from here on are written by dev/names.py. */
 enum {
     ZK_NAME_NONE = 0,
     ZK_NAME_PATH = 1,
@@ -476,7 +476,7 @@ struct zk_line zk_listing(const struct zk_piece *pieces, size_t count, const uin
 
 /* ---- Names of numbers; "" where a number has none */
 
-/* The lines from here on are written by docs/names.py. */
+/* The lines from here on are written by dev/names.py. */
 /* Of an operation, or of a part of a multi. */
 static inline const char *zk_operation_name(int32_t number) {
     switch (number) {

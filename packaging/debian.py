@@ -8,10 +8,9 @@ import re
 import shutil
 import subprocess
 
-import archive
-import make_columns
-from build_library import TOP
-from install import OWN, VERSION, install
+from . import archive, make_columns
+from .build_library import TOP
+from .install import OWN, VERSION, install
 
 LIBDIR = "lib/x86_64-linux-gnu"
 PROGRAMS = ("zkdump", make_columns.NAME)

@@ -1,4 +1,3 @@
-#!/usr/bin/env python3
 """Makes the two libraries that a program links, out of the proved one.
 
     make_library.py [--library PATH] [--allocator PATH] FOLDER
@@ -16,7 +15,7 @@ import shutil
 import subprocess
 import sys
 
-from build_library import LIBRARY, TOP, kit
+from .build_library import LIBRARY, TOP, kit
 
 HEADER = TOP / "include" / "zk.h"
 MAP = TOP / "packaging" / "zk.map"

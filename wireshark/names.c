@@ -12,7 +12,7 @@
 
 #define NUMBER(n) ((guint32)(n))
 
-/* The lines from here on are written by docs/names.py; rows that the sources lack stay. */
+/* The lines from here on are written by dev/names.py; rows that the sources lack stay. */
 const value_string op_names[] = {
     {NUMBER(-11), "closeSession"}, {NUMBER(-10), "createSession"}, {NUMBER(-1), "error"}, {0, "notification"},
     {1, "create"}, {2, "delete"}, {3, "exists"}, {4, "getData"}, {5, "setData"}, {6, "getACL"}, {7, "setACL"},
@@ -55,6 +55,12 @@ const value_string kind_names[] = {
     {ZK_EVENT, "event"}, {0, NULL},
 };
 
+/* What a create request makes of a node: CreateMode.java. */
+const value_string mode_names[] = {
+    {0, "PERSISTENT"}, {1, "EPHEMERAL"}, {2, "PERSISTENT_SEQUENTIAL"}, {3, "EPHEMERAL_SEQUENTIAL"}, {4, "CONTAINER"},
+    {5, "PERSISTENT_WITH_TTL"}, {6, "PERSISTENT_SEQUENTIAL_WITH_TTL"}, {0, NULL},
+};
+
 const value_string event_state_names[] = {
     {NUMBER(-112), "Expired"}, {NUMBER(-1), "Unknown"}, {0, "Disconnected"}, {1, "NoSyncConnected"},
     {3, "SyncConnected"}, {4, "AuthFailed"}, {5, "ConnectedReadOnly"}, {6, "SaslAuthenticated"}, {7, "Closed"},
@@ -81,7 +87,7 @@ int op_row(gint32 op) {
 }
 
 gboolean op_is_newer(gint32 op) {
-    /* The lines from here on are written by docs/names.py. */
+    /* The lines from here on are written by dev/names.py. */
     return (op >= 15 && op <= 22) || (op >= 102 && op <= 107);
     /* Up to here. */
 }

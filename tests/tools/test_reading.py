@@ -7,11 +7,11 @@ import signal
 import struct
 import unittest.mock
 
-import reckoned
-from support import CAPTURES, PROGRAM, TOP, ToolCase
-from test_columns import ColumnsCase
+from . import reckoned
+from .support import CAPTURES, PROGRAM, TOP, ToolCase
+from .test_columns import ColumnsCase
 
-from zkdump_tools import columns, errors
+from tools.zkdump_tools import columns, errors
 
 CONNECT = bytes(24) + b"\0\0\0\x10" + bytes(17)       # frames of 49 and 41 bytes
 CONNECTED = struct.pack(">iiqi", 0, 30_000, 0x100000000000001, 16) + bytes(17)

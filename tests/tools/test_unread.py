@@ -7,9 +7,9 @@ import subprocess
 import sys
 import time
 
-from proxied import SECONDS, STAND_IN, TroubleCase
-from support import TOOLS
-from zkdump_tools import columns, zkr
+from tools.zkdump_tools import columns, zkr
+from .proxied import SECONDS, STAND_IN, TroubleCase
+from .support import TOOLS
 
 
 class Output(TroubleCase):

@@ -1,4 +1,4 @@
-//! Names of numbers, "" where a number has none, and profiles; written by docs/names.py.
+//! Names of numbers, "" where a number has none, and profiles; written by dev/names.py.
 
 /// The operations of a release.
 #[derive(Clone, Copy, Debug, PartialEq, Eq)]
