@@ -11,7 +11,7 @@ from . import reckoned
 from .support import CAPTURES, PROGRAM, TOP, ToolCase
 from .test_columns import ColumnsCase
 
-from tools.zkdump_tools import columns, errors
+from tools.zkdump_tools import columns, errors, passages
 
 CONNECT = bytes(24) + b"\0\0\0\x10" + bytes(17)       # frames of 49 and 41 bytes
 CONNECTED = struct.pack(">iiqi", 0, 30_000, 0x100000000000001, 16) + bytes(17)
@@ -343,3 +343,25 @@ class Names(ToolCase):
         found = {int(number.strip("NUMBER()")): name
                  for number, name in re.findall(r'\{(NUMBER\(-\d+\)|\d+), "(\w+)"\}', source)}
         self.assertEqual(errors.NAMES, found)
+
+
+class Parts(ToolCase):
+    def test_a_multi_with_a_part_of_a_later_release(self):
+        """It is one of which that is the first fault."""
+        def part(kind, body, done=0, err=-1):
+            return struct.pack(">iBi", kind, done, err) + body
+        acl = b"\0\0\0\1" + struct.pack(">i", 31) + PATH + PATH
+        create, check = PATH + b"\0\0\0\1x" + acl + bytes(4), PATH + bytes(4)
+        before = part(1, create) + part(13, check) + part(2, check) + part(5, PATH + b"\xff" * 4 + bytes(4))
+        for parts, wanted in (
+                (part(15, create), True), (before + part(19, create), True), (before + part(21, create + bytes(8)), True),
+                (part(21, b""), True), (before, False), (before + part(-1, b"", 1), False), (part(14, b""), False),
+                (part(4, PATH + b"\0"), False), (part(15, create, 1), False), (part(15, create, 0, 0), False),
+                (struct.pack(">iB", 15, 0), False), (part(1, create[:-1]) + part(15, create), False),
+                (part(2, b"\0\0\0\1\xff" + bytes(4)) + part(15, create), False),
+                (part(2, b"\xff\xff\xff\xfe" + bytes(4)) + part(15, create), False),
+                (part(2, b"\x7f\xff\xff\xff" + bytes(4)) + part(15, create), False),
+                (part(2, b"\xff\xff\xff\xff" + bytes(4)) + part(15, create), True),
+                (part(1, PATH + bytes(4) + b"\x7f\xff\xff\xff" + bytes(40)) + part(15, create), False)):
+            payload = struct.pack(">ii", 1, 14) + parts
+            self.assertEqual(passages.has_newer_part(payload), wanted, payload.hex())

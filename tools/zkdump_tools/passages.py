@@ -28,7 +28,8 @@ BATCH = 1 << 16                         # of bytes for `show`, and a sixteenth o
 AHEAD = 8                               # batches that may wait to be read
 # The refusals that other bounds may take back, or that may be of a request that is left out.
 GOES_ON = ("UnknownOp", "XidOp", "BadPart", "LengthRange", "QueueFull")
-REQUEST, REPLY = struct.Struct(">ii"), struct.Struct(">iqi")
+NEWER_PARTS = [operations.BY_NAME[name].number for name in ("create2", "createContainer", "createTTL")]
+REQUEST, REPLY, PART, INT = struct.Struct(">ii"), struct.Struct(">iqi"), struct.Struct(">iBi"), struct.Struct(">i")
 
 
 class Bounds(NamedTuple):
@@ -100,6 +101,44 @@ class Turn(NamedTuple):
     out: bool
 
 
+def after(payload, at, kinds):
+    """The place after items of these kinds; a ValueError where something else is there."""
+    for kind in kinds:
+        if kind == "acls":
+            count, = INT.unpack_from(payload, at)
+            at += 4
+            if count < -1 or 12 * count > len(payload) - at:
+                raise ValueError("this is no list")
+            for _ in range(count):
+                at = after(payload, at, ("number", "text", "text"))
+        elif kind == "number":
+            at += 4
+        else:
+            size, = INT.unpack_from(payload, at)
+            end = at + 4 + max(0, size)
+            if size < -1 or end > len(payload):
+                raise ValueError("this is no text and no data")
+            if kind == "text":
+                payload[at + 4:end].decode()
+            at = end
+    return at
+
+
+def has_newer_part(payload):
+    """Whether a multi's first fault is a part of a later release: create2, createContainer or createTTL."""
+    at = 8
+    try:
+        while True:
+            kind, is_last, err = PART.unpack_from(payload, at)
+            if is_last or err != -1:
+                return False
+            if kind not in zkskip.PARTS:
+                return kind in NEWER_PARTS
+            at = after(payload, at + PART.size, zkskip.PARTS[kind])
+    except (struct.error, ValueError):
+        return False
+
+
 class Passage:
     """Says of each whole frame of a recording whether it is left out. `fault` is the ending line of a reply that comes
     out of its turn, after which nothing is taken."""
@@ -130,9 +169,9 @@ class Passage:
 
     def lacks(self, xid, operation, payload):
         """Whether a request is left out."""
-        if xid in NEVER_OUT:
-            return False
-        return operation not in self.operations or operation == zkskip.MULTI and bool(zkskip.later_part(payload))
+        if operation in self.operations:
+            return operation == zkskip.MULTI and xid not in LANES and has_newer_part(payload)
+        return xid not in NEVER_OUT
 
     def ask(self, frame):
         """The line of a request, if it is left out."""
