@@ -17,9 +17,9 @@ FILES = (*lists.PARTS, *lists.WHOLE, "dev/__init__.py", "dev/names.py", "dev/lis
          "docs/FORMATS.md", "docs/LIBRARY.md", "docs/REASONS.md", "docs/man/zkdump.1.scd", "docs/man/zkr.5.scd",
          "examples/python/libzk/_messages.py", "examples/python/libzk/_held.py", "examples/server.c",
          "crates/talk_tests/src/tests/earliest/bodies.rt", "wireshark/tree.c", "wireshark/message.h",
-         "tools/zkdump_tools/forms.py",
+         "tools/zkdump_tools/forms.py", "tools/zkdump_tools/errors.py",
          "bench/make_recording.py")
-ALL_PASSED = (0, ["32 passed, 0 failed"])
+ALL_PASSED = (0, ["33 passed, 0 failed"])
 # A file, what is replaced in it and by what, and what is then said: `{line}` is the line of the change.
 WRITTEN = (
     ("include/zk.h", '    case 8: return "getChildren";\n', "", 'lacks case 8: return "getChildren"'),
@@ -34,6 +34,7 @@ WRITTEN = (
     ("wireshark/names.c", '{12, "getChildren2"}, ', "", 'lacks {12, "getChildren2"}'),
     ("wireshark/names.c", '{NUMBER(-103), "BADVERSION"}', '{NUMBER(-104), "BADVERSION"}',
      'has {NUMBER(-104), "BADVERSION"}; lacks {NUMBER(-103), "BADVERSION"}'),
+    ("wireshark/names.c", ', {NUMBER(-125), "QUOTAEXCEEDED"}', "", 'lacks {NUMBER(-125), "QUOTAEXCEEDED"}'),
     ("wireshark/names.c", '{104, "getAllChildrenNumber"}, ', "", 'lacks {104, "getAllChildrenNumber"}'),
     ("wireshark/names.c", "return (op >= 15 &&", "return (op >= 16 &&",
      "has return (op >= 16 && op <= 22) || (op >= 102 && op <= 107); "
@@ -91,6 +92,8 @@ COMPARED = (
      ("docs/REASONS.md:{line}: 5 is TooLarge, and in the sources TooLong",)),
     ("tools/zkdump_tools/operations.py", 'Operation(13, "check", None, VERSION),', 'Operation(13, "check", None, PATH),',
      ("tools/zkdump_tools/operations.py: no row of the part 13 check with text path, int version",)),
+    ("tools/zkdump_tools/errors.py", '-101: "NONODE"', '-101: "NO_NODE"',
+     ("tools/zkdump_tools/errors.py: -101 is NO_NODE, and in the sources NONODE",)),
     ("tools/zkdump_tools/forms.py", '"cversion", "aversion"', '"aversion", "cversion"',
      ("tools/zkdump_tools/forms.py:{line}: STAT has czxid, mzxid, ctime, mtime, version, aversion, cversion, ephemeralOwner, "
       "dataLength, numChildren, pzxid, and in docs/FORMATS.md czxid, mzxid, ctime, mtime, version, cversion, aversion, "

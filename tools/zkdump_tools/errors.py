@@ -1,4 +1,5 @@
-"""The names of ZooKeeper's errors, also of those that the lines of zkdump give by number alone."""
+"""The names of ZooKeeper's errors for readers, also of those that the lines of zkdump give by number alone. The plugin's
+list is written from this one (dev/names.py), which has all names of the crates' sources."""
 
 NAMES = {
     0: "OK", -1: "SYSTEMERROR", -2: "RUNTIMEINCONSISTENCY", -3: "DATAINCONSISTENCY", -4: "CONNECTIONLOSS",

@@ -35,7 +35,7 @@ class Reader:
 
     def __init__(self, parser, words, folder):
         self.port, self.folder, self.chosen = words.port, folder, selection.Selection(words)
-        self.opener = sources.Opener(parser, words)
+        self.opener, self.top = sources.Opener(parser, words), words.top
 
     def run(self, inputs, tracing=None):
         """What is found of all connections of these files."""
@@ -46,7 +46,7 @@ class Reader:
 
     def read(self, inputs, tracing=None):
         """The summary of all connections of these files."""
-        return summary.Summary(self.run(inputs, tracing))
+        return summary.Summary(self.run(inputs, tracing), self.top)
 
     def windows(self, found, links):
         """The messages around these; of a short run all."""
@@ -98,9 +98,9 @@ def title(inputs):
     return ", ".join(names[:NAMED]) + (f" and {more} more" if more > 0 else "")
 
 
-def write_text(found, compared):
+def write_text(found, compared, top):
     """Writes the tables, and what was compared, to standard output."""
-    lines = list(text.lines_of(found))
+    lines = list(text.lines_of(found, top))
     if compared:
         lines += ["", "Compared", *against.lines_of(compared), *text.table(compared["columns"], compared["rows"])]
     print("\n".join(lines))
@@ -112,6 +112,8 @@ def words_of(arguments=None, kind=zkr.Words):
                         "recordings, or @LIST")
     parser.add_argument("-o", "--output", metavar="FILE", help="the page to write")
     parser.add_argument("--text", action="store_true", help="write the tables to standard output")
+    parser.add_number("--top", range(1, 1001), default=text.ROWS, help="how many rows of the slowest requests, the "
+                      f"busiest paths and the like --text has ({text.ROWS})")
     parser.add_argument("--trace", metavar="FILE", help="the trace to write")
     parser.add_argument("--against", metavar="OTHER", action="append", help="a file of the run to compare with")
     parser.add_number("--port", range(1, 65536), default=2181, help="the server's port in captures (2181)")
@@ -153,7 +155,7 @@ def read_all(parser, words):
             unread = True
         else:
             found.add(result)
-    return summary.Summary(found.run), unread
+    return summary.Summary(found.run, words.top), unread
 
 
 def is_incomplete(found):
@@ -166,7 +168,7 @@ def main():
     parser, words = words_of()
     if fleet.is_asked(words):
         found, unread = read_all(parser, words)
-        write_text(found, None)
+        write_text(found, None, words.top)
         return 1 if unread or is_incomplete(found) else 0
     with contextlib.ExitStack() as stack:
         reader = Reader(parser, words, stack.enter_context(tempfile.TemporaryDirectory(prefix="zkreport-")))
@@ -180,5 +182,5 @@ def main():
             # The name of a file may be no UTF-8.
             out.waiting += page_of(reader, found, compared, title(words.inputs)).encode(errors="backslashreplace")
     if words.text:
-        write_text(found, compared)
+        write_text(found, compared, words.top)
     return 1 if is_incomplete(found) or compared and compared["first"] else 0

@@ -1,13 +1,18 @@
 """Counts conversations: requests, replies, errors and latencies of each operation and each connection, events, the
 slowest requests, and those without a reply.
 
-    zkstat.py [--json] [--recording REC.zkr [--times FILE]] [CHOICE ..] [FILE ..]
+    zkstat.py [--json|--csv TABLE|--prometheus] [--recording REC.zkr [--times FILE]] [CHOICE ..] [FILE ..]
 
 It reads listings, recordings, whose listings zkdump show makes, and the lines of zkjson, also of several connections;
 without a FILE it reads a listing, or lines of zkjson, from standard input. If there are times, there are latencies:
 from a request's last byte to its reply's. p50, p95 and p99 are those of HdrHistogram with three significant digits, in
 microseconds; max is exact. A multi has failed if one of its parts has. That exists answers NONODE is no failure, and
 counts by itself. Connections of one session are grouped.
+
+--every counts requests and failures by intervals of time, those in which something was asked; --depth by the first parts
+of paths, of a multi by those of its parts; and --clients by the client's address, as far as the facts beside recordings
+have it. --csv writes one of the tables as CSV, whole: a line with the names of its columns, and one for each row.
+--prometheus writes the counts and latencies in Prometheus's text format.
 
 Requests of operations that the profile lacks count, too: they are shown by number, with their errors and latencies, and
 without a path. Where the reading stops before a connection's end, or the facts beside a recording (NAME.facts.json) say
@@ -21,7 +26,7 @@ import itertools
 import json
 import sys
 
-from . import columns, counted, errors, fleet, inputs, listing, passages, pythons, selection, tables, zkr
+from . import breakdown, columns, counted, errors, exposition, fleet, inputs, listing, passages, pythons, selection, tables, zkr
 from .histogram import Histogram
 
 SLOWEST = 20
@@ -89,10 +94,8 @@ def cut(path):
 class Statistics:
     """Everything that is counted of conversations."""
 
-    most = SLOWEST
-
-    def __init__(self, chosen):
-        self.selection = chosen
+    def __init__(self, chosen, words):
+        self.selection, self.most, self.breakdown = chosen, words.top, breakdown.Breakdown(words)
         self.operations, self.connections = collections.defaultdict(Counts), {}
         self.events, self.by_number, self.is_incomplete = collections.Counter(), collections.Counter(), False
         self.waiting = {listing.UNANSWERED: [], listing.NOT_CAPTURED: [], listing.NOT_KNOWN: []}
@@ -108,7 +111,7 @@ class Statistics:
 
     def read(self, talk):
         """Counts what is chosen of a conversation, or of several."""
-        if isinstance(talk, columns.Columns):
+        if isinstance(talk, columns.Columns) and not self.breakdown.is_asked():
             counted.read(self, talk)
         else:
             self.read_messages(talk)
@@ -120,6 +123,7 @@ class Statistics:
                 continue
             self.operations[made.op].asked += 1
             self.connections[made.connection].asked += 1
+            self.breakdown.left(made)
             if not made.decoded:
                 self.by_number[made.op] += 1
             made.path = cut(made.path)
@@ -129,7 +133,8 @@ class Statistics:
 
     def read_messages(self, talk):
         """Counts the messages of a conversation one by one; counted.add_block does it with columns."""
-        operations, connections = self.operations, self.connections
+        operations, connections, more = self.operations, self.connections, self.breakdown
+        is_more = more.is_asked()
         for line, made, asked in self.selection.chosen(talk):
             counts = connections.get(made.connection) or self.counts_of(made.connection)
             if made.made_up:
@@ -137,7 +142,10 @@ class Statistics:
             if asked is None:
                 if made.op == listing.EVENT:
                     self.events[made.error] += 1
-                elif made.path and len(made.path) > LONGEST_PATH:
+                    continue
+                if is_more:
+                    more.request(talk, line, made)
+                if made.path and len(made.path) > LONGEST_PATH:
                     made.path = cut(made.path)
                 continue
             if not made.decoded:
@@ -145,6 +153,8 @@ class Statistics:
             microseconds = made.microseconds
             operations[made.op].add(made.op, made.error, microseconds)
             counts.add(made.op, made.error, microseconds)
+            if is_more:
+                more.reply(talk, line, made, asked)
             if microseconds is not None and microseconds > self.least:
                 self.add_slow(talk.zxid(line), made, asked)
 
@@ -154,11 +164,11 @@ class Statistics:
 
     def put_slow(self, microseconds, row):
         entry = microseconds, -next(self.order), row
-        if len(self.slowest) < SLOWEST:
+        if len(self.slowest) < self.most:
             heapq.heappush(self.slowest, entry)
         else:
             heapq.heapreplace(self.slowest, entry)
-        if len(self.slowest) == SLOWEST:
+        if len(self.slowest) == self.most:
             self.least = self.slowest[0][0]
 
     def take(self, path, partial):
@@ -175,12 +185,12 @@ class Statistics:
         """What was counted, for `merge` in another process."""
         connections = {connection: Finished(counts) for connection, counts in self.connections.items()}
         return (dict(self.operations), connections, self.events, self.by_number, self.waiting, self.is_incomplete,
-                self.left_out,
+                self.left_out, self.breakdown.partial(),
                 [(microseconds, row) for microseconds, _, row in sorted(self.slowest, key=lambda entry: -entry[1])])
 
     def merge(self, partial):
         """Adds what was counted of other conversations."""
-        operations, connections, events, by_number, waiting, is_incomplete, left_out, slowest = partial
+        operations, connections, events, by_number, waiting, is_incomplete, left_out, more, slowest = partial
         for name, counts in operations.items():
             self.operations[name].merge(counts)
         self.connections.update(connections)
@@ -190,18 +200,20 @@ class Statistics:
             self.waiting[fate] += found
         self.is_incomplete |= is_incomplete
         self.left_out.merge(left_out)
+        self.breakdown.merge(more)
         for microseconds, row in slowest:
             if microseconds > self.least:
                 self.put_slow(microseconds, row)
 
     def summary(self):
-        ordered = sorted(self.operations.items(), key=lambda item: -item[1].asked)
+        ordered, rows = sorted(self.operations.items(), key=lambda item: -item[1].asked), list(self.rows())
         return {"operations": {name: {**counts.summary(), "errors": dict(counts.errors.most_common()),
                                       "answers": dict(counts.answers.most_common())} for name, counts in ordered},
-                "events": dict(self.events.most_common()), "connections": list(self.rows()),
+                "events": dict(self.events.most_common()), "connections": rows,
                 **{fate: found for fate, found in self.waiting.items() if found or fate == listing.UNANSWERED},
                 **({"byNumber": passages.ordered(self.by_number)} if self.by_number else {}),
-                "slowest": [row for _, _, row in sorted(self.slowest, key=lambda entry: entry[:2], reverse=True)]}
+                "slowest": [row for _, _, row in sorted(self.slowest, key=lambda entry: entry[:2], reverse=True)],
+                **self.breakdown.summary(rows)}
 
     def rows(self):
         """The row of each connection, those of one session together; of a later one `gap` is the seconds from the end
@@ -249,13 +261,25 @@ def words_of(arguments=None, kind=zkr.Words):
     inputs.add_words(parser)
     selection.add_words(parser)
     fleet.add_words(parser)
-    parser.add_argument("--json", action="store_true", help="write one object of JSON, with every unanswered request")
-    return parser, parser.parse_args(arguments)
+    breakdown.add_words(parser)
+    parser.add_number("--top", range(1, 100_001), default=SLOWEST, help=f"how many rows the slowest, paths and clients "
+                      f"have ({SLOWEST})")
+    output = parser.add_mutually_exclusive_group()
+    output.add_argument("--json", action="store_true", help="write one object of JSON, with every unanswered request")
+    output.add_argument("--csv", metavar="TABLE", choices=exposition.TABLES,
+                        help=f"write a table as CSV: {', '.join(exposition.TABLES)}")
+    output.add_argument("--prometheus", action="store_true", help="write Prometheus's text format")
+    words = parser.parse_args(arguments)
+    for name in ("every", "depth", "clients"):
+        if words.csv == {"depth": "paths"}.get(name, name) and not getattr(words, name):
+            parser.error(f"--csv {words.csv} needs --{name}, which counts it")
+    return parser, words
 
 
 def read(parser, words, found, progress):
     """Counts what the arguments name."""
-    for talk in inputs.conversations(parser, words, True, progress, fast=found.selection.options):
+    fast = (lambda _: ["--lines"]) if found.breakdown.is_asked() else found.selection.options
+    for talk in inputs.conversations(parser, words, True, progress, fast=fast):
         with talk.complaints():
             found.read(talk)
 
@@ -263,10 +287,10 @@ def read(parser, words, found, progress):
 def partial(options, paths):
     """What is counted of files."""
     parser, words = words_of(options, fleet.Strict)
-    together = Statistics(selection.Selection(words))
+    together = Statistics(selection.Selection(words), words)
 
     def one(path):
-        words.inputs, found = [path], Statistics(selection.Selection(words))
+        words.inputs, found = [path], Statistics(selection.Selection(words), words)
         read(parser, words, found, zkr.Progress("zkstat", False))
         return found.partial()
     for path in paths:
@@ -274,19 +298,28 @@ def partial(options, paths):
     return together.partial()
 
 
+def write(words, summary):
+    """Writes what was found, in the form that the arguments name."""
+    if words.json:
+        print(json.dumps(summary))
+    elif words.csv:
+        print(exposition.csv_of(summary, words.csv), end="")
+    elif words.prometheus:
+        print("\n".join(exposition.prometheus(summary)))
+    else:
+        for line in (*tables.lines(summary), *breakdown.lines(summary, words.top)):
+            print(line.rstrip())
+
+
 def main():
     parser, words = words_of()
     pythons.continue_with_numpy(words)
     sys.stdout.reconfigure(errors="backslashreplace")
-    found = Statistics(selection.Selection(words))
+    found = Statistics(selection.Selection(words), words)
     if fleet.is_asked(words):
         for paths, result in fleet.of_inputs(parser, words, __name__, together=True):
             found.take(paths[0], result)
     else:
         read(parser, words, found, zkr.Progress("zkstat"))
-    if words.json:
-        print(json.dumps(found.summary()))
-    else:
-        for line in tables.lines(found.summary()):
-            print(line.rstrip())
+    write(words, found.summary())
     return 1 if found.left_out.complain() or found.is_incomplete else 0

@@ -173,13 +173,13 @@ const derive = {
   },
   slowest(indices) {
     return indices.filter(i => !Number.isNaN(requests.ms[i])).sort((a, b) => byRequest(b, a))
-      .slice(0, 20).map(i => [latencyOf(i), timeOf(i), connectionName(requests.connection[i]),
+      .slice(0, data.most.slowest).map(i => [latencyOf(i), timeOf(i), connectionName(requests.connection[i]),
         requests.n[i], data.ops[requests.op[i]], data.errors[requests.error[i]] ?? null, data.paths[requests.path[i]] ?? null,
         ...link(i)]);
   },
   paths(indices) {
     const named = indices.filter(i => requests.path[i] >= 0);
-    return [...groups(named, i => requests.path[i])].sort((a, b) => b[1].length - a[1].length).slice(0, 50)
+    return [...groups(named, i => requests.path[i])].sort((a, b) => b[1].length - a[1].length).slice(0, data.most.rows)
       .map(([path, all]) => {
         const slowest = slowestOf(all);
         return [all.length, all.filter(i => outcome(i) === FAILED).length,
@@ -187,7 +187,7 @@ const derive = {
       });
   },
   unanswered(indices, kind = UNANSWERED) {
-    return indices.filter(i => outcome(i) === kind).slice(0, 50).map(i => [
+    return indices.filter(i => outcome(i) === kind).slice(0, data.most.rows).map(i => [
       timeOf(i), connectionName(requests.connection[i]),
       requests.n[i], data.ops[requests.op[i]], data.paths[requests.path[i]] ?? null, ...link(i)]);
   },

@@ -209,27 +209,27 @@ def connection_rows(run):
                each.last]
 
 
-def slowest_rows(run):
+def slowest_rows(run, most):
     timed = [each for each in run.kept.requests() if each.ms is not None]
-    for each in sorted(timed, key=lambda each: (-each.ms, each.connection, each.n))[:SLOWEST]:
+    for each in sorted(timed, key=lambda each: (-each.ms, each.connection, each.n))[:most]:
         yield [each.ms, each.at, run.connections[each.connection].label, each.n, each.op, each.error, each.path,
                each.connection, each.n]
 
 
-def path_rows(run):
-    for path, (count, failed, longest, *link) in run.paths.most_common(ROWS):
+def path_rows(run, most):
+    for path, (count, failed, longest, *link) in run.paths.most_common(most):
         yield [count, failed, None if longest < 0 else longest, path, *link]
 
 
-def watch_rows(run):
+def watch_rows(run, most):
     rows = [[found[0], found[1], sum(found[2].values()), found[2], run.connections[connection].label, path, connection,
              found[3]]
             for (connection, path), found in run.watches.entries.items()]
-    return sorted(rows, key=lambda row: (-row[2], -row[0], row[6], row[7]))[:ROWS]
+    return sorted(rows, key=lambda row: (-row[2], -row[0], row[6], row[7]))[:most]
 
 
-def unanswered_rows(run, unanswered):
-    for each in unanswered[:ROWS]:
+def unanswered_rows(run, unanswered, most):
+    for each in unanswered[:most]:
         yield [each.at, run.connections[each.connection].label, each.n, each.op, each.path, each.connection, each.n]
 
 
@@ -240,22 +240,24 @@ def span(connections):
 
 
 class Summary:
-    """A run and its tables."""
+    """A run and its tables; of each that isn't whole there are `top` rows at least."""
 
-    def __init__(self, run):
-        self.run, self.sessions = run, sessions_of(run)
+    def __init__(self, run, top=0):
+        self.run, self.sessions, rows = run, sessions_of(run), max(ROWS, top)
+        self.most = {"slowest": max(SLOWEST, top), "rows": rows}
         self.operations = operations_of(run.connections)
         run.density.finish()
         self.tables = {
             "sessions": session_rows(self.sessions), "connections": connection_rows(run),
             "operations": operation_rows(self.operations, run), "errors": error_rows(self.operations),
-            "slowest": slowest_rows(run), "paths": path_rows(run), "watches": watch_rows(run),
-            "unanswered": unanswered_rows(run, run.kept.left[listing.UNANSWERED]),
+            "slowest": slowest_rows(run, self.most["slowest"]), "paths": path_rows(run, rows),
+            "watches": watch_rows(run, rows),
+            "unanswered": unanswered_rows(run, run.kept.left[listing.UNANSWERED], rows),
         }
         self.tables = {name: list(rows) for name, rows in self.tables.items()}
         self.columns = COLUMNS
         for fate in run.kept.lost_fates():
-            self.tables[fate] = list(unanswered_rows(run, run.kept.left[fate]))
+            self.tables[fate] = list(unanswered_rows(run, run.kept.left[fate], rows))
             self.columns = {**self.columns, "operations": [*self.columns["operations"], LOST[fate]]}
         self.begun, self.ended = span(run.connections)
         self.counts = {

@@ -7,8 +7,8 @@ NUMBERS = ("count", "ms", "length", "connection")
 ROWS, WHOLE = 20, ("sessions", "connections", "operations", "errors")
 
 
-def lines_of(found):
-    """The lines of all tables of a summary."""
+def lines_of(found, top=ROWS):
+    """The lines of all tables of a summary, of most of them the first `top` rows."""
     counts = found.counts
     yield (f"{found.run.whole} connections, {len(found.sessions)} sessions, {counts['messages']} messages, "
            f"{counts['asked']} requests, {counts['failed']} failed, {counts['unanswered']} unanswered, "
@@ -27,9 +27,10 @@ def lines_of(found):
         if rows:
             yield ""
             yield summary.HEADINGS[name]
-            shown = rows if name in WHOLE else rows[:ROWS]
+            shown = rows if name in WHOLE else rows[:top]
             yield from table(found.columns[name], shown)
-            if more := left_out.get(name, 0) + len(rows) - len(shown):
+            more = left_out.get(name, 0) + len(rows) - len(shown)
+            if more and name != "slowest":
                 yield f"and {'at least ' if name in short else ''}{more} more"
     for name, most in short.items():
         yield f"Counts of {name} may be up to {most} too low: there were too many {name} to count each."
