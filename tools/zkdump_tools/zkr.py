@@ -37,6 +37,7 @@ LONGEST_TIME = 32
 LIMITS, USUAL_LIMIT = range(64, 16_777_217), 4_194_304
 WAITINGS, USUAL_WAITING = range(1, 1_048_577), 65_536
 RELEASES = {number: release for release, number in PROFILES.items()}
+NEWEST = [*PROFILES][-1]        # the release by which tools read where none is named
 # The head of a piece, before its bytes: the side, the time in a ZKR2 recording, and the number of bytes.
 PIECE_HEADS = {"zkr1": struct.Struct(">ci"), "zkr2": struct.Struct(">cqi")}
 
