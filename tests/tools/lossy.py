@@ -124,7 +124,8 @@ class Talk:
         names = struct.pack(">i", 2) + buffer(b"n%d" % self.zxid) + buffer(b"m")
         end = struct.pack(">i?i", -1, True, -1)
         body = {1: path, 9: path, 15: path + stat, 19: path + stat, 21: path + stat, 3: stat, 5: stat,
-                4: buffer(data) + stat, 6: OPEN_ACL + stat, 8: names, 12: names + stat, 103: names, 104: struct.pack(">i", 7),
+                4: buffer(data) + stat, 6: OPEN_ACL + stat, 8: names, 12: names + stat, 103: names,
+                104: struct.pack(">i", 7),
                 14: struct.pack(">i?i", 1, False, 0) + path + end,
                 22: struct.pack(">i?i", 4, False, 0) + buffer(data) + stat + end,
                 102: buffer(data), 107: struct.pack(">i", 1) + buffer(b"world") + buffer(b"anyone")}[kind]
@@ -326,7 +327,8 @@ class Check:
     def unanswered(self, asked, known):
         reply = asked.reply
         if reply and self.loss.has(reply):
-            self.fault("request", asked.number, "counts as unanswered in part", known.part, "and its reply was captured")
+            self.fault("request", asked.number, "counts as unanswered in part", known.part, "and its reply was "
+                       "captured")
         elif reply and self.loss.shows(reply):
             self.fault("request", asked.number, "counts as unanswered in part", known.part, "and its reply is known to "
                        "be lost")
