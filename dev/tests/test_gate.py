@@ -63,6 +63,32 @@ class Quick(ToolCase):
             self.assertEqual(self.quick(crate), (2, []), crate)
 
 
+class Install(ToolCase):
+    """What --install does, over scripts in the place of Debian's."""
+
+    def run_install(self, apt):
+        """The status, what is printed, and the packages that apt-get was to install, each time that it was called."""
+        shutil.copy(TOP / "test", self.folder)
+        (self.folder / "CONTRIBUTING.md").write_text("words\n\n    apt-get install one two \\\n        three-dev\n\nmore\n")
+        asked = self.folder / "asked"
+        for name, script in (("dpkg-query", 'test "$4" != two || echo install ok installed'),
+                             ("apt-get", f'echo "$@" | sed -n "s/.* --no-install-recommends //p" >> {asked}\n{apt}')):
+            path = self.folder / name
+            path.write_text(f"#!/bin/sh\n{script}\n")
+            path.chmod(0o700)
+        asked.write_text("")
+        done = subprocess.run([self.folder / "test", "--install"], capture_output=True, text=True, check=False,
+                              env={**os.environ, "PATH": f"{self.folder}:{os.environ['PATH']}"})
+        return done.returncode, done.stdout, asked.read_text().splitlines()
+
+    def test_what_is_missing_is_installed(self):
+        self.assertEqual(self.run_install("exit 0"), (0, "", ["one three-dev"]))
+
+    def test_what_can_not_be_installed_is_said(self):
+        self.assertEqual(self.run_install('case "$*" in *three-dev) exit 100; esac'),
+                         (1, "not installed, since apt-get failed: three-dev\n", ["one three-dev", "one", "three-dev"]))
+
+
 @unittest.skipUnless(shutil.which("git"), "git is not on the PATH")
 class Whole(ToolCase):
     def setUp(self):

@@ -64,12 +64,12 @@ class Source:
 
 
 class Opener:
-    """Opens sources. Recordings are read with the widest limits, since a report shows what there is; the head of a ZKR2
-    recording has its own."""
+    """Opens sources, by the words of zkreport."""
 
-    def __init__(self, parser, zkdump):
+    def __init__(self, parser, words):
         self.parser, self.progress = parser, zkr.Progress("zkreport")
-        self.words = argparse.Namespace(recording=None, times=None, zkdump=zkdump, profile=[*zkr.PROFILES][-1], limit=zkr.LIMITS[-1])
+        self.words = argparse.Namespace(recording=None, times=None, zkdump=words.zkdump, profile=words.profile,
+                                        limit=words.limit)
 
     @contextlib.contextmanager
     def conversation(self, source):
