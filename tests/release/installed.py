@@ -153,7 +153,7 @@ def commands(top):
            f"commands that tools/README.md lacks, or that are not installed: {sorted(found ^ named)}")
     page = top / "share" / "man" / "man1" / "zkdump.1"
     if page.exists():
-        said = re.findall(r"^\\fB(\w+)\\fR\n\.RS 4\n(.*\.)(?:\\&)?$", page.read_text(), re.M)
+        said = re.findall(r"^\\fB(\w+)\\fR\(1\)\n\.RS 4\n(.*\.)(?:\\&)?$", page.read_text(), re.M)
         yield "manual", named <= {name for name, _ in said}, f"zkdump(1) has whole sentences of {said} alone"
     none = top / "none"
     none.mkdir()
