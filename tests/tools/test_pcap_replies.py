@@ -30,7 +30,7 @@ class RepliesCase(PcapCase):
 
 
 class Connecting(RepliesCase):
-    """Requests behind the connect request, of which one was not captured."""
+    """Requests after the connect request, of which one was not captured."""
 
     def test_the_response_is_the_one_that_was_captured(self):
         asked, answered = CONNECT

@@ -32,7 +32,7 @@ def exists(xid):
 
 
 def recording(frames, form=">cI", head=b"ZKR1", cut=None):
-    """A recording of the connect frames and these, one frame a piece, or in pieces of so many bytes."""
+    """A recording of the connect frames and these, one frame a piece, or in pieces of this many bytes."""
     made = head
     for at, (side, payload) in enumerate([(b"C", CONNECT), (b"S", CONNECTED), *frames]):
         whole = len(payload).to_bytes(4, "big") + payload
