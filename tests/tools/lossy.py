@@ -57,7 +57,7 @@ class Talk:
             self.answer([self.say(CLIENT, self.header(-11))])
 
     def connect(self, count, depth):
-        """The connect messages; some clients send requests at once, behind their connect request."""
+        """The connect messages; some clients send requests at once, after their connect request."""
         begun = self.say(CLIENT, struct.pack(">iqiqi", 0, 0, 30_000, 0, 16) + bytes(16 + self.chance.choice([0, 1])))
         for _ in range(self.chance.choice([0, 0, 1, 2, 5]) if depth > 1 else 0):
             self.request()
@@ -297,14 +297,14 @@ class Check:
                     self.answered.add(0)
                     connect = None
             elif not made_up and said[side] == 1:
-                self.fault("message", message.number, "stands for a connect message")
+                self.fault("message", message.number, "is in the place of a connect message")
             elif side == CLIENT:
                 lanes[message.lane()].append(message)
             elif message.of:
                 lane = lanes[message.of.lane()]
                 asked = lane.popleft() if lane else None
                 if asked is not message.of and not (asked and message.of.lane() and self.are_alike(asked, message.of)):
-                    self.fault("reply", message.number, "to", message.of.number, "stands beside",
+                    self.fault("reply", message.number, "to", message.of.number, "is paired with",
                                asked and asked.number, "in part", known.part)
                 elif asked:
                     self.answered.add(message.of.number)
