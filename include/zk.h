@@ -365,8 +365,9 @@ uint32_t zk_talk_join(struct zk_through *through, uint32_t client, uint32_t serv
 uint32_t zk_through_renew(struct zk_through *through);
 
 /* Takes a piece as zk_talk_step does. A fault's frame and offset are the side's own, those left out counted. After ZK_FULL
- * the server's bytes come first: give the client's piece again when a request has its reply. So no frame is refused with
- * ZK_QUEUE_FULL. Where all requests have their replies, the frame alone weighs more than may wait. */
+ * the server's bytes come first, up to the end of its next reply: then give the client's piece again, before the server's
+ * next bytes, which may answer it. So no frame is refused with ZK_QUEUE_FULL. Where all requests have their replies, the
+ * frame alone weighs more than may wait. */
 struct zk_passed zk_through_step(struct zk_through *through, uint32_t side, const uint8_t *piece, size_t length);
 
 /* The message of the side's newest whole frame, also while bytes of the next one come; ZK_NO_MESSAGE if that was left

@@ -127,6 +127,15 @@ def try_addresses(folder, archive, cc):
     yield "proxy, addresses", (got, status) == (41, (0, "")), f"proxy, addresses: {got} bytes, {status}"
 
 
+def wait_for_replies(folder, archive, cc):
+    """Whether the proxy, made for one request that may wait, passes on each in its turn."""
+    source, program = pathlib.Path(folder, "waits.c"), os.path.join(folder, "proxy_waits")
+    text = (EXAMPLES / "proxy.c").read_text()
+    source.write_text(text.replace(f"WAITING = {passing.WAITING}", "WAITING = 1"))
+    subprocess.run([cc, *STRICT, f"-I{TOP / 'include'}", "-o", program, source, archive], check=True)
+    yield from passing.one_waits(program)
+
+
 # ---- Listings and fields
 
 
@@ -370,6 +379,7 @@ def check(folder, archive, shared, cc):
     yield from passing.check(programs["proxy"])
     yield from run_client(programs["client"])
     yield from try_addresses(folder, archive, cc)
+    yield from wait_for_replies(folder, archive, cc)
     yield ends_well("client frames", programs["client_frames"])
     yield from served.check(programs["server"], programs["client"])
     yield ends_well("null pointers", programs["nulls"])
