@@ -69,7 +69,7 @@ def header_functions(_):
         of += ": that of its number above, without its beginning" if kind == "status" else ""
         rows = [f'    case {begin + name.upper() if begin else number}: return "{name}";'
                 for number, name in in_order(kind, source.names()[kind])]
-        found += [f"/* Of {of}. */", f"static inline const char *zk_{kind}_name({c_type} number) {{",
+        found += [f"/* Of {of}. */", f"ZK_NAMES const char *zk_{kind}_name({c_type} number) {{",
                   "    switch (number) {", *rows, '    default: return "";', "    }", "}", ""]
     return found[:-1]
 

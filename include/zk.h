@@ -1,5 +1,8 @@
 /* A conversation of ZooKeeper's client protocol, parsed as its bytes arrive, by the proved library libzk.
  *
+ * The library runs on any x86-64; glibc-hwcaps/x86-64-v2/ beside it has a faster one for processors of that level, which
+ * the loader chooses.
+ *
  * docs/LIBRARY.md says how to link a program with it, and what each call promises. tests/library.py checks this header
  * against the library's source (crates/zk_c/src).
  *
@@ -13,7 +16,10 @@
 #ifndef ZK_H
 #define ZK_H
 
-#define ZK_VERSION "0.9.0"
+/* The version of this header, in words and as a number: a million for each major release, a thousand for each minor one.
+ * zk_version() has that of the library, which is never below that of a header by which a program was compiled. */
+#define ZK_VERSION "0.10.0"
+#define ZK_VERSION_NUMBER 10000
 
 #include <stdbool.h>
 #include <stddef.h>
@@ -302,6 +308,9 @@ struct zk_piece {
     size_t length;
 };
 
+/* The version of the library, as ZK_VERSION_NUMBER is that of the header. */
+uint32_t zk_version(void);
+
 /* Makes a talk. client and server are the greatest payloads of the sides (64 to 16777216 bytes), waiting is how many
  * requests and parts may wait (1 to 1048576). Returns ZK_WELL, ZK_IN_USE, ZK_RANGE or ZK_NO_MEMORY. */
 uint32_t zk_talk_new(struct zk_talk *talk, uint32_t client, uint32_t server, uint32_t waiting, uint32_t profile);
@@ -475,11 +484,49 @@ struct zk_written zk_write_connected(const struct zk_field *fields, size_t count
  * needed, and out as it was. It allocates all messages and the text. */
 struct zk_line zk_listing(const struct zk_piece *pieces, size_t count, const uint8_t *bytes, size_t length, uint32_t client, uint32_t server, uint32_t waiting, uint32_t profile, uint8_t *out, size_t room);
 
-/* ---- Names of numbers; "" where a number has none */
+/* ---- Structs that may grow
+ *
+ * A later release under the same name of the shared library may have more at the end of struct zk_message, struct
+ * zk_passed and struct zk_ending. So it has no calls that return these: it has those below, which fill the first `size`
+ * bytes of a struct, with zeros where its own ends before. The functions of this header, which are called by the names
+ * above, give the size that the struct has here. */
+#ifndef ZK_BY_VALUE
+void zk_talk_view_into(struct zk_talk *talk, uint32_t side, struct zk_message *out, size_t size);
+void zk_talk_finish_into(struct zk_talk *talk, struct zk_ending *out, size_t size);
+void zk_through_step_into(struct zk_through *through, uint32_t side, const uint8_t *piece, size_t length, struct zk_passed *out, size_t size);
+void zk_through_view_into(struct zk_through *through, uint32_t side, struct zk_message *out, size_t size);
+void zk_through_finish_into(struct zk_through *through, struct zk_ending *out, size_t size);
+#else /* the proved library alone, which returns them: for measurements */
+static inline void zk_talk_view_into(struct zk_talk *talk, uint32_t side, struct zk_message *out, size_t size) {
+    (void)size;
+    *out = zk_talk_view(talk, side);
+}
+static inline void zk_talk_finish_into(struct zk_talk *talk, struct zk_ending *out, size_t size) {
+    (void)size;
+    *out = zk_talk_finish(talk);
+}
+static inline void zk_through_step_into(struct zk_through *through, uint32_t side, const uint8_t *piece, size_t length, struct zk_passed *out, size_t size) {
+    (void)size;
+    *out = zk_through_step(through, side, piece, length);
+}
+static inline void zk_through_view_into(struct zk_through *through, uint32_t side, struct zk_message *out, size_t size) {
+    (void)size;
+    *out = zk_through_view(through, side);
+}
+static inline void zk_through_finish_into(struct zk_through *through, struct zk_ending *out, size_t size) {
+    (void)size;
+    *out = zk_through_finish(through);
+}
+#endif
+
+/* ---- Names of numbers; "" where a number has none. They are functions of the library, too, for who loads it. */
+#ifndef ZK_NAMES
+#define ZK_NAMES static inline
+#endif
 
 /* The lines from here on are written by docs/names.py. */
 /* Of an operation, or of a part of a multi. */
-static inline const char *zk_operation_name(int32_t number) {
+ZK_NAMES const char *zk_operation_name(int32_t number) {
     switch (number) {
     case -11: return "closeSession";
     case 1: return "create";
@@ -503,7 +550,7 @@ static inline const char *zk_operation_name(int32_t number) {
 }
 
 /* Of a reply's err. */
-static inline const char *zk_error_name(int32_t number) {
+ZK_NAMES const char *zk_error_name(int32_t number) {
     switch (number) {
     case 0: return "OK";
     case -1: return "SYSTEMERROR";
@@ -532,7 +579,7 @@ static inline const char *zk_error_name(int32_t number) {
 }
 
 /* Of an event's type. */
-static inline const char *zk_event_name(int64_t number) {
+ZK_NAMES const char *zk_event_name(int64_t number) {
     switch (number) {
     case -1: return "None";
     case 1: return "NodeCreated";
@@ -544,7 +591,7 @@ static inline const char *zk_event_name(int64_t number) {
 }
 
 /* Of a field's name. */
-static inline const char *zk_field_name(uint16_t number) {
+ZK_NAMES const char *zk_field_name(uint16_t number) {
     switch (number) {
     case ZK_NAME_PATH: return "path";
     case ZK_NAME_DATA: return "data";
@@ -585,7 +632,7 @@ static inline const char *zk_field_name(uint16_t number) {
 }
 
 /* Of a status: that of its number above, without its beginning. */
-static inline const char *zk_status_name(uint32_t number) {
+ZK_NAMES const char *zk_status_name(uint32_t number) {
     switch (number) {
     case ZK_WELL: return "WELL";
     case ZK_SHORT: return "SHORT";
@@ -685,7 +732,10 @@ static inline struct zk_step zk_safe_talk_pass(struct zk_talk *talk, uint32_t si
 static inline struct zk_message zk_safe_talk_view(struct zk_talk *talk, uint32_t side) {
     struct zk_message answer = ZK_ZEROS;
     answer.status = zk_fault_at(talk, 1, sizeof *talk);
-    return answer.status != ZK_WELL ? answer : zk_talk_view(talk, side);
+    if (answer.status == ZK_WELL) {
+        zk_talk_view_into(talk, side, &answer, sizeof answer);
+    }
+    return answer;
 }
 
 static inline struct zk_line zk_safe_talk_line(struct zk_talk *talk, uint32_t side, uint8_t *out, size_t room) {
@@ -721,7 +771,10 @@ static inline struct zk_held zk_safe_talk_held(struct zk_talk *talk, uint32_t si
 static inline struct zk_ending zk_safe_talk_finish(struct zk_talk *talk) {
     struct zk_ending answer = ZK_ZEROS;
     answer.status = zk_fault_at(talk, 1, sizeof *talk);
-    return answer.status != ZK_WELL ? answer : zk_talk_finish(talk);
+    if (answer.status == ZK_WELL) {
+        zk_talk_finish_into(talk, &answer, sizeof answer);
+    }
+    return answer;
 }
 
 static inline struct zk_line zk_safe_talk_ending_line(struct zk_talk *talk, uint8_t *out, size_t room) {
@@ -754,13 +807,19 @@ static inline uint32_t zk_safe_through_renew(struct zk_through *through) {
 static inline struct zk_passed zk_safe_through_step(struct zk_through *through, uint32_t side, const uint8_t *piece, size_t length) {
     struct zk_passed answer = ZK_ZEROS;
     answer.status = zk_first_of(zk_fault_at(through, 1, sizeof *through), zk_fault_of(piece, length, sizeof *piece));
-    return answer.status != ZK_WELL ? answer : zk_through_step(through, side, (const uint8_t *)zk_from(piece), length);
+    if (answer.status == ZK_WELL) {
+        zk_through_step_into(through, side, (const uint8_t *)zk_from(piece), length, &answer, sizeof answer);
+    }
+    return answer;
 }
 
 static inline struct zk_message zk_safe_through_view(struct zk_through *through, uint32_t side) {
     struct zk_message answer = ZK_ZEROS;
     answer.status = zk_fault_at(through, 1, sizeof *through);
-    return answer.status != ZK_WELL ? answer : zk_through_view(through, side);
+    if (answer.status == ZK_WELL) {
+        zk_through_view_into(through, side, &answer, sizeof answer);
+    }
+    return answer;
 }
 
 static inline struct zk_line zk_safe_through_line(struct zk_through *through, uint32_t side, uint8_t *out, size_t room) {
@@ -784,7 +843,10 @@ static inline struct zk_line zk_safe_through_payload(struct zk_through *through,
 static inline struct zk_ending zk_safe_through_finish(struct zk_through *through) {
     struct zk_ending answer = ZK_ZEROS;
     answer.status = zk_fault_at(through, 1, sizeof *through);
-    return answer.status != ZK_WELL ? answer : zk_through_finish(through);
+    if (answer.status == ZK_WELL) {
+        zk_through_finish_into(through, &answer, sizeof answer);
+    }
+    return answer;
 }
 
 static inline void zk_safe_through_free(struct zk_through *through) {

@@ -17,7 +17,7 @@ sys.path += [str(TOP / "packaging"), str(TOP / "tools" / "tests"), str(TOP / "to
 import make_library  # noqa: E402
 import wire  # noqa: E402
 import zkr  # noqa: E402
-from build_library import LIBRARY  # noqa: E402
+from build_library import PLAIN  # noqa: E402
 
 NOBODY = 65534
 PROFILES = dict(re.findall(r'\{"([\d.]+)", "([^"]*)", ZK_PROFILE', (SOURCES / "register.c").read_text()))
@@ -34,8 +34,8 @@ def missing(libzk=None):
     found = [tool for tool in ("tshark", "cc", "pkg-config") if not shutil.which(tool)]
     if not found and subprocess.run(["pkg-config", "--exists", "wireshark"], check=False).returncode != 0:
         found = ["wireshark-dev"]
-    if not (libzk or LIBRARY).exists():
-        found.append(f"the proved library {libzk or LIBRARY.relative_to(TOP)}")
+    if not (libzk or PLAIN).exists():
+        found.append(f"the proved library {libzk or PLAIN.relative_to(TOP)}")
     return found
 
 

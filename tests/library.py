@@ -4,7 +4,7 @@
     library.py [--library PATH] [--calls N] [--seed N]
 
 Each call that crates/zk_c/src exports is in include/zk.h with the same parameters, each struct that C sees with the
-same fields, and each number by the same name. Payloads, lines and conversations are judged as tables say (judged.py).
+same fields, and each number by the same name. What the last release's header had is there still (frozen.c). Payloads, lines and conversations are judged as tables say (judged.py).
 The fields of payloads, and of recordings' messages, are compared with a second reading of docs/FORMATS.md (fields.py,
 messages.py), and those of requests written again (written.py). Handles that are begun anew are compared with new ones
 (renewed.py), and passages with a model of them (passages.py). The examples and the tests in C are compiled and run
@@ -13,8 +13,9 @@ thread to thread, the memory that stays of closed ones, and --calls (1,000,000) 
 from a seed. The packages for Python, Rust and Go are built, and run their own tests (packages.py). What is skipped,
 since a compiler or a module is missing, is reported.
 
-Where no other is named, the library is proved and built here, over the libraries below it that `rt ci` left; where it
-left none, `rt lib` proves these too. It prints what failed and one last line. The status is 0 where nothing did.
+Where no other is named, the library is proved and built here for any x86-64 and for x86-64-v2, over the libraries below
+it that `rt ci` left; where it left none, `rt lib` proves these too. The calls of both are compared with the tables, and
+the rest runs over the one for any x86-64. It prints what failed and one last line. The status is 0 where nothing did.
 """
 
 import argparse
@@ -35,6 +36,7 @@ import written
 
 TOP = pathlib.Path(__file__).resolve().parent.parent
 sys.path += [str(TOP / folder) for folder in ("packaging", "examples", "docs")]
+import freeze  # noqa: E402
 import make_library  # noqa: E402
 import source  # noqa: E402
 from build_library import CRATE, built  # noqa: E402
@@ -109,7 +111,7 @@ def declared():
     text = source.plain(HEADER.read_text())
     calls, structs = {}, {}
     for result, name, words in re.findall(r"^([a-z][\w ]*?[ *])(zk_\w+)\(([^)]*)\);", text, flags=re.M | re.S):
-        given = [re.fullmatch(r"(.*?)(\w+)", word.strip()).groups() for word in words.split(",")]
+        given = [re.fullmatch(r"(.*?)(\w+)", word.strip()).groups() for word in words.split(",") if word != "void"]
         calls[name] = (joined(result), [named(joined(kind), word) for kind, word in given])
     for name, body in re.findall(r"^(struct zk_\w+) \{(.*?)\n\};", text, flags=re.M | re.S):
         fields = re.findall(r"^\s+(.*?)(\w+);", body, flags=re.M)
@@ -131,8 +133,11 @@ def compare_header():
     (calls, structs), (c_calls, c_structs, c_numbers) = exported(), declared()
     for kind, ours, theirs in (("call", calls, c_calls), ("struct", structs, c_structs)):
         for name in sorted({*ours, *theirs}):
-            yield (name, ours.get(name) == theirs.get(name),
-                   f"{kind} {name}: the crate has {ours.get(name)}, the header {theirs.get(name)}")
+            found, wanted = theirs.get(name), ours.get(name)
+            if name.endswith("_into"):  # over the call that returns the struct
+                result, words = ours.get(name[:-5], ("", []))
+                wanted = "void", [*words, f"{result} *", "size_t"]
+            yield name, wanted == found, f"{kind} {name}: the crate has {wanted}, the header {found}"
     ours, theirs = source.names(), header_names(c_numbers)
     for kind in sorted({*ours, *theirs}):
         yield (kind, ours.get(kind) == theirs.get(kind),
@@ -142,6 +147,12 @@ def compare_header():
     for name, number in sorted(numbers.items()):
         yield (name, c_numbers.get(name) == number,
                f"number {name}: the crate has {number}, the header {c_numbers.get(name)}")
+
+
+def frozen():
+    """Whether programs that were compiled with the last release's header go on with this one (packaging/freeze.py)."""
+    found = list(freeze.faults())
+    yield "frozen", not found, "\n".join(found[:5])
 
 
 def compare_calls(shared):
@@ -165,11 +176,14 @@ def check(folder, options):
     if lacking or not cc:
         print(f"skipped: the library is not linked, as {', '.join(lacking) or 'a compiler of C'} is missing")
         return
+    yield from frozen()
     archive, shared = make_library.make(folder, options.library)
-    yield from compare_calls(shared)
+    for each in (shared, *folder.glob(f"{make_library.FAST}/{make_library.SONAME}")):
+        yield from compare_calls(each)
     yield from examples.check(folder, archive, shared, cc)
     yield examples.call_at_random(folder, options.seed, options.calls)
-    yield from packages.check(folder, archive, shared, declared()[0], header_names(declared()[2]))
+    linked = {name: of for name, of in declared()[0].items() if name in make_library.exports()}
+    yield from packages.check(folder, archive, shared, linked, header_names(declared()[2]))
 
 
 def main():
@@ -179,7 +193,7 @@ def main():
     parser.add_argument("--seed", type=int, default=1)
     options = parser.parse_args()
     if options.library is None:
-        options.library = built()
+        built()
     results = list(compare_header())
     with tempfile.TemporaryDirectory() as folder:
         results += check(pathlib.Path(folder), options)

@@ -142,21 +142,26 @@ def compare_calls(calls):
     header's."""
     python = re.findall(r'"(zk_\w+)": \((.*)\),$', (PYTHON / "libzk" / "_calls.py").read_text(), re.M)
     rust = re.findall(r"pub fn (zk_\w+)\((.*?)\)(?: ->|;)", (RUST / "zk-sys" / "src" / "lib.rs").read_text(), re.S)
-    found = [("python", name, words.count(",")) for name, words in python]
+    found = [("python", name, words.rstrip(",").count(",")) for name, words in python]
     found += [("rust", name, words.count(":")) for name, words in rust]
     for package, name, count in found:
         wanted = len(calls[name][1]) if name in calls else None
         yield name, count == wanted, f"examples/{package}: {name} has {count} parameters, and {wanted} in the header"
-    go = re.findall(r"\bC\.(zk)_safe(_\w+)\(", "".join(path.read_text() for path in sorted(GO.glob("*.go"))))
-    for package, declared in (("python", [name for name, _ in python]), ("rust", [name for name, _ in rust]),
-                              ("go", map("".join, go))):
+    go = re.findall(r"\bC\.(zk)(?:_safe)?(_(?!\w+_name)\w+)\(", "".join(path.read_text() for path in sorted(GO.glob("*.go"))))
+    go = [f"{name}_into" if f"{name}_into" in calls else name for name in map("".join, go)]  # by the header's functions
+    for package, declared in (("python", [name for name, _ in python]), ("rust", [name for name, _ in rust]), ("go", go)):
         other = {*declared} ^ {*calls}
         yield package, not other, f"examples/{package} lacks calls of the header, or has others: {sorted(other)}"
 
 
 def compare_versions():
-    """Whether each package has the version of the release."""
+    """Whether each package has the version of the release, and compares its number with that of the library."""
     wanted = (TOP / "VERSION").read_text().strip()
+    number = re.findall(r"^#define ZK_VERSION_NUMBER (\d+)$", HEADER.read_text(), re.M)
+    for path, row in ((PYTHON / "libzk" / "_calls.py", r"^VERSION = (\d+)"),
+                      (RUST / "zk-sys" / "src" / "lib.rs", r"^pub const VERSION: u32 = ([\d_]+);")):
+        found = [digits.replace("_", "") for digits in re.findall(row, path.read_text(), re.M)]
+        yield path.name, found == number, f"{path.relative_to(TOP)}: the number {found}, not {number}"
     for path in (PYTHON / "pyproject.toml", RUST / "zk-sys" / "Cargo.toml", RUST / "zk" / "Cargo.toml"):
         found = re.findall(r'^version = "(.*)"', path.read_text(), re.M)
         yield path.name, found == [wanted], f"{path.relative_to(TOP)}: the version {found}, not {wanted}"

@@ -16,6 +16,16 @@ import (
 	"unsafe"
 )
 
+// The library that is loaded must not be older than the header by which this package was compiled.
+func init() {
+	if found := Version(); found < C.ZK_VERSION_NUMBER {
+		panic(fmt.Sprintf("libzk is %d, and this package needs %d or later", found, uint32(C.ZK_VERSION_NUMBER)))
+	}
+}
+
+// Version returns that of the library: a million for each major number, a thousand for each minor one.
+func Version() uint32 { return uint32(C.zk_version()) }
+
 // Side is who speaks.
 type Side uint32
 

@@ -72,8 +72,8 @@ class Whole(ToolCase):
         for name in re.findall(r"^    step python3 (\S+)", (TOP / "test").read_text(), re.M):
             (self.folder / name).parent.mkdir(parents=True, exist_ok=True)
             (self.folder / name).write_text(f"print('{PASSED}')\n")
-        for name in ("crates/zkdump/out/zkdump", "crates/zk_c/out/libzk_c.a", "bin/rt"):
-            (self.folder / name).parent.mkdir(parents=True)
+        for name in ("crates/zkdump/out/zkdump", "crates/zk_c/out/libzk_c.a", "crates/zk_c/out/plain/libzk_c.a", "bin/rt"):
+            (self.folder / name).parent.mkdir(parents=True, exist_ok=True)
             (self.folder / name).write_text("#!/bin/sh\n")
             (self.folder / name).chmod(0o700)
         self.git("init", "--quiet")

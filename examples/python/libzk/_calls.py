@@ -1,4 +1,4 @@
-"""The calls of libzk.so.1, as include/zk.h declares them.
+"""The calls of libzk.so.2, as include/zk.h declares them.
 
 The library is the one that the variable LIBZK names, or the installed one. No call lets another thread of Python run,
 so a handle is never used twice at once. BYTES takes bytes, an array of ctypes, or an address.
@@ -6,6 +6,7 @@ so a handle is never used twice at once. BYTES takes bytes, an array of ctypes, 
 
 import ctypes
 import os
+from typing import Callable, Type
 
 U8, U16, U32, U64 = ctypes.c_uint8, ctypes.c_uint16, ctypes.c_uint32, ctypes.c_uint64
 I32, I64, SIZE, BYTES = ctypes.c_int32, ctypes.c_int64, ctypes.c_size_t, ctypes.c_void_p
@@ -79,29 +80,31 @@ class Piece(ctypes.Structure):
 
 HANDLE, FIELDS = ctypes.POINTER(Handle), ctypes.POINTER(Field)
 PARTS, PIECES = ctypes.POINTER(I32), ctypes.POINTER(Piece)
+VERSION = 10000  # of these calls, as ZK_VERSION_NUMBER of include/zk.h
 CALLS = {
+    "zk_version": (U32,),
     "zk_talk_new": (U32, HANDLE, U32, U32, U32, U32),
     "zk_talk_renew": (U32, HANDLE),
     "zk_talk_step": (Step, HANDLE, U32, BYTES, SIZE),
     "zk_talk_pass": (Step, HANDLE, U32, BYTES, SIZE),
-    "zk_talk_view": (Message, HANDLE, U32),
+    "zk_talk_view_into": (None, HANDLE, U32, ctypes.POINTER(Message), SIZE),
     "zk_talk_line": (Line, HANDLE, U32, BYTES, SIZE),
     "zk_talk_payload": (Line, HANDLE, U32, BYTES, SIZE),
     "zk_talk_fields": (Read, HANDLE, U32, FIELDS, SIZE),
     "zk_talk_waiting": (Waiting, HANDLE),
     "zk_talk_held": (Held, HANDLE, U32),
-    "zk_talk_finish": (Ending, HANDLE),
+    "zk_talk_finish_into": (None, HANDLE, ctypes.POINTER(Ending), SIZE),
     "zk_talk_ending_line": (Line, HANDLE, BYTES, SIZE),
     "zk_talk_free": (None, HANDLE),
     "zk_through_new": (U32, HANDLE, U32, U32, U32, U32),
     "zk_talk_join": (U32, HANDLE, U32, U32, U32, U32),
     "zk_through_renew": (U32, HANDLE),
-    "zk_through_step": (Passed, HANDLE, U32, BYTES, SIZE),
-    "zk_through_view": (Message, HANDLE, U32),
+    "zk_through_step_into": (None, HANDLE, U32, BYTES, SIZE, ctypes.POINTER(Passed), SIZE),
+    "zk_through_view_into": (None, HANDLE, U32, ctypes.POINTER(Message), SIZE),
     "zk_through_line": (Line, HANDLE, U32, BYTES, SIZE),
     "zk_through_fields": (Read, HANDLE, U32, FIELDS, SIZE),
     "zk_through_payload": (Line, HANDLE, U32, BYTES, SIZE),
-    "zk_through_finish": (Ending, HANDLE),
+    "zk_through_finish_into": (None, HANDLE, ctypes.POINTER(Ending), SIZE),
     "zk_through_free": (None, HANDLE),
     "zk_speaker_new": (U32, HANDLE, U32, U32, U32, U32),
     "zk_speaker_renew": (U32, HANDLE),
@@ -128,12 +131,30 @@ CALLS = {
 }
 
 
+def _filled(call: Callable[..., None], kind: Type[ctypes.Structure]) -> Callable[..., ctypes.Structure]:
+    """A call that returns the struct which this one fills; a newer library may have more of it."""
+    size = ctypes.sizeof(kind)
+
+    def filled(*words: object) -> ctypes.Structure:
+        answer = kind()
+        call(*words, answer, size)
+        return answer
+    return filled
+
+
 def _typed(calls: ctypes.PyDLL) -> ctypes.PyDLL:
+    """The library, if it isn't older than this package."""
+    version = calls.zk_version() if hasattr(calls, "zk_version") else 9000
+    if version < VERSION:
+        numbers = [".".join(map(str, (n // 1000000, n // 1000 % 1000, n % 1000))) for n in (version, VERSION)]
+        raise ImportError("libzk is {}, and this package needs {} or later".format(*numbers), name="libzk")
     for name, (result, *words) in CALLS.items():
         call = getattr(calls, name)
         call.restype, call.argtypes = result, words
+        if name.endswith("_into"):
+            setattr(calls, name[:-5], _filled(call, words[-2]._type_))
     return calls
 
 
 # A PyDLL keeps Python's lock while it calls.
-library = _typed(ctypes.PyDLL(os.environ.get("LIBZK") or "libzk.so.1"))
+library = _typed(ctypes.PyDLL(os.environ.get("LIBZK") or "libzk.so.2"))

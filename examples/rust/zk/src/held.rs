@@ -2,9 +2,10 @@
 
 use crate::ending::refusal;
 use crate::message::{Message, Reader};
-use crate::{well, Ending, Fault, Profile, Side, Waiting, ROOM};
+use crate::{loaded, well, Ending, Fault, Profile, Side, Waiting, ROOM};
+use std::mem::{size_of, MaybeUninit};
 use std::ptr::null_mut;
-use zk_sys::{zk_fault, zk_line, zk_piece, zk_speaker, zk_talk};
+use zk_sys::{zk_fault, zk_line, zk_message, zk_piece, zk_speaker, zk_talk};
 
 /// The greatest payloads of the sides in bytes, how many requests may wait, and the operations.
 #[derive(Clone, Copy, Debug)]
@@ -38,6 +39,7 @@ impl Limits {
             waiting,
             profile,
         } = self;
+        loaded();
         let status = unsafe { make(handle, client, server, waiting, profile as u32) };
         well(status, 0)
     }
@@ -92,7 +94,9 @@ impl Talk {
         if !step.whole {
             return Ok(None);
         }
-        let view = unsafe { zk_sys::zk_talk_view(handle, side) };
+        let view: zk_message = filled(|out, size| unsafe {
+            zk_sys::zk_talk_view_into(handle, side, out, size);
+        });
         written(payload, |out, room| unsafe {
             zk_sys::zk_talk_payload(handle, side, out, room)
         })?;
@@ -128,7 +132,9 @@ impl Talk {
 
     /// How the conversation ends if nothing more comes.
     pub fn ending(&mut self) -> Ending {
-        Ending::of(&unsafe { zk_sys::zk_talk_finish(&mut self.handle) })
+        Ending::of(&filled(|out, size| unsafe {
+            zk_sys::zk_talk_finish_into(&mut self.handle, out, size);
+        }))
     }
 
     /// Writes the line of the side's newest message into `text`, in place of what is there.
@@ -213,6 +219,14 @@ impl Drop for Speaker {
     }
 }
 
+/// What a call writes into a struct, of the size that it has here: a newer library may have more of it.
+pub(crate) fn filled<T>(call: impl FnOnce(*mut T, usize)) -> T {
+    let mut answer = MaybeUninit::uninit();
+    call(answer.as_mut_ptr(), size_of::<T>());
+    // The call has written all of it.
+    unsafe { answer.assume_init() }
+}
+
 /// Takes away what a step used, and returns it; or why the step was refused.
 pub(crate) fn take<'p>(
     piece: &mut &'p [u8],
@@ -232,6 +246,7 @@ pub(crate) fn take<'p>(
 /// Writes the listing of a whole conversation into `text`, in place of what is there: the line of each message and of the
 /// ending, each with a line feed. The pieces are in the order in which they came.
 pub fn listing(limits: Limits, pieces: &[(Side, &[u8])], text: &mut Vec<u8>) -> Result<(), Fault> {
+    loaded();
     let cut: Vec<zk_piece> = pieces
         .iter()
         .map(|(side, piece)| zk_piece {

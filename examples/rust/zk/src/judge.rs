@@ -1,9 +1,10 @@
 //! Payloads by themselves, judged without their fields.
 
-use crate::{well, Fault, Profile};
+use crate::{loaded, well, Fault, Profile};
 use zk_sys::zk_payload;
 
 fn judged(answer: zk_payload) -> Result<(), Fault> {
+    loaded();
     well(answer.status, answer.place)
 }
 

@@ -35,9 +35,10 @@
 //! ```
 //!
 //! Talks, passages and speakers are freed when they are dropped. They may go to another thread, but can't be shared or
-//! copied.
+//! copied. The first call of a program whose library is older than this crate panics.
 
 use std::fmt;
+use std::sync::Once;
 
 mod ending;
 mod held;
@@ -102,6 +103,24 @@ impl fmt::Display for Fault {
 impl std::error::Error for Fault {}
 
 pub(crate) const ROOM: u32 = 68;
+
+/// The version of the library: a million for each major number, a thousand for each minor one.
+pub fn version() -> u32 {
+    // It takes nothing.
+    unsafe { zk_sys::zk_version() }
+}
+
+/// Stops a program whose library is older than this crate.
+pub(crate) fn loaded() {
+    static ONCE: Once = Once::new();
+    ONCE.call_once(|| {
+        let (found, wanted) = (version(), zk_sys::VERSION);
+        assert!(
+            found >= wanted,
+            "libzk is {found}, and this crate needs {wanted} or later"
+        );
+    });
+}
 
 /// Nothing, or why the call did nothing.
 pub(crate) fn well(status: u32, place: u32) -> Result<(), Fault> {

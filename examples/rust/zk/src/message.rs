@@ -1,6 +1,6 @@
 //! Messages and their fields, borrowed from a payload.
 
-use crate::{field_name, well, Fault, Profile, ROOM};
+use crate::{field_name, loaded, well, Fault, Profile, ROOM};
 use zk_sys::{zk_field, zk_read};
 
 /// Kinds of messages.
@@ -191,6 +191,7 @@ impl Reader {
         payload: &'a [u8],
         mut call: impl FnMut(*mut zk_field, usize) -> zk_read,
     ) -> Result<Message<'a>, Fault> {
+        loaded();
         if self.room.is_empty() {
             self.room.resize(32, zk_field::default());
         }

@@ -1,11 +1,11 @@
 //! Passages: conversations that go on where their profile ends.
 
-use crate::held::{take, written, Limits, Make};
+use crate::held::{filled, take, written, Limits, Make};
 use crate::message::{Message, Reader};
 use crate::{Ending, Fault, Side};
 use std::mem::swap;
 use std::ptr::null_mut;
-use zk_sys::{zk_passed, zk_through};
+use zk_sys::{zk_message, zk_passed, zk_through};
 
 const MESSAGE: u32 = 1;
 const ASKED: u32 = 2;
@@ -140,13 +140,18 @@ impl Through {
             Side::Server => server,
         };
         let side = side as u32;
-        let step = unsafe { zk_sys::zk_through_step(handle, side, piece.as_ptr(), piece.len()) };
+        let (bytes, length) = (piece.as_ptr(), piece.len());
+        let step: zk_passed = filled(|out, size| unsafe {
+            zk_sys::zk_through_step_into(handle, side, bytes, length, out, size);
+        });
         came.extend_from_slice(take(piece, step.used, step.status, &step.fault)?);
         match step.went {
             MESSAGE => {
                 swap(came, newest);
                 came.clear();
-                let view = unsafe { zk_sys::zk_through_view(handle, side) };
+                let view: zk_message = filled(|out, size| unsafe {
+                    zk_sys::zk_through_view_into(handle, side, out, size);
+                });
                 let payload = newest.get(4..).unwrap_or_default();
                 let mut message = reader.read(payload, |out, room| unsafe {
                     zk_sys::zk_through_fields(handle, side, out, room)
@@ -169,7 +174,9 @@ impl Through {
 
     /// How the conversation ends if nothing more comes, with all frames that came.
     pub fn ending(&mut self) -> Ending {
-        Ending::of(&unsafe { zk_sys::zk_through_finish(&mut self.handle) })
+        Ending::of(&filled(|out, size| unsafe {
+            zk_sys::zk_through_finish_into(&mut self.handle, out, size);
+        }))
     }
 }
 

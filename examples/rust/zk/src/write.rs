@@ -1,6 +1,6 @@
 //! Frames, written from values.
 
-use crate::{well, Fault, Value, ROOM};
+use crate::{loaded, well, Fault, Value, ROOM};
 use zk_sys::{zk_field, zk_written};
 
 const TOO_LONG: u32 = 83;
@@ -177,6 +177,7 @@ impl Writer {
         &mut self,
         call: impl Fn(&[zk_field], &[u8], &mut [u8]) -> zk_written,
     ) -> Result<&[u8], Fault> {
+        loaded();
         let room = self.content.len() + 16 * self.fields.len() + 64;
         self.frame.resize(room, 0);
         let mut written = call(&self.fields, &self.content, &mut self.frame);
