@@ -24,6 +24,7 @@
 #include <stdbool.h>
 #include <stddef.h>
 #include <stdint.h>
+#include <string.h>
 
 /* The initializer of an empty handle, in C and in C++. */
 #ifdef __cplusplus
@@ -259,6 +260,61 @@ enum {
     ZK_NAME_PASSWD = 32,
     ZK_NAME_READ_ONLY = 33,
     ZK_NAME_ERR = 34
+};
+/* Up to here. */
+
+/* Numbers that messages have, also of releases that no profile has.
+ * The lines from here on are written by docs/names.py. */
+/* An operation, or of a part of a multi. */
+enum {
+    ZK_OP_CLOSE_SESSION = -11, ZK_OP_CREATE = 1, ZK_OP_DELETE = 2, ZK_OP_EXISTS = 3, ZK_OP_GET_DATA = 4,
+    ZK_OP_SET_DATA = 5, ZK_OP_GET_ACL = 6, ZK_OP_SET_ACL = 7, ZK_OP_GET_CHILDREN = 8, ZK_OP_SYNC = 9, ZK_OP_PING = 11,
+    ZK_OP_GET_CHILDREN2 = 12, ZK_OP_CHECK = 13, ZK_OP_MULTI = 14, ZK_OP_CREATE2 = 15, ZK_OP_RECONFIG = 16,
+    ZK_OP_CHECK_WATCHES = 17, ZK_OP_REMOVE_WATCHES = 18, ZK_OP_CREATE_CONTAINER = 19, ZK_OP_DELETE_CONTAINER = 20,
+    ZK_OP_CREATE_TTL = 21, ZK_OP_MULTI_READ = 22, ZK_OP_AUTH = 100, ZK_OP_SET_WATCHES = 101, ZK_OP_SASL = 102,
+    ZK_OP_GET_EPHEMERALS = 103, ZK_OP_GET_ALL_CHILDREN_NUMBER = 104, ZK_OP_SET_WATCHES2 = 105, ZK_OP_ADD_WATCH = 106,
+    ZK_OP_WHO_AM_I = 107
+};
+
+/* A reply's err. */
+enum {
+    ZK_ERR_OK = 0, ZK_ERR_SYSTEM_ERROR = -1, ZK_ERR_RUNTIME_INCONSISTENCY = -2, ZK_ERR_DATA_INCONSISTENCY = -3,
+    ZK_ERR_CONNECTION_LOSS = -4, ZK_ERR_MARSHALLING_ERROR = -5, ZK_ERR_UNIMPLEMENTED = -6,
+    ZK_ERR_OPERATION_TIMEOUT = -7, ZK_ERR_BAD_ARGUMENTS = -8, ZK_ERR_UNKNOWN_SESSION = -12,
+    ZK_ERR_NEW_CONFIG_NO_QUORUM = -13, ZK_ERR_RECONFIG_IN_PROGRESS = -14, ZK_ERR_API_ERROR = -100,
+    ZK_ERR_NO_NODE = -101, ZK_ERR_NO_AUTH = -102, ZK_ERR_BAD_VERSION = -103, ZK_ERR_NO_CHILDREN_FOR_EPHEMERALS = -108,
+    ZK_ERR_NODE_EXISTS = -110, ZK_ERR_NOT_EMPTY = -111, ZK_ERR_SESSION_EXPIRED = -112, ZK_ERR_INVALID_CALLBACK = -113,
+    ZK_ERR_INVALID_ACL = -114, ZK_ERR_AUTH_FAILED = -115, ZK_ERR_SESSION_MOVED = -118, ZK_ERR_NOT_READ_ONLY = -119,
+    ZK_ERR_EPHEMERAL_ON_LOCAL_SESSION = -120, ZK_ERR_NO_WATCHER = -121, ZK_ERR_REQUEST_TIMEOUT = -122,
+    ZK_ERR_RECONFIG_DISABLED = -123, ZK_ERR_SESSION_CLOSED_REQUIRE_SASL_AUTH = -124, ZK_ERR_QUOTA_EXCEEDED = -125,
+    ZK_ERR_THROTTLED_OP = -127
+};
+
+/* An event's type. */
+enum {
+    ZK_EVENT_NONE = -1, ZK_EVENT_NODE_CREATED = 1, ZK_EVENT_NODE_DELETED = 2, ZK_EVENT_NODE_DATA_CHANGED = 3,
+    ZK_EVENT_NODE_CHILDREN_CHANGED = 4, ZK_EVENT_DATA_WATCH_REMOVED = 5, ZK_EVENT_CHILD_WATCH_REMOVED = 6,
+    ZK_EVENT_PERSISTENT_WATCH_REMOVED = 7
+};
+
+/* An event's state. */
+enum {
+    ZK_STATE_EXPIRED = -112, ZK_STATE_UNKNOWN = -1, ZK_STATE_DISCONNECTED = 0, ZK_STATE_NO_SYNC_CONNECTED = 1,
+    ZK_STATE_SYNC_CONNECTED = 3, ZK_STATE_AUTH_FAILED = 4, ZK_STATE_CONNECTED_READ_ONLY = 5,
+    ZK_STATE_SASL_AUTHENTICATED = 6, ZK_STATE_CLOSED = 7
+};
+
+/* The flags of a create request. */
+enum {
+    ZK_CREATE_PERSISTENT = 0, ZK_CREATE_EPHEMERAL = 1, ZK_CREATE_PERSISTENT_SEQUENTIAL = 2,
+    ZK_CREATE_EPHEMERAL_SEQUENTIAL = 3, ZK_CREATE_CONTAINER = 4, ZK_CREATE_PERSISTENT_WITH_TTL = 5,
+    ZK_CREATE_PERSISTENT_SEQUENTIAL_WITH_TTL = 6
+};
+
+/* What an access right permits. */
+enum {
+    ZK_PERMISSION_READ = 1, ZK_PERMISSION_WRITE = 2, ZK_PERMISSION_CREATE = 4, ZK_PERMISSION_DELETE = 8,
+    ZK_PERMISSION_ADMIN = 16, ZK_PERMISSION_ALL = 31
 };
 /* Up to here. */
 
@@ -519,14 +575,108 @@ static inline void zk_through_finish_into(struct zk_through *through, struct zk_
 }
 #endif
 
-/* ---- Names of numbers; "" where a number has none. They are functions of the library, too, for who loads it. */
-#ifndef ZK_NAMES
-#define ZK_NAMES static inline
+/* The functions that this marks are the library's, too, for who loads it. */
+#ifndef ZK_ALSO
+#define ZK_ALSO static inline
 #endif
+
+/* ---- Fields to write, for zk_write_request and its like
+ *
+ *     struct zk_builder a = zk_build(fields, 64, content, sizeof content);
+ *     zk_add_text(&a, "/a");
+ *     zk_add_number(&a, ZK_KIND_BOOL, 1);
+ *     if (a.status == ZK_WELL)
+ *         zk_write_request(1, ZK_OP_EXISTS, a.fields, a.count, a.content, a.length, frame, sizeof frame);
+ *
+ * A builder has room for fields, and for the bytes of texts and blobs. Where one has no more, or would be longer than a
+ * payload may be, the status is ZK_ROOM or ZK_TOO_LONG, and nothing is added from then on. */
+struct zk_builder {
+    struct zk_field *fields;
+    size_t room;
+    size_t count;
+    uint8_t *content;
+    size_t size;
+    size_t length;
+    uint32_t status;
+};
+
+/* Begins with no fields, for `room` fields and `size` bytes. */
+ZK_ALSO struct zk_builder zk_build(struct zk_field *fields, size_t room, uint8_t *content, size_t size) {
+    struct zk_builder to = ZK_ZEROS;
+    to.fields = fields;
+    to.room = room;
+    to.content = content;
+    to.size = size;
+    return to;
+}
+
+/* The next field, of this kind; null if there is no room. */
+static inline struct zk_field *zk_added(struct zk_builder *to, uint8_t kind) {
+    static const struct zk_field empty = ZK_ZEROS;
+    if (to->status == ZK_WELL && to->count == to->room) {
+        to->status = ZK_ROOM;
+    }
+    if (to->status != ZK_WELL) {
+        return NULL;
+    }
+    struct zk_field *field = &to->fields[to->count++];
+    *field = empty;
+    field->kind = kind;
+    return field;
+}
+
+/* Adds an int, a long, a boolean, a list's count, or the operation of a part of a multi. */
+ZK_ALSO void zk_add_number(struct zk_builder *to, uint8_t kind, int64_t number) {
+    struct zk_field *field = zk_added(to, kind);
+    if (field != NULL) {
+        field->number = number;
+    }
+}
+
+/* Adds a text, a blob or a list that is null. */
+ZK_ALSO void zk_add_null(struct zk_builder *to, uint8_t kind) {
+    struct zk_field *field = zk_added(to, kind);
+    if (field != NULL) {
+        field->null = 1;
+    }
+}
+
+/* Adds a text or a blob of these bytes. */
+ZK_ALSO void zk_add_bytes(struct zk_builder *to, uint8_t kind, const void *bytes, size_t length) {
+    struct zk_field *field = zk_added(to, kind);
+    if (field == NULL) {
+        return;
+    }
+    if (length > INT32_MAX || to->length > INT32_MAX - length || length > to->size - to->length) {
+        to->status = length > to->size - to->length ? (uint32_t)ZK_ROOM : (uint32_t)ZK_TOO_LONG;
+        to->count--;
+        return;
+    }
+    field->place = (uint32_t)to->length;
+    field->length = (uint32_t)length;
+    if (length > 0) {
+        memcpy(to->content + to->length, bytes, length);
+    }
+    to->length += length;
+}
+
+/* Adds a text that ends with a zero byte. */
+static inline void zk_add_text(struct zk_builder *to, const char *text) {
+    zk_add_bytes(to, ZK_KIND_TEXT, text, strlen(text));
+}
+
+/* Adds the fields of an access right; before those of all rights their list's count is added. */
+static inline void zk_add_right(struct zk_builder *to, int32_t permissions, const char *scheme, const char *id) {
+    zk_add_number(to, ZK_KIND_INT, permissions);
+    zk_add_text(to, scheme);
+    zk_add_text(to, id);
+}
+
+/* ---- Names of numbers; "" where a number has none */
 
 /* The lines from here on are written by docs/names.py. */
 /* Of an operation, or of a part of a multi. */
-ZK_NAMES const char *zk_operation_name(int32_t number) {
+ZK_ALSO const char *zk_operation_name(int32_t number) {
     switch (number) {
     case -11: return "closeSession";
     case 1: return "create";
@@ -543,14 +693,27 @@ ZK_NAMES const char *zk_operation_name(int32_t number) {
     case 13: return "check";
     case 14: return "multi";
     case 15: return "create2";
+    case 16: return "reconfig";
+    case 17: return "checkWatches";
+    case 18: return "removeWatches";
+    case 19: return "createContainer";
+    case 20: return "deleteContainer";
+    case 21: return "createTTL";
+    case 22: return "multiRead";
     case 100: return "auth";
     case 101: return "setWatches";
+    case 102: return "sasl";
+    case 103: return "getEphemerals";
+    case 104: return "getAllChildrenNumber";
+    case 105: return "setWatches2";
+    case 106: return "addWatch";
+    case 107: return "whoAmI";
     default: return "";
     }
 }
 
 /* Of a reply's err. */
-ZK_NAMES const char *zk_error_name(int32_t number) {
+ZK_ALSO const char *zk_error_name(int32_t number) {
     switch (number) {
     case 0: return "OK";
     case -1: return "SYSTEMERROR";
@@ -561,6 +724,9 @@ ZK_NAMES const char *zk_error_name(int32_t number) {
     case -6: return "UNIMPLEMENTED";
     case -7: return "OPERATIONTIMEOUT";
     case -8: return "BADARGUMENTS";
+    case -12: return "UNKNOWNSESSION";
+    case -13: return "NEWCONFIGNOQUORUM";
+    case -14: return "RECONFIGINPROGRESS";
     case -100: return "APIERROR";
     case -101: return "NONODE";
     case -102: return "NOAUTH";
@@ -574,24 +740,64 @@ ZK_NAMES const char *zk_error_name(int32_t number) {
     case -115: return "AUTHFAILED";
     case -118: return "SESSIONMOVED";
     case -119: return "NOTREADONLY";
+    case -120: return "EPHEMERALONLOCALSESSION";
+    case -121: return "NOWATCHER";
+    case -122: return "REQUESTTIMEOUT";
+    case -123: return "RECONFIGDISABLED";
+    case -124: return "SESSIONCLOSEDREQUIRESASLAUTH";
+    case -125: return "QUOTAEXCEEDED";
+    case -127: return "THROTTLEDOP";
     default: return "";
     }
 }
 
 /* Of an event's type. */
-ZK_NAMES const char *zk_event_name(int64_t number) {
+ZK_ALSO const char *zk_event_name(int64_t number) {
     switch (number) {
     case -1: return "None";
     case 1: return "NodeCreated";
     case 2: return "NodeDeleted";
     case 3: return "NodeDataChanged";
     case 4: return "NodeChildrenChanged";
+    case 5: return "DataWatchRemoved";
+    case 6: return "ChildWatchRemoved";
+    case 7: return "PersistentWatchRemoved";
+    default: return "";
+    }
+}
+
+/* Of an event's state. */
+ZK_ALSO const char *zk_state_name(int64_t number) {
+    switch (number) {
+    case -112: return "Expired";
+    case -1: return "Unknown";
+    case 0: return "Disconnected";
+    case 1: return "NoSyncConnected";
+    case 3: return "SyncConnected";
+    case 4: return "AuthFailed";
+    case 5: return "ConnectedReadOnly";
+    case 6: return "SaslAuthenticated";
+    case 7: return "Closed";
+    default: return "";
+    }
+}
+
+/* Of the flags of a create request. */
+ZK_ALSO const char *zk_flags_name(int64_t number) {
+    switch (number) {
+    case 0: return "persistent";
+    case 1: return "ephemeral";
+    case 2: return "persistentSequential";
+    case 3: return "ephemeralSequential";
+    case 4: return "container";
+    case 5: return "persistentWithTTL";
+    case 6: return "persistentSequentialWithTTL";
     default: return "";
     }
 }
 
 /* Of a field's name. */
-ZK_NAMES const char *zk_field_name(uint16_t number) {
+ZK_ALSO const char *zk_field_name(uint16_t number) {
     switch (number) {
     case ZK_NAME_PATH: return "path";
     case ZK_NAME_DATA: return "data";
@@ -632,7 +838,7 @@ ZK_NAMES const char *zk_field_name(uint16_t number) {
 }
 
 /* Of a status: that of its number above, without its beginning. */
-ZK_NAMES const char *zk_status_name(uint32_t number) {
+ZK_ALSO const char *zk_status_name(uint32_t number) {
     switch (number) {
     case ZK_WELL: return "WELL";
     case ZK_SHORT: return "SHORT";

@@ -52,18 +52,18 @@ def calls():
 
 def exports():
     """The functions that the libraries have: where a call fills a struct that may grow, the one that returns it isn't
-    among them; the names of numbers are."""
+    among them; the header's functions that are marked as ZK_ALSO are."""
     declared = calls()
-    names = re.findall(r"^ZK_NAMES const char \*(zk_\w+)\(", HEADER.read_text(), flags=re.M)
-    return {*declared, *names} - {name.replace("_into", "") for name in declared if name.endswith("_into")}
+    also = re.findall(r"^ZK_ALSO [\w ]+[ *](zk_\w+)\(", HEADER.read_text(), flags=re.M)
+    return {*declared, *also} - {name.replace("_into", "") for name in declared if name.endswith("_into")}
 
 
 def beside():
     """The source in C of what the libraries have besides the proved calls: those that fill a struct of the caller's
-    size, each over the one that returns it, and the names of numbers."""
+    size, each over the one that returns it, and the header's functions that are marked so."""
     every = calls()
     filled = {name: every[f"{name}_into"] for name in every if f"{name}_into" in every}
-    yield from ("#define ZK_NAMES", "#include <string.h>", "#include <zk.h>", *(f"#undef {name}" for name in filled))
+    yield from ("#define ZK_ALSO", "#include <string.h>", "#include <zk.h>", *(f"#undef {name}" for name in filled))
     for name, (_, words) in filled.items():
         given = [word.split()[-1].lstrip("*") for word in words.split(", ")[:-2]]
         kind = every[name][0]

@@ -38,6 +38,7 @@ TOP = pathlib.Path(__file__).resolve().parent.parent
 sys.path += [str(TOP / folder) for folder in ("packaging", "examples", "docs")]
 import freeze  # noqa: E402
 import make_library  # noqa: E402
+import newer  # noqa: E402
 import source  # noqa: E402
 from build_library import CRATE, built  # noqa: E402
 
@@ -138,7 +139,7 @@ def compare_header():
                 result, words = ours.get(name[:-5], ("", []))
                 wanted = "void", [*words, f"{result} *", "size_t"]
             yield name, wanted == found, f"{kind} {name}: the crate has {wanted}, the header {found}"
-    ours, theirs = source.names(), header_names(c_numbers)
+    ours, theirs = newer.names(), header_names(c_numbers)
     for kind in sorted({*ours, *theirs}):
         yield (kind, ours.get(kind) == theirs.get(kind),
                f"names of {kind}: {ours.get(kind)}, the header {theirs.get(kind)}")

@@ -130,7 +130,8 @@ def compare_names(names):
     python = (PYTHON / "libzk" / "_names.py").read_text()
     rust = (RUST / "zk" / "src" / "names.rs").read_text()
     tables = dict(re.findall(r"^(\w+): Dict\[int, str\] = \{(.*?)^\}", python, re.M | re.S))
-    words = {"operation": "OPERATIONS", "error": "ERRORS", "event": "EVENTS", "field": "FIELDS", "status": "STATUSES"}
+    words = {"operation": "OPERATIONS", "error": "ERRORS", "event": "EVENTS", "field": "FIELDS", "status": "STATUSES",
+             "state": "STATES", "flags": "FLAGS"}
     functions = dict(re.findall(r"^pub fn (\w+)_name\(.*?\n(.*?)^\}", rust, re.M | re.S))
     for kind, wanted in names.items():
         for package, text in (("python", tables[words[kind]]), ("rust", functions[kind])):

@@ -131,18 +131,6 @@ func (fault Fault) Error() string {
 	return fmt.Sprintf("%s at %d", StatusName(fault.Status), fault.Place)
 }
 
-// StatusName returns a status's name, or "".
-func StatusName(number uint32) string { return C.GoString(C.zk_status_name(C.uint32_t(number))) }
-
-// OperationName returns an operation's name, or "".
-func OperationName(number int32) string { return C.GoString(C.zk_operation_name(C.int32_t(number))) }
-
-// ErrorName returns the name of a reply's err, or "".
-func ErrorName(number int32) string { return C.GoString(C.zk_error_name(C.int32_t(number))) }
-
-// EventName returns the name of an event's type, or "".
-func EventName(number int64) string { return C.GoString(C.zk_event_name(C.int64_t(number))) }
-
 // fault returns nil for a call that did what it is for.
 func fault(status, place C.uint32_t) error {
 	if status == C.ZK_WELL {

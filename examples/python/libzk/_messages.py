@@ -121,8 +121,10 @@ def bytes_of(buffer: bytes) -> bytes:
     return buffer if type(buffer) is bytes else memoryview(buffer).tobytes()
 
 
-def number_of(operation: str) -> int:
-    """The number of an operation or of a part of a multi."""
+def number_of(operation: Union[str, int]) -> int:
+    """The number of an operation or of a part of a multi, which may be said by itself."""
+    if isinstance(operation, int):
+        return operation
     for number, name in OPERATIONS.items():
         if name == operation:
             return number

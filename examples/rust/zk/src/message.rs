@@ -1,6 +1,6 @@
 //! Messages and their fields, borrowed from a payload.
 
-use crate::{field_name, loaded, well, Fault, Profile, ROOM};
+use crate::{field_name, loaded, well, Code, Fault, Operation, Profile, ROOM};
 use zk_sys::{zk_field, zk_read};
 
 /// Kinds of messages.
@@ -61,6 +61,16 @@ impl<'p> Message<'p> {
         self.fields
             .iter()
             .map(move |field| field_of(field, payload))
+    }
+
+    /// The operation, if it is known here.
+    pub fn operation(&self) -> Option<Operation> {
+        Operation::of(self.operation)
+    }
+
+    /// What `err` means, if it is known here.
+    pub fn code(&self) -> Option<Code> {
+        Code::of(self.err)
     }
 
     /// The value of the first field of this name.
@@ -160,10 +170,11 @@ impl Reader {
     /// The reply to a request of this operation, for a multi of these parts.
     pub fn reply<'a>(
         &'a mut self,
-        operation: i32,
+        operation: impl Into<i32>,
         parts: &[i32],
         payload: &'a [u8],
     ) -> Result<Message<'a>, Fault> {
+        let operation = operation.into();
         self.read(payload, |out, room| unsafe {
             let (bytes, length) = (payload.as_ptr(), payload.len());
             zk_sys::zk_read_reply(

@@ -2,7 +2,7 @@
 
 use crate::held::{filled, take, written, Limits, Make};
 use crate::message::{Message, Reader};
-use crate::{Ending, Fault, Side};
+use crate::{Ending, Fault, Operation, Side};
 use std::mem::swap;
 use std::ptr::null_mut;
 use zk_sys::{zk_message, zk_passed, zk_through};
@@ -51,6 +51,11 @@ pub struct Unseen<'t> {
 }
 
 impl<'t> LeftOut<'t> {
+    /// The operation, if it is known here.
+    pub fn operation(&self) -> Option<Operation> {
+        Operation::of(self.operation)
+    }
+
     fn went(step: &zk_passed, payload: &'t [u8]) -> Went<'t> {
         let left = LeftOut {
             xid: step.xid,
