@@ -52,7 +52,7 @@ def wrapped(words, width, begin="    "):
 
 
 def header_constants(_):
-    """The enums of zk.h; statuses, and the names of fields, stand before them."""
+    """The enums of zk.h, but for statuses and the names of fields."""
     found = []
     for kind in NUMBERED:
         if kind.name != "status":

@@ -52,7 +52,7 @@ enum {
     ZK_BAD_BOOL = 2,
     ZK_BAD_LENGTH = 3,
     ZK_BAD_TEXT = 4,
-    ZK_NO_MEMORY = 5,
+    ZK_NO_MEMORY = 5, /* of calls that make a handle, write a line or the listing, or say; of no other */
     ZK_TRAILING = 6,
     ZK_UNKNOWN_OP = 7,
     ZK_XID_OP = 8,
@@ -111,7 +111,8 @@ struct zk_fault {
     int32_t got;
 };
 
-/* What a step returns: the bytes used of the piece, and whether the last of them completed a frame. */
+/* What a step returns: the bytes used of the piece, and whether the last of them completed a frame. Of a step that is
+ * refused, none are used. */
 struct zk_step {
     size_t used;
     uint32_t status;
@@ -129,7 +130,7 @@ enum {
     ZK_UNSEEN = 5    /* a reply to a request that wasn't seen is whole: it is left out (zk_talk_join) */
 };
 
-/* What a passage's step returns: the bytes used of the piece, and what became of them. xid, operation and frame are those
+/* What a passage's step returns: the bytes used of the piece, none of a refused one, and what became of them. xid, operation and frame are those
  * of the request of ZK_ASKED and ZK_ANSWERED: frame is the number of the client's frame, from 0. xid, zxid and err are the
  * header's of ZK_UNSEEN. Else they are 0. */
 struct zk_passed {
@@ -335,7 +336,8 @@ struct zk_field {
  * ZK_WELL, or ZK_ROOM if `count` is more than that. kind is one of ZK_CONNECT to ZK_EVENT; xid, operation (that of a
  * request, or of the request that a reply answers), err and zxid (of a reply or an event) are 0 if the message has none.
  * If the payload is no message's, the status is the reason, `place` the place of the fault, and kind 0; the fields are
- * those of the items that end before it; xid, operation, err and zxid are those of the header, as far as it is there. */
+ * those of the items that end before it; xid, operation, err and zxid are those of the header, as far as it is there. A
+ * reply's header has no operation, so a faulty reply has 0 there, and the caller knows which it asked about. */
 struct zk_read {
     uint32_t status;
     uint32_t place;
@@ -406,13 +408,14 @@ struct zk_ending zk_talk_finish(struct zk_talk *talk);
 /* Writes the line of the ending (section 11), without line feed. */
 struct zk_line zk_talk_ending_line(struct zk_talk *talk, uint8_t *out, size_t room);
 
-/* Frees the talk; the handle is then empty. */
+/* Frees the talk; the handle is then empty. An empty handle is freed by doing nothing, so freeing twice is harmless. */
 void zk_talk_free(struct zk_talk *talk);
 
 /* Makes a passage: a talk that goes on where the profile ends. The numbers are those of zk_talk_new. What is judged is the
  * conversation without the requests whose operations the profile lacks, and without the replies to them. Requests under
  * the xids of pings, auths and events are never left out. It holds twice the memory of a talk, and the requests that
- * wait. */
+ * wait. All else that a talk refuses is refused by a passage, too: an auth under an ordinary xid, as the client in Go sends
+ * it, a text that isn't UTF-8, and words of four letters, such as `ruok`. */
 uint32_t zk_through_new(struct zk_through *through, uint32_t client, uint32_t server, uint32_t waiting, uint32_t profile);
 
 /* Makes a passage of a connection that is seen late, for who attaches to one in the middle: as zk_through_new, but a connect

@@ -130,8 +130,7 @@ def try_addresses(folder, archive, cc):
 def wait_for_replies(folder, archive, cc):
     """Whether the proxy, made for one request that may wait, passes on each in its turn."""
     source, program = pathlib.Path(folder, "waits.c"), os.path.join(folder, "proxy_waits")
-    text = (EXAMPLES / "proxy.c").read_text()
-    source.write_text(text.replace(f"WAITING = {passing.WAITING}", "WAITING = 1"))
+    source.write_text((EXAMPLES / "proxy.c").read_text().replace(f"WAITING = {passing.WAITING}", "WAITING = 1"))
     subprocess.run([cc, *STRICT, f"-I{TOP / 'include'}", "-o", program, source, archive], check=True)
     yield from passing.one_waits(program)
 

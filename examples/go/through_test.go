@@ -46,13 +46,13 @@ func told(t *testing.T, p Through, side Side, piece []byte) (found []string, use
 		t.Fatal(err)
 	}
 	for _, step := range every {
-		found, used = append(found, tell(step)), append(used, step.Used)
+		found, used = append(found, became(step)), append(used, step.Used)
 	}
 	return
 }
 
-// tell returns what became of a step.
-func tell(step Passed) string {
+// became returns what became of a step.
+func became(step Passed) string {
 	of := fmt.Sprintf("%d %d of frame %d", step.Xid, step.Operation, step.Frame)
 	switch step.Went {
 	case WentWithin:
@@ -155,7 +155,7 @@ func TestFull(t *testing.T) {
 	}
 }
 
-// healthy returns what each side says in a healthy conversation of three requests, and what is told of it.
+// healthy returns what each side says in a healthy conversation of three requests, and what becomes of it.
 func healthy() (pieces [2][]byte, wanted [2][]string) {
 	pieces = [2][]byte{
 		framed(hello, "00000001"+existsTwo[8:], existsTwo, "00000003"+unknown[8:]),
@@ -221,7 +221,7 @@ func TestTake(t *testing.T) {
 				}
 				for _, passed := range every {
 					if passed.Went != WentWithin && passed.Went != WentFull {
-						found[passed.Side] = append(found[passed.Side], tell(passed))
+						found[passed.Side] = append(found[passed.Side], became(passed))
 					}
 				}
 				piece = piece[cut:]
