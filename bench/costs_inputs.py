@@ -14,7 +14,7 @@ import make_recording as making
 from growth import exchange
 
 sys.path.append(str(pathlib.Path(__file__).resolve().parent.parent / "tools"))
-import zkr  # noqa: E402
+from zkdump_tools import zkr
 
 NAMES, REPLIES, SYNCS = 10_000, 2, 1_000
 NULL = struct.pack(">i", -1)

@@ -25,7 +25,7 @@ TOP = pathlib.Path(__file__).resolve().parent.parent
 TOOLS = TOP / "tools"
 sys.path.insert(0, str(TOOLS))
 
-import zkr  # noqa: E402
+from zkdump_tools import zkr
 
 PROGRAM = TOP / "crates" / "zkdump" / "out" / "zkdump"
 RUNS = (("check", None), ("zkstat.py", ("{timed}",)), ("zkstat.py", ("--path", "/", "{timed}")),

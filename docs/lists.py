@@ -11,14 +11,14 @@ from constants import in_order
 from source import TOP
 
 BEGIN, END = "The lines from here on are written by docs/names.py", "Up to here."
-# A kind of field, or an item of a line, in tools/operations.py and tools/forms.py.
+# A kind of field, or an item of a line, in zkdump_tools/operations.py and zkdump_tools/forms.py.
 TOOLS = {"int": "number", "bool": "bit", "blob": "data", "acl": "acls", "ro": "readonly", "kcode": "kind",
          "ecode": "err"}
 # A kind of field in bench/peer/peer.rs.
 RUST = {"int": "i32", "long": "i64", "bool": "bool", "text": "Text<'a>", "blob": "Blob<'a>", "texts": "Names<'a>",
         "acl": "Acl<'a>", "stat": "Stat"}
 ODD_OPERATIONS = ("0", "10", "-1", "INT32_MIN", "INT32_MAX")
-NOT_ALONE = {"NONE", "PERMS", "ID", "ERR"}      # fields that tools/columns/json.c writes elsewhere
+NOT_ALONE = {"NONE", "PERMS", "ID", "ERR"}      # fields that zkdump_tools/zkcolumns/json.c writes elsewhere
 
 
 def by_number(numbers):
@@ -88,8 +88,8 @@ def with_others(names, there):
 
 
 def of_tools():
-    """What tools/operations.py has by name, its operations of later releases too."""
-    return runpy.run_path(str(TOP / "tools" / "operations.py"))
+    """What zkdump_tools/operations.py has by name, its operations of later releases too."""
+    return runpy.run_path(str(TOP / "tools" / "zkdump_tools" / "operations.py"))
 
 
 def plugin_names(lines):
@@ -114,7 +114,7 @@ def is_id(name, kind):
 
 
 def form(fields):
-    """Fields as tools/operations.py and tools/forms.py have them."""
+    """Fields as zkdump_tools/operations.py and zkdump_tools/forms.py have them."""
     words = []
     for name, kind in fields:
         shown = "hexadecimal" if is_id(name, kind) else "secret" if name == "passwd" else TOOLS.get(kind, kind)
@@ -123,7 +123,7 @@ def form(fields):
 
 
 def operation_row(each, constants):
-    """The row of an operation in tools/operations.py, in one line or in two."""
+    """The row of an operation in zkdump_tools/operations.py, in one line or in two."""
     forms = [constants.get(text, f'"{text}"') for text in (form(each.request), form(each.reply))]
     begin = f'    Operation({each.number}, "{each.name}", "{each.release}",'
     more = [*forms, *([] if each.xid is None else [str(each.xid)]), *([] if each.ordinary else ["False"])]
@@ -145,7 +145,7 @@ def operation_rows(lines):
 
 
 def hole_shapes(_):
-    """The sizes of requests, of all operations that tools/operations.py has."""
+    """The sizes of requests, of all operations that zkdump_tools/operations.py has."""
     known, words = of_tools(), []
     for each in known["ALL"]:
         path = each.request.startswith(known["PATH"])
@@ -157,7 +157,7 @@ def hole_shapes(_):
 
 
 def newer_ranges(_):
-    """Of the numbers of all operations that tools/operations.py has, those that are not of 3.4."""
+    """Of the numbers of all operations that zkdump_tools/operations.py has, those that are not of 3.4."""
     newer = {each.number for each in of_tools()["ALL"] if each.release != "3.4" and each.name != "check"}
     ranges = " ||\n".join(f"(op >= {least} && op <= {most})" for least, most in runs(newer))
     return wrapped(f"return {ranges};".splitlines(), 120, 11)
@@ -224,9 +224,10 @@ def json_keys(_):
 # By file, what writes all of it, or each of its marked parts.
 WHOLE = {"examples/python/libzk/_names.py": constants.python_names, "examples/rust/zk/src/names.rs": constants.rust_names,
          "examples/go/names.go": constants.go_names}
-PARTS = {"include/zk.h": (header_profiles, header_enum, constants.header_constants, constants.header_functions), "tools/operations.py": (operation_rows,),
+PARTS = {"include/zk.h": (header_profiles, header_enum, constants.header_constants, constants.header_functions),
+         "tools/zkdump_tools/operations.py": (operation_rows,),
          "wireshark/names.c": (plugin_names, newer_ranges), "wireshark/hole.c": (hole_shapes,),
-         "tools/columns/json.c": (json_keys,), "tests/chosen.h": (random_profiles, random_operations),
+         "tools/zkdump_tools/zkcolumns/json.c": (json_keys,), "tests/chosen.h": (random_profiles, random_operations),
          "examples/go/libzk.go": (go_profiles,), "wireshark/register.c": (plugin_profiles,),
          "completion/zkdump.bash": (completed_profiles,),
          "bench/peer/peer.rs": (peer_operations,)}

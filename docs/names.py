@@ -112,7 +112,7 @@ def on_page(name):
 
 
 def messages():
-    """The messages whose fields are no operation's: the name on the page, that of the form in tools/forms.py, and the
+    """The messages whose fields are no operation's: the name on the page, that of the form in zkdump_tools/forms.py, and the
     fields by the page's records."""
     read_only, header = (formats.READ_ONLY.name, formats.READ_ONLY.kind), on_page("ReplyHeader")[1:]
     return (("connect request", "CONNECT", [*on_page("ConnectRequest"), read_only]),
@@ -160,12 +160,13 @@ def compare_faults(head, *enum):
 
 
 def compare_parts():
-    """The parts of a multi in tools/operations.py, which are no operations."""
+    """The parts of a multi in zkdump_tools/operations.py, which are no operations."""
     known = lists.of_tools()["BY_NUMBER"]
     for each in source.parts():
         row = known.get(each.number)
         if row is None or (row.name, row.request) != (each.name, lists.form(each.request)):
-            yield f"tools/operations.py: no row of the part {each.number} {each.name} with {spelled(each.request)}"
+            yield (f"tools/zkdump_tools/operations.py: no row of the part {each.number} {each.name} with "
+                   f"{spelled(each.request)}")
 
 
 def compare_bodies():
@@ -178,7 +179,7 @@ def compare_bodies():
 
 
 def wanted_forms():
-    """What tools/forms.py should have besides the forms of operations, by the page: names of fields, or each with its
+    """What zkdump_tools/forms.py should have besides the forms of operations, by the page: names of fields, or each with its
     kind."""
     stat, lines, found = on_page("Stat"), dict(formats.messages()), {}
     found["STAT"] = [source.in_line(name) for name, _ in stat]
@@ -195,14 +196,15 @@ def wanted_forms():
 
 
 def compare_forms():
-    """The forms that tools/forms.py has, besides those of operations: the names and the kinds of their fields."""
-    text = (TOP / "tools" / "forms.py").read_text()
+    """The forms that zkdump_tools/forms.py has, besides those of operations: the names and the kinds of their fields."""
+    text = (TOP / "tools" / "zkdump_tools" / "forms.py").read_text()
     for name, wanted in wanted_forms().items():
         row = re.search(rf"^{re.escape(name)} = (.*?)\n(?=\S|\Z)", text, re.M | re.S)
         found = ["".join(pair) for pair in re.findall(r'"(\w+)"|(\w+:\w+)', row[1] if row else "")]
         if found != wanted:
             line = text.count("\n", 0, row.start()) + 1 if row else 0
-            yield f"tools/forms.py:{line}: {name} has {', '.join(found)}, and in docs/FORMATS.md {', '.join(wanted)}"
+            yield (f"tools/zkdump_tools/forms.py:{line}: {name} has {', '.join(found)}, and in docs/FORMATS.md "
+                   f"{', '.join(wanted)}")
 
 
 def compare_field_rows():

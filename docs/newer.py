@@ -30,7 +30,7 @@ Session Closed Require Sasl Auth, Quota Exceeded, Throttled Op, Ok"""
 
 def operations():
     """The operations of later releases that the tools know."""
-    known = runpy.run_path(str(TOP / "tools" / "operations.py"))
+    known = runpy.run_path(str(TOP / "tools" / "zkdump_tools" / "operations.py"))
     return {each.number: each.name for each in known["ALL"]}
 
 

@@ -18,6 +18,7 @@ LIBDIR = "lib/x86_64-linux-gnu"
 SHARED = SONAME.replace(".so.", "")  # as Debian names it
 PROGRAMS = ("zkdump", make_columns.NAME)
 TOOLS = ("dpkg-deb", "objdump")
+PYTHON = "/usr/bin/python3"     # that of Debian's packages, which has numpy where python3-numpy is installed
 # Which files below /usr a package has, by the first row that fits; and its fields.
 FILES = ((SHARED, f"{LIBDIR}/{SONAME}"), (SHARED, f"{LIBDIR}/{FAST}/{SONAME}"), ("libzk-dev", f"{LIBDIR}/*"),
          ("libzk-dev", "include/*"),
@@ -87,6 +88,13 @@ def libc(*paths):
     return f"libc6 (>= {'.'.join(map(str, newest))})"
 
 
+def name_python(tools):
+    """Has the tools in this folder run by Debian's Python, whatever python3 the PATH has."""
+    for path in tools.glob("*.py"):
+        first, end, rest = path.read_text().partition("\n")
+        path.write_text(first.replace(" exec python3 ", f" exec {PYTHON} ") + end + rest)
+
+
 def split(whole, folder):
     """Moves each file of what is installed to its package's folder."""
     for path in sorted(path for path in whole.rglob("*") if path.is_symlink() or path.is_file()):
@@ -137,6 +145,7 @@ def packages(work, to, gate=""):
     """Makes the packages, by way of the folder work. A line for each part that is left out."""
     whole, folder = pathlib.Path(work, "usr"), pathlib.Path(work, "packages")
     yield from install(whole, LIBDIR, gate)
+    name_python(whole / OWN / "tools")
     split(whole, folder)
     for package in FIELDS:
         if not (folder / package).exists():

@@ -1,10 +1,10 @@
 #!/usr/bin/env python3
-"""Makes zkcolumns, the program by which the tools read recordings fast, of tools/columns and the proved library for
+"""Makes zkcolumns, the program by which the tools read recordings fast, of its sources in tools and the proved library for
 x86-64-v2, on which the program zkdump runs, too.
 
     make_columns.py [FOLDER]
 
-FOLDER is tools/columns/out if no other is named. The status is 1 if it can't be made.
+FOLDER is tools/zkdump_tools/zkcolumns/out if no other is named. The status is 1 if it can't be made.
 """
 
 import pathlib
@@ -14,7 +14,7 @@ import tempfile
 import make_library
 from build_library import TOP
 
-SOURCES = TOP / "tools" / "columns"
+SOURCES = TOP / "tools" / "zkdump_tools" / "zkcolumns"
 STRICT = ("-std=c11", "-D_POSIX_C_SOURCE=200809L", "-Wall", "-Wextra", "-Wpedantic", "-Wconversion", "-Werror")
 NAME = "zkcolumns"
 

@@ -31,9 +31,10 @@ def calls():
 
 
 def tools(commands):
-    """Each command, with the first paragraph of its script's docstring."""
+    """Each command, with the first paragraph of its module's docstring."""
     for name, script in commands:
-        said = ast.get_docstring(ast.parse(script.read_text())) or name
+        module = script.parent / "zkdump_tools" / script.name
+        said = ast.get_docstring(ast.parse(module.read_text())) or name
         yield f"*{name}*\n\t{escaped(said.partition(chr(10) * 2)[0])}\n"
 
 

@@ -16,8 +16,8 @@ SOURCES = TOP / "wireshark"
 sys.path += [str(TOP / "packaging"), str(TOP / "tools" / "tests"), str(TOP / "tools")]
 import make_library  # noqa: E402
 import wire  # noqa: E402
-import zkr  # noqa: E402
-from build_library import PLAIN  # noqa: E402
+from build_library import PLAIN
+from zkdump_tools import zkr
 
 NOBODY = 65534
 PROFILES = dict(re.findall(r'\{"([\d.]+)", "([^"]*)", ZK_PROFILE', (SOURCES / "register.c").read_text()))

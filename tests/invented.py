@@ -4,7 +4,7 @@ import pathlib
 import sys
 
 sys.path.append(str(pathlib.Path(__file__).resolve().parent.parent / "tools"))
-import operations  # noqa: E402
+from zkdump_tools import operations
 
 NUMBER, DIGITS = 9999, "0000270f"
 LACKED = [each for each in operations.ALL if not each.release]

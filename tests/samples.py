@@ -5,7 +5,7 @@ import sys
 
 sys.path += [str(pathlib.Path(__file__).resolve().parent.parent / folder) for folder in ("docs", "tools")]
 import formats  # noqa: E402
-import zkr  # noqa: E402
+from zkdump_tools import zkr
 
 # Of each kind of items one: its bytes, where its content begins and how long it is, and its number in a row.
 SAMPLES = {"int": ("00000007", 0, 4, " 7"), "long": ("0000000000000008", 0, 8, " 8"), "bool": ("01", 0, 1, " 1"),

@@ -30,7 +30,7 @@ import invented
 from listed import listings_of
 from odd import Odd
 import placed
-import resync
+from zkdump_tools import resync
 import wanted
 
 PACKAGES = ("tshark", "wireshark-dev", "gcc", "pkg-config", "cmake")

@@ -1,5 +1,5 @@
 /* hole.c
- * Where the frames of one side begin again after bytes that were not captured (tools/resync.py has the rule in words).
+ * Where the frames of one side begin again after bytes that were not captured (zkdump_tools/resync.py has the rule in words).
  *
  * SPDX-License-Identifier: GPL-2.0-or-later
  */

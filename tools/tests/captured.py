@@ -8,7 +8,7 @@ import unittest.mock
 
 import wire
 from support import CAPTURES, TOOLS, ToolCase, pieces, sides, zkr
-import pcap2zkr
+from zkdump_tools import pcap2zkr
 
 WITHIN = """
 import resource, runpy, signal, sys

@@ -19,7 +19,7 @@ import sys
 
 from support import TOOLS, run_main, zkr
 
-import columns
+from zkdump_tools import columns
 
 CHOICES = ((), ("--path", "/"), ("--path", "/a", "--path", "/kazoo"),
            ("--op", "event", "--op", "multi", "--op", "create"), ("--slower", "0.5"),

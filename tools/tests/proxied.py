@@ -18,7 +18,7 @@ STAND_IN = f"""#!{sys.executable} -SE
 # Prints each frame as its side, its number and its number of bytes; a frame of no bytes is refused.
 import sys
 sys.path.insert(0, {str(TOOLS)!r})
-import zkr
+from zkdump_tools import zkr
 cutter = zkr.Cutter()
 for piece in zkr.Reader(sys.stdin.buffer):
     for frame in cutter.take(piece):

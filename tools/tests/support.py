@@ -17,12 +17,13 @@ PROGRAM = TOP / "crates" / "zkdump" / "out" / "zkdump"
 sys.path.insert(0, str(TOOLS))
 sys.path.append(str(TOP / "tests"))
 
-import zkr  # noqa: E402  (found by the lines above)
+from zkdump_tools import zkr
 
 
 def run_main(tool, words, stdin=b""):
     """Runs a tool within this process: its status, and the bytes on standard output and standard error."""
-    main, out, err = importlib.import_module(tool.removesuffix(".py")).main, io.BytesIO(), io.BytesIO()
+    main = importlib.import_module(f"zkdump_tools.{tool.removesuffix('.py')}").main
+    out, err = io.BytesIO(), io.BytesIO()
     streams = [io.TextIOWrapper(each, "utf-8") for each in (io.BufferedReader(io.BytesIO(stdin)), out, err)]
     with unittest.mock.patch.multiple("sys", argv=[tool, *map(str, words)], stdin=streams[0], stdout=streams[1],
                                       stderr=streams[2]):

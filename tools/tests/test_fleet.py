@@ -15,7 +15,7 @@ import unittest.mock
 from support import CAPTURES, PROGRAM, TOOLS, ToolCase
 
 import compared
-import fleet
+from zkdump_tools import fleet
 
 FEW = [path for path in CAPTURES if "watches" in path.name or "refused" in path.name or "auth" in path.name]
 REFUSED = 6
@@ -57,7 +57,8 @@ class FleetCase(ToolCase):
     @staticmethod
     def in_small_chunks(tool, *words):
         """The command that runs a tool with each recording as a chunk."""
-        run = (f"import sys; sys.path.insert(0, {str(TOOLS)!r}); import fleet, zkr, {tool[:-3]} as tool; "
+        run = (f"import sys; sys.path.insert(0, {str(TOOLS)!r}); "
+               f"from zkdump_tools import fleet, zkr, {tool[:-3]} as tool; "
                f"fleet.LEAST_CHUNK = 1; sys.argv[0] = {tool!r}; sys.exit(zkr.tool(tool.main))")
         return [sys.executable, "-c", run, *map(str, words)]
 

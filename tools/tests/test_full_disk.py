@@ -9,7 +9,7 @@ import wire
 from captured import PcapCase, packed
 from proxied import SECONDS, TroubleCase
 from support import CAPTURES, TOOLS, pieces, zkr
-import facts
+from zkdump_tools import facts
 
 ASK, REPLY = zkr.Piece(zkr.CLIENT, None, bytes(300)), zkr.Piece(zkr.SERVER, None, bytes(300))
 
@@ -42,20 +42,23 @@ class Record(TroubleCase):
         self.assertEqual((len(list(zkr.read_times(times))), {len(piece.data) for piece in found}), (len(found), {size}))
         said = [size * sum(piece.side == side for piece in found) for side in (zkr.CLIENT, zkr.SERVER)]
         self.assertEqual(ended[4:], [f"client={said[0]}", f"server={said[1]}", "closed=C", "incomplete"])
-        first, *facts = self.complaints(1)
+        first, *more = self.complaints(1)
         self.assertTrue(first.endswith("no more of it is recorded"), self.err)
-        self.assertTrue(all(line.endswith("are not written") for line in facts), self.err)
+        self.assertTrue(all(line.endswith("are not written") for line in more), self.err)
         self.tool.terminate()
         self.assertEqual(self.tool.wait(SECONDS), 3)
+        known = facts.facts_of(path)
+        self.assertTrue(known.hole == ("C", "S") and not known.unfinished or known.unfinished and not known.hole, known)
+        self.assertEqual([each.name for each in path.parent.glob("r-*.facts.json*")], ["r-1.facts.json"])
 
     def test_the_recording_ends_first(self):
         self.assert_ends_alone(300, most=1000)
 
     def test_its_times_end_first(self):
-        self.assert_ends_alone(1, most=100)
+        self.assert_ends_alone(1, most=400)
 
     def test_a_small_disk(self):
-        self.prefix = small_disk(self, 2) / "r"
+        self.prefix = small_disk(self, 3) / "r"
         for size in (300, 1):
             with self.subTest(size=size):
                 self.assert_ends_alone(size)

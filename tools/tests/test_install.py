@@ -173,7 +173,7 @@ class Place(ToolCase):
 
     def test_what_runs_when_a_package_is_removed(self):
         """It takes away what Python has compiled, and is no error where the tools are gone."""
-        compiled = self.folder / "usr" / install.OWN / "tools" / "report" / "__pycache__"
+        compiled = self.folder / "usr" / install.OWN / "tools" / "zkdump_tools" / "__pycache__"
         for there in (True, False):
             if there:
                 compiled.mkdir(parents=True)

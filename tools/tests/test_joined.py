@@ -5,7 +5,7 @@ import json
 import types
 
 from support import ToolCase
-import selection
+from zkdump_tools import selection
 
 SESSION = "0x100000000000001"
 MESSAGES = [{"n": 3, "side": "C", "xid": 1, "op": "exists", "path": "/a", "watch": False},

@@ -17,7 +17,8 @@ FOLDERS = [f"crates/{name}/src" for name in ("zk_records", "zk_asks", "zk_answer
 FILES = (*lists.PARTS, *lists.WHOLE, "docs/names.py", "docs/lists.py", "docs/constants.py", "docs/newer.py", "docs/source.py", "docs/formats.py",
          "docs/FORMATS.md", "docs/LIBRARY.md", "docs/REASONS.md", "docs/man/zkdump.1.scd", "docs/man/zkr.5.scd",
          "examples/python/libzk/_messages.py", "examples/python/libzk/_held.py", "examples/server.c",
-         "crates/talk_tests/src/tests/earliest/bodies.rt", "wireshark/tree.c", "wireshark/message.h", "tools/forms.py",
+         "crates/talk_tests/src/tests/earliest/bodies.rt", "wireshark/tree.c", "wireshark/message.h",
+         "tools/zkdump_tools/forms.py",
          "bench/make_recording.py")
 ALL_PASSED = (0, ["33 passed, 0 failed"])
 # A file, what is replaced in it and by what, and what is then said: `{line}` is the line of the change.
@@ -39,12 +40,12 @@ WRITTEN = (
      "has return (op >= 16 && op <= 22) || (op >= 102 && op <= 107); "
      "lacks return (op >= 15 && op <= 22) || (op >= 102 && op <= 107)"),
     ("wireshark/names.c", '{ZK_BAD_LENGTH, "BadLength"}, ', "", 'lacks {ZK_BAD_LENGTH, "BadLength"}'),
-    ("tools/operations.py", 'WATCH, "names:texts"),', 'WATCH, "names:acls"),',
+    ("tools/zkdump_tools/operations.py", 'WATCH, "names:texts"),', 'WATCH, "names:acls"),',
      'has Operation(8, "getChildren", "3.4", WATCH, "names:acls"); '
      'lacks Operation(8, "getChildren", "3.4", WATCH, "names:texts")'),
-    ("tools/operations.py", '    Operation(11, "ping", "3.4", "", "", -2, False),\n', "",
+    ("tools/zkdump_tools/operations.py", '    Operation(11, "ping", "3.4", "", "", -2, False),\n', "",
      'lacks Operation(11, "ping", "3.4", "", "", -2, False)'),
-    ("tools/columns/json.c", '    case ZK_NAME_WATCH: return ", \\"watch\\": ";\n', "",
+    ("tools/zkdump_tools/zkcolumns/json.c", '    case ZK_NAME_WATCH: return ", \\"watch\\": ";\n', "",
      r'lacks case ZK_NAME_WATCH: return ", \"watch\": "'),
     ("wireshark/hole.c", "{8, true, true, 1}, ", "{8, true, true, 2}, ",
      "has {8, true, true, 2}; lacks {8, true, true, 1}"),
@@ -89,38 +90,38 @@ COMPARED = (
      ("docs/REASONS.md: no row of 8 Ending", "docs/REASONS.md:{line}: 9 is Ending, and in the sources nothing")),
     ("docs/REASONS.md", "| TooLong |", "| TooLarge |",
      ("docs/REASONS.md:{line}: 5 is TooLarge, and in the sources TooLong",)),
-    ("tools/operations.py", 'Operation(13, "check", None, VERSION),', 'Operation(13, "check", None, PATH),',
-     ("tools/operations.py: no row of the part 13 check with text path, int version",)),
-    ("tools/forms.py", '"cversion", "aversion"', '"aversion", "cversion"',
-     ("tools/forms.py:{line}: STAT has czxid, mzxid, ctime, mtime, version, aversion, cversion, ephemeralOwner, "
+    ("tools/zkdump_tools/operations.py", 'Operation(13, "check", None, VERSION),', 'Operation(13, "check", None, PATH),',
+     ("tools/zkdump_tools/operations.py: no row of the part 13 check with text path, int version",)),
+    ("tools/zkdump_tools/forms.py", '"cversion", "aversion"', '"aversion", "cversion"',
+     ("tools/zkdump_tools/forms.py:{line}: STAT has czxid, mzxid, ctime, mtime, version, aversion, cversion, ephemeralOwner, "
       "dataLength, numChildren, pzxid, and in docs/FORMATS.md czxid, mzxid, ctime, mtime, version, cversion, aversion, "
       "ephemeralOwner, dataLength, numChildren, pzxid",)),
-    ("tools/forms.py", '{"czxid", "mzxid", "ephemeralOwner",', '{"czxid", "mzxid", "ctime", "ephemeralOwner",',
-     ("tools/forms.py:{line}: HEXADECIMAL has czxid, mzxid, ctime, ephemeralOwner, pzxid, "
+    ("tools/zkdump_tools/forms.py", '{"czxid", "mzxid", "ephemeralOwner",', '{"czxid", "mzxid", "ctime", "ephemeralOwner",',
+     ("tools/zkdump_tools/forms.py:{line}: HEXADECIMAL has czxid, mzxid, ctime, ephemeralOwner, pzxid, "
       "and in docs/FORMATS.md czxid, mzxid, ephemeralOwner, pzxid",)),
-    ("tools/forms.py", "version:number zxid:hexadecimal timeout", "version:number zxid:number timeout",
-     ("tools/forms.py:{line}: CONNECT has version:number, zxid:number, timeout:number, session:hexadecimal, "
+    ("tools/zkdump_tools/forms.py", "version:number zxid:hexadecimal timeout", "version:number zxid:number timeout",
+     ("tools/zkdump_tools/forms.py:{line}: CONNECT has version:number, zxid:number, timeout:number, session:hexadecimal, "
       "passwd:secret, ro:readonly, and in docs/FORMATS.md version:number, zxid:hexadecimal, timeout:number, "
       "session:hexadecimal, passwd:secret, ro:readonly",)),
-    ("tools/forms.py", 'passwd:secret ro:readonly")', 'passwd:data ro:bit")',
-     ("tools/forms.py:{line}: REPLIES[listing.CONNECT] has version:number, timeout:number, session:hexadecimal, "
+    ("tools/zkdump_tools/forms.py", 'passwd:secret ro:readonly")', 'passwd:data ro:bit")',
+     ("tools/zkdump_tools/forms.py:{line}: REPLIES[listing.CONNECT] has version:number, timeout:number, session:hexadecimal, "
       "passwd:data, ro:bit, and in docs/FORMATS.md version:number, timeout:number, session:hexadecimal, "
       "passwd:secret, ro:readonly",)),
-    ("tools/forms.py", "kind:kind state:number", "kind:number state:number",
-     ("tools/forms.py:{line}: REPLIES[listing.EVENT] has zxid:hexadecimal, kind:number, state:number, path:text, "
+    ("tools/zkdump_tools/forms.py", "kind:kind state:number", "kind:number state:number",
+     ("tools/zkdump_tools/forms.py:{line}: REPLIES[listing.EVENT] has zxid:hexadecimal, kind:number, state:number, path:text, "
       "and in docs/FORMATS.md zxid:hexadecimal, kind:kind, state:number, path:text",)),
-    ("tools/forms.py", '"zxid:hexadecimal err:err"', '"zxid:hexadecimal err:number"',
-     ("tools/forms.py:{line}: FAILED has zxid:hexadecimal, err:number, "
+    ("tools/zkdump_tools/forms.py", '"zxid:hexadecimal err:err"', '"zxid:hexadecimal err:number"',
+     ("tools/zkdump_tools/forms.py:{line}: FAILED has zxid:hexadecimal, err:number, "
       "and in docs/FORMATS.md zxid:hexadecimal, err:err",)),
-    ("tools/forms.py", '"zxid:hexadecimal " +', '"zxid:number " +',
-     ("tools/forms.py:{line}: REPLIES has zxid:number, and in docs/FORMATS.md zxid:hexadecimal",)),
-    ("tools/forms.py", '"create": Form("path:text")', '"create": Form("path:data")',
-     ("tools/forms.py:{line}: RESULTS has create, path:data, delete, setData, stat:stat, check, fail, err:err, "
+    ("tools/zkdump_tools/forms.py", '"zxid:hexadecimal " +', '"zxid:number " +',
+     ("tools/zkdump_tools/forms.py:{line}: REPLIES has zxid:number, and in docs/FORMATS.md zxid:hexadecimal",)),
+    ("tools/zkdump_tools/forms.py", '"create": Form("path:text")', '"create": Form("path:data")',
+     ("tools/zkdump_tools/forms.py:{line}: RESULTS has create, path:data, delete, setData, stat:stat, check, fail, err:err, "
       "and in docs/FORMATS.md create, path:text, delete, setData, stat:stat, check, fail, err:err",)),
     ("docs/FORMATS.md", "`S event zxid=`num` kind=`kcode", "`S event zxid=`num` kind=`text",
      ("docs/FORMATS.md:{line}: the line of the event has 'zxid=num kind=text state=num path=text', "
       "and its records 'zxid=num kind=num state=num path=text'",
-      "tools/forms.py:*: REPLIES[listing.EVENT] has zxid:hexadecimal, kind:kind, state:number, path:text, "
+      "tools/zkdump_tools/forms.py:*: REPLIES[listing.EVENT] has zxid:hexadecimal, kind:kind, state:number, path:text, "
       "and in docs/FORMATS.md zxid:hexadecimal, kind:number, state:number, path:text")),
     ("wireshark/tree.c", "[ZK_NAME_AUTH] = FIELD_AUTH, ", "", ("wireshark/tree.c: no row of ZK_NAME_AUTH",)),
     ("examples/python/libzk/_messages.py", "    BLOB = 5", "    BLOB = 6",
@@ -285,9 +286,9 @@ class Names(ToolCase):
         _, lines = self.run_names("--check")
         said = [line for line in lines if re.search("(?i)invent|9.?9", line)]
         places = {re.match(r"[\w./]+", line)[0] for line in said}
-        self.assertEqual(places, {"include/zk.h", "tools/operations.py", "tests/chosen.h", "docs/FORMATS.md",
+        self.assertEqual(places, {"include/zk.h", "tools/zkdump_tools/operations.py", "tests/chosen.h", "docs/FORMATS.md",
                                   "examples/python/libzk/_names.py", "examples/rust/zk/src/names.rs",
-                                  "tools/columns/json.c", "wireshark/names.c", "wireshark/tree.c",
+                                  "tools/zkdump_tools/zkcolumns/json.c", "wireshark/names.c", "wireshark/tree.c",
                                   "bench/peer/peer.rs", "wireshark/register.c", "examples/go/libzk.go",
                                   "examples/go/names.go",
                                   "completion/zkdump.bash", "crates/talk_tests/src/tests/earliest/bodies.rt",
@@ -296,5 +297,5 @@ class Names(ToolCase):
             self.change(name, before, added + before)
         self.assertEqual(self.run_names("--write"), ALL_PASSED)
         self.assertIn(f'    Operation({NUMBER}, "invent", "9.9", PATH, "invented:texts"),\n',
-                      (self.folder / "tools" / "operations.py").read_text())
+                      (self.folder / "tools" / "zkdump_tools" / "operations.py").read_text())
         self.assertEqual(self.run_names("--check"), ALL_PASSED)

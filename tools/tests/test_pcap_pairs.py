@@ -16,7 +16,7 @@ import unittest.mock
 
 import wire
 from support import ToolCase, zkr
-import pcap2zkr
+from zkdump_tools import pcap2zkr
 
 PING, EVENT = b"\xff\xff\xff\xfe", b"\xff\xff\xff\xff"
 
@@ -114,7 +114,7 @@ class Kept:
 
 
 def zkr_made_up():
-    from conversation import MADE_UP
+    from zkdump_tools.conversation import MADE_UP
     return MADE_UP[zkr.CLIENT][4:]
 
 

@@ -231,6 +231,16 @@ class Files(RecordCase):
         self.assertEqual((len(found), times), (6, sorted(times)))
         self.assertTrue(int(before) <= times[0] and times[-1] <= after and times[4] - times[0] > 19)
 
+    def test_times_are_usual(self):
+        for words, wanted in (((), True), (("--no-times",), False), (("--times",), True)):
+            with self.subTest(words=words):
+                self.prefix = self.folder / f"{len(words)}{wanted}"
+                client = self.client(self.record(self.server(), *words))
+                client.sendall(b"hi")
+                receive(client, 2)
+                times = self.prefix.with_name(f"{self.prefix.name}-1.zkr.times")
+                self.assertEqual(times.exists() and len(list(zkr.read_times(times))), wanted and 2)
+
     def test_a_signal_ends_it_with_every_piece_written(self):
         for number in (signal.SIGTERM, signal.SIGINT):
             with self.subTest(signal=number):

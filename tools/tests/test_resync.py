@@ -6,7 +6,7 @@ import unittest
 
 from support import CAPTURES, sides, zkr
 from invented import NUMBER
-import resync
+from zkdump_tools import resync
 
 LIMIT = zkr.USUAL_LIMIT
 CLIENT, SERVER = zkr.CLIENT, zkr.SERVER

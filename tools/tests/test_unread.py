@@ -9,7 +9,7 @@ import time
 
 from proxied import SECONDS, STAND_IN, TroubleCase
 from support import TOOLS
-import columns
+from zkdump_tools import columns
 
 
 class Output(TroubleCase):

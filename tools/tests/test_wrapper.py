@@ -1,4 +1,4 @@
-"""Tests of the script zkdump at the top and of tools/build_program.py, in a copy of the repository's folders with a
+"""Tests of the script zkdump at the top and of packaging/build_program.py, in a copy of the repository's folders with a
 toolchain that proves nothing."""
 
 import os
@@ -12,7 +12,7 @@ import unittest
 
 from support import TOOLS, TOP, ToolCase
 
-sys.path.insert(0, str(TOOLS))
+sys.path.insert(0, str(TOP / "packaging"))
 import build_program  # noqa: E402
 
 # Writes down where it was called and how, and when that ended. Like the toolchain, it refuses a crates.txt with a line
@@ -65,9 +65,9 @@ class WrapperCase(ToolCase):
         (self.top / "crates.txt").write_text("# crates\nother: low\n" + "".join(
             f"{crate}: {uses} clap\n" for crate, uses in reversed(USES.items())))
         shutil.copy(TOP / "crates" / "zkdump" / "stdin", self.top / "crates" / "zkdump")
-        (self.top / "tools").mkdir()
+        (self.top / "packaging").mkdir()
         shutil.copy(TOP / "zkdump", self.top)
-        shutil.copy(TOOLS / "build_program.py", self.top / "tools")
+        shutil.copy(TOP / "packaging" / "build_program.py", self.top / "packaging")
         (self.folder / "bin").mkdir()
         (self.folder / "bin" / "rt").write_text(RT)
         (self.folder / "bin" / "rt").chmod(0o755)
@@ -232,7 +232,8 @@ class Lanes(WrapperCase):
         self.calls.write_text("")
         script = ("import sys; sys.path.insert(0, sys.argv[1]); import build_program as b; "
                   f"b.Build.lane_count = lambda self: {count}; b.Build(b.pathlib.Path(sys.argv[2])).run()")
-        done = subprocess.run([sys.executable, "-c", script, TOOLS, self.top], capture_output=True, text=True,
+        done = subprocess.run([sys.executable, "-c", script, TOP / "packaging", self.top], capture_output=True,
+                              text=True,
                               env=self.environment(**environment), check=False)
         self.assertEqual(done.returncode, 0, done.stderr)
         return self.calls.read_text().splitlines()
@@ -263,7 +264,7 @@ class Lanes(WrapperCase):
         self.assertEqual((found[-1], set(found) - {path.name for path in (TOP / "crates").iterdir()}),
                          ("zkdump", set()))
         # Each tool that may be run by its name is a user's command once it is installed.
-        self.assertFalse(pathlib.Path(TOP / "tools" / "build_program.py").stat().st_mode & 0o100)
+        self.assertFalse(pathlib.Path(TOP / "packaging" / "build_program.py").stat().st_mode & 0o100)
 
     @unittest.skipUnless(shutil.which("rt"), "no toolchain is on this machine's PATH")
     def test_the_toolchain_takes_a_lane_of_this_repository(self):

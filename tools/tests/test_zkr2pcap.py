@@ -6,7 +6,7 @@ import struct
 
 from support import CAPTURES, ToolCase, pieces, sides, zkr
 import wire
-import zkr2pcap
+from zkdump_tools import zkr2pcap
 
 CONNECT = CAPTURES[0]
 

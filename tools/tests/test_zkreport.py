@@ -7,7 +7,7 @@ import subprocess
 import report_lines
 from support import CAPTURES, PROGRAM, TOP, ToolCase
 
-import facts  # (support says where)
+from zkdump_tools import facts
 
 TABLES = r"""2 connections, 1 sessions, 20 messages, 10 requests, 3 failed, 1 unanswered, 1 events
 from 2023-11-14T22:13:20.000Z to 2023-11-14T22:13:25.201Z

@@ -235,6 +235,29 @@ class InBrowser(PageCase):
         self.browser.run("document.querySelector('#messages button').click()")
         self.assertTrue(self.browser.run("return document.getElementById('messages').hidden"))
 
+    def test_counts_have_their_number(self):
+        self.small()
+        self.assertEqual(self.browser.run("return [...document.querySelectorAll('#counts li')].slice(0, 2)"
+                                          ".map(each => each.textContent)"), ["1 session", "2 connections"])
+
+    def test_nothing_of_a_message_is_drawn_over_another_part_in_a_narrow_window(self):
+        self.browser.call("POST", "/window/rect", {"width": 420, "height": 900})
+        self.addCleanup(self.browser.call, "POST", "/window/rect", {"width": 1400, "height": 1000})
+        self.small("#m=1:8")
+        boxes = self.browser.run("""return [...document.querySelectorAll(".message summary")].map(each =>
+            [...each.children].filter(part => part.textContent).map(part => {
+              const range = document.createRange();
+              range.selectNodeContents(part);
+              const text = range.getBoundingClientRect(), box = part.getBoundingClientRect();
+              return [text.left, text.top, part.className === "path" ? box.right : text.right, text.bottom];
+            }));""")
+        self.assertEqual(len(boxes), 8)
+        for parts in boxes:
+            for at, one in enumerate(parts):
+                for other in parts[:at]:
+                    self.assertTrue(one[0] >= other[2] - 1 or other[0] >= one[2] - 1 or one[1] >= other[3] - 1
+                                    or other[1] >= one[3] - 1, (one, other))
+
     def test_text_and_hexadecimal(self):
         self.small("#m=1:5")
         found = self.browser.run("return [...document.querySelectorAll('.chosen pre')].map(each => each.textContent)")

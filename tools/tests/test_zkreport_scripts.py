@@ -1,6 +1,7 @@
 """Tests of the scripts of zkreport's page, without a browser."""
 
 import json
+import math
 import re
 import shutil
 import subprocess
@@ -9,12 +10,14 @@ import unittest.mock
 import report_lines
 from support import TOOLS, ToolCase
 
+SCRIPTS = TOOLS / "zkdump_tools" / "report"
+
 
 class Scripts(ToolCase):
     def test_latencies_in_tables_are_exact(self):
         """To the microsecond, as in zkstat's tables and those of --text."""
         code = ("const document = { getElementById() {} }, data = {};\n"
-                + "".join((TOOLS / "report" / name).read_text("utf-8") for name in ("draw.js", "tables.js"))
+                + "".join((SCRIPTS / name).read_text("utf-8") for name in ("draw.js", "tables.js"))
                 + "console.log(JSON.stringify([0.001, 1.25, 12345.678, 123456.7, 1e9, null].map(\n"
                 "  each => cellText(\"ms\", each))));")
         self.assertEqual(self.of_script(code), ["0.001", "1.25", "12345.678", "123456.7", "1000000000", "–"])
@@ -27,7 +30,7 @@ class Scripts(ToolCase):
                   "error": [None, None, "-999", "NODEEXISTS", "NONODE"], "path": [None, "/a", sizes, "/c"],
                   "ms": [None, 0.5, 2, 10], "counts": [{}, {"NodeCreated": 2}, {"NodeCreated": 1, "NodeDeleted": 9}]}
         code = ("const document = { getElementById() {} }, data = { tables: { a: { columns: [] } } };\n"
-                + "".join((TOOLS / "report" / name).read_text("utf-8") for name in ("draw.js", "tables.js"))
+                + "".join((SCRIPTS / name).read_text("utf-8") for name in ("draw.js", "tables.js"))
                 + f"const values = {json.dumps(values)};\n"
                 "console.log(JSON.stringify(Object.keys(values).map(kind => [1, -1].map(direction => {\n"
                 "  orders.a = { column: 0, direction }; data.tables.a.columns[0] = ['', '', kind];\n"
@@ -40,7 +43,7 @@ class Scripts(ToolCase):
     def of_draw(self, data, found):
         """What draw.js makes of this data."""
         return self.of_script("const document = { getElementById() {} }, filter = {}, timed = true, "
-                              f"data = {json.dumps(data)};\n{(TOOLS / 'report' / 'draw.js').read_text('utf-8')}\n"
+                              f"data = {json.dumps(data)};\n{(SCRIPTS / 'draw.js').read_text('utf-8')}\n"
                               f"console.log(JSON.stringify({found}));")
 
     def test_times_after_the_year_9999(self):
@@ -65,7 +68,7 @@ class Scripts(ToolCase):
         times, path, second = (0.1, 9.999, 10, 10.001, 10.5, 10.999, 11), self.folder / "a.json", "2023-11-14T22:13:20"
         path.write_text("".join(json.dumps({"n": n, "side": "C", "xid": n, "op": "sync", "path": "/a",
                                             "at": report_lines.T + at}) + "\n" for n, at in enumerate(times, 1)))
-        script = (TOOLS / "report" / "page.js").read_text("utf-8")
+        script = (SCRIPTS / "page.js").read_text("utf-8")
         script = script[script.index("function placeOf"):script.index("function placeText")]
         borders = (".010", ".010000", ".010500", ".010999", ".011")
         code = (f"{script}\nconst chosen = () => matching().map(i => requests.n[i]);\n"
@@ -98,7 +101,7 @@ class Scripts(ToolCase):
 
     def test_how_a_connection_ended(self):
         """By an error with a name or without one as by a reset, whatever else has such a word."""
-        code = (f"{(TOOLS / 'report' / 'sessions.js').read_text('utf-8')}\n"
+        code = (f"{(SCRIPTS / 'sessions.js').read_text('utf-8')}\n"
                 "console.log(JSON.stringify(['client: reset', 'server: lost', 'server: ETIMEDOUT', 'server: FIN',\n"
                 "  'open at the end', 'not recorded', 'client: closeSession'].map(closed => endOf({ closed }))));")
         self.assertEqual(self.of_script(code), [*["reset"] * 3, "closed", "still", "still", "closed"])
@@ -109,8 +112,61 @@ class Scripts(ToolCase):
         self.assertEqual(self.run_inside("zkreport.py", "-o", path, *inputs), (0, "", ""))
         data = re.search('id="data">(.*?)</script>', path.read_text("utf-8"))[1]
         return self.of_script(f"const document = {{ getElementById: () => ({{ textContent: {json.dumps(data)} }}) }};\n"
-                              + "".join((TOOLS / "report" / name).read_text("utf-8")
+                              + "".join((SCRIPTS / name).read_text("utf-8")
                                         for name in ("model.js", "draw.js", "tables.js")) + code)
+
+    def script(self, *names):
+        return "".join((SCRIPTS / name).read_text("utf-8") for name in names)
+
+    def test_many_requests_without_times_have_no_axis_of_latencies(self):
+        """Also where the page has not every one of them, and would show how many there were by latency."""
+        lines = report_lines.Lines()
+        for n in range(1, 9):
+            lines.ask(None, "exists", n, path="/a", watch=False)
+            lines.answer(None, n, zxid="0x1")
+        path = lines.write(self.folder / "a.json", ending="whole", unanswered=0)
+        code = self.script("latency.js") + "console.log(JSON.stringify([data.complete, latencyAxis(matching())]));"
+        with unittest.mock.patch("zkdump_tools.report.kept.SLOWEST", 2):
+            self.assertEqual(self.of_page(code, path), [False, None])
+
+    def test_how_requests_went_over_time(self):
+        """By time the rate, the share that failed and the percentiles of latencies: of all requests, whether the page has
+        each of them or not. Here 40 take 1 to 4 ms, every fourth of them fails, and then one in two of 10 takes 400 ms."""
+        lines, asked = report_lines.Lines(), []
+        for n in range(1, 51):
+            slow = n > 40 and n % 2 == 0
+            at, took, failed = 100 * n, 400 if slow else 1 + n % 4, n <= 40 and n % 4 == 0
+            asked.append((at, took, failed))
+            lines.ask(at, "setData", n, path="/a", blob="x", version=-1)
+            lines.answer(at + took, n, zxid="0x1", **(report_lines.BADVERSION if failed else {}))
+        path = lines.write(self.folder / "a.json", ending="whole", unanswered=0)
+        code = (self.script("trends.js", "latency.js") + "const steps = trend(matching());\n"
+                "const sum = name => steps.reduce((all, each) => all + each[name], 0);\n"
+                "console.log(JSON.stringify([data.complete, sum('count'), sum('failed'),\n"
+                "  steps.every((each, at) => !at || each.x >= steps[at - 1].x + steps[at - 1].length - 1e-9),\n"
+                "  steps.map(each => [each.x, each.length, each.count, each.failed, each.p50, each.p99])]));")
+        began = asked[0][0]
+        for most, complete in ((8_000, True), (2, False)):
+            (self.folder / "a.html").unlink(missing_ok=True)
+            with unittest.mock.patch("zkdump_tools.report.kept.SLOWEST", most), \
+                    unittest.mock.patch("zkdump_tools.report.kept.OTHER_FAILED", most):
+                is_complete, count, failed, are_apart, steps = self.of_page(code, path)
+            self.assertEqual((is_complete, count, failed, are_apart),
+                             (complete, len(asked), sum(each[2] for each in asked), True))
+            for x, length, count, failed, p50, p99 in steps:
+                inside = [each for each in asked if x <= each[0] - began < x + length]
+                took = sorted(each[1] for each in inside)
+                self.assertEqual((count, failed), (len(inside), sum(each[2] for each in inside)), (complete, x))
+                for found, wanted in ((p50, took[(len(took) + 1) // 2 - 1]), (p99, took[-1])):
+                    # (a bin is an eighth of a factor of ten)
+                    self.assertLess(abs(math.log10(found / wanted)), 1e-9 if complete else 1 / 8, (complete, x))
+
+    def test_a_node_s_times_are_dates(self):
+        code = ("const element = (name, { text }) => text, document = { getElementById() {} };\n"
+                + re.sub("(?s)function element.*?\n}\n", "", self.script("draw.js")) + self.script("messages.js")
+                + "console.log(JSON.stringify(['ctime', 'mtime', 'pzxid'].map(name => valueOf(name, 1700000000123)[0])));")
+        date = "2023-11-14T22:13:20.123Z (1700000000123)"
+        self.assertEqual(self.of_script(code), [date, date, "1700000000123"])
 
     def test_numbers_that_a_browser_would_round(self):
         """Of times and latencies, as where a file has nanoseconds, all digits are shown and sorted, with filters too;
@@ -159,7 +215,8 @@ class Scripts(ToolCase):
         code = ("const told = id => (filter.session = id,\n"
                 "  [rowsOf('operations', matching()).map(row => row.slice(0, 2)), / alone\\.$/.test(shortcoming())]);\n"
                 "console.log(JSON.stringify([told('0x7'), told('0x8')]));")
-        with unittest.mock.patch("report.kept.SLOWEST", 2), unittest.mock.patch("report.summary.MOST_SESSIONS", 1):
+        with unittest.mock.patch("zkdump_tools.report.kept.SLOWEST", 2), \
+                unittest.mock.patch("zkdump_tools.report.summary.MOST_SESSIONS", 1):
             busy, other = self.of_page(code, *paths)
         self.assertEqual(busy, [[[name, 1] for name in ("closeSession", "connect", "multi", "setData", "setWatches")],
                                 False])
@@ -174,7 +231,7 @@ class Scripts(ToolCase):
         code = ("const told = id => (filter.session = id, ['sessions', 'connections', 'operations'].map(name =>\n"
                 "  [rowsOf(name, matching()).length, rest(name)]));\n"
                 "console.log(JSON.stringify([told(''), told('0x8')]));")
-        with unittest.mock.patch("report.summary.MOST_CONNECTIONS", 1):
+        with unittest.mock.patch("zkdump_tools.report.summary.MOST_CONNECTIONS", 1):
             every, other = self.of_page(code, *paths)
         self.assertEqual(every, [[1, "and 1 more"], [1, "and 1 more"], [5, ""]])
         filtered = "The filters go through the rows of this table, and not through 1 more."
@@ -202,7 +259,7 @@ class Scripts(ToolCase):
         """The axis of latencies: its least and its greatest power of ten, and the place of no time at all."""
         code = ("const document = { getElementById() {} }, data = { complete: true, density: {} }, filter = {}, "
                 f"requests = {{ ms: [{', '.join(map(str, milliseconds))}] }};\n"
-                + "".join((TOOLS / "report" / name).read_text("utf-8") for name in ("draw.js", "latency.js"))
+                + "".join((SCRIPTS / name).read_text("utf-8") for name in ("draw.js", "latency.js"))
                 + "const axis = latencyAxis(requests.ms.map((_, i) => i));\n"
                 "console.log(JSON.stringify(axis && [axis.from, axis.to, axis.y(0) === axis.y(10 ** axis.from)]));")
         return self.of_script(code)

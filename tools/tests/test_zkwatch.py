@@ -14,7 +14,7 @@ import unittest.mock
 from proxied import STAND_IN
 from support import PROGRAM, TOOLS, TOP, ToolCase, pieces, receive, sides, zkr
 from invented import NAMED
-import zkwatch
+from zkdump_tools import zkwatch
 
 RUN = TOP / "crates" / "zkdump" / "stdin"
 LISTING = """C connect version=0 zxid=0 timeout=30000 session=0 passwd=#00000000000000000000000000000000 ro=0

@@ -3,9 +3,9 @@
 import struct
 
 from support import zkr
-from packets import ACK, FIN, RST, SYN  # noqa: F401
-from zkr2pcap import PUSH, Sent, tcp  # noqa: F401
-import zkr2pcap
+from zkdump_tools.packets import ACK, FIN, RST, SYN  # noqa: F401
+from zkdump_tools.zkr2pcap import PUSH, Sent, tcp  # noqa: F401
+from zkdump_tools import zkr2pcap
 
 BEGUN = 1_700_000_000_000
 

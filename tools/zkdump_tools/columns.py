@@ -1,4 +1,4 @@
-"""Reads recordings as columns, which the program zkcolumns writes (columns/columns.c): a record for each message.
+"""Reads recordings as columns, which the program zkcolumns writes (zkcolumns/columns.c): a record for each message.
 
 It is the fast form of listing.Listing, which reads the lines of `zkdump show`, and says the same. Where the program
 isn't there, the plain form is used. The environment variable ZKCOLUMNS names the program, or is empty for none.
@@ -12,23 +12,19 @@ import pathlib
 import struct
 import subprocess
 
-import facts
-import forms
-import listing
-import program
-import zkr
+from . import facts, forms, listing, program, zkr
 
 numpy = None        # loaded where something is counted: it takes longer than most listings, and 15 MB
 
-TOOLS = pathlib.Path(__file__).resolve().parent
-PLACES = (TOOLS / "columns" / "out" / "zkcolumns", TOOLS.parent.parent.parent / "lib" / "zkdump" / "zkcolumns")
+HERE = pathlib.Path(__file__).resolve().parent
+PLACES = (HERE / "zkcolumns" / "out" / "zkcolumns", HERE.parents[3] / "lib" / "zkdump" / "zkcolumns")
 HEAD, PATCH = struct.Struct("=IIIIQQQQddqq"), struct.Struct("=QII")
 NAMES, MESSAGES, END = range(3)
 NOT_READ = 4                    # the status of a recording whose trouble the plain form reports
 ERROR, XID, PATH, NULL_PATH, CHOSEN, WATCH, MADE_UP = (1 << bit for bit in range(7))
 CLIENT = ord("C")
 CONNECT, EVENT = 1000, 1001     # in place of an operation's number
-# The fields of a record, as columns/state.h has them.
+# The fields of a record, as zkcolumns/state.h has them.
 FIELDS = (("n", "u8"), ("of", "u8"), ("moment", "f8"), ("asked_moment", "f8"), ("microseconds", "f8"), ("zxid", "i8"),
           ("text", "u8"), ("text_length", "u4"), ("at_length", "u4"), ("path", "u4"), ("path_length", "u4"),
           ("xid", "i4"), ("operation", "i4"), ("error", "i4"), ("flags", "u2"), ("side", "u1"), ("spare", "u1"))
@@ -289,12 +285,10 @@ def opened(words, path, known, progress, options):
 def times_options(path, beside):
     """The arguments that name a recording's times, as times.times_of finds them; None where the plain form has to say
     what is wrong with them."""
-    if not beside:
-        with open(path, "rb") as recording:
-            if recording.read(4) == b"ZKR2" or not os.path.exists(zkr.times_path(path)):
-                return []
+    if not beside and not os.path.exists(zkr.times_path(path)):
+        return []
     beside = beside or zkr.times_path(path)
     try:
         return None if facts.are_of(path, beside)[0] is False else ["--times", beside]
-    except OSError:
+    except (OSError, ValueError):
         return None

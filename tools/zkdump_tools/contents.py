@@ -2,8 +2,7 @@
 
 import itertools
 
-import facts
-import zkr
+from . import facts, files, zkr
 
 LARGEST_CONNECTED = 1 << 10
 MADE_UP = b"\xff" * 8       # the session in a connect response that pcap2zkr makes up
@@ -48,8 +47,8 @@ def times_beside(path, beside=None):
 def have_the_same_pieces(path, other):
     """Whether these recordings differ in their format at most, as after a migration."""
     try:
-        with open(path, "rb") as one, open(other, "rb") as two:
+        with files.open_again(path, files.RECORDING) as one, files.open_again(other, files.RECORDING) as two:
             return all(mine and its and mine[::2] == its[::2]
                        for mine, its in itertools.zip_longest(zkr.Reader(one), zkr.Reader(two)))
-    except (OSError, zkr.Damaged):
+    except (OSError, ValueError):
         return False

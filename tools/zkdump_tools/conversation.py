@@ -8,13 +8,9 @@ connect request and connect response, with -1 for every number.
 import math
 import struct
 
-import contents
-import facts
-import frames
-import resync
-import zkr
-from streams import SIDES
-from stretches import EVENT, Message, Stretch
+from . import contents, facts, frames, resync, zkr
+from .streams import SIDES
+from .stretches import EVENT, Message, Stretch
 
 # A connect request and a connect response that no peer sends: every number is -1, and the password is null.
 MADE_UP = {zkr.CLIENT: struct.pack(">iiqiqi", 28, -1, -1, -1, -1, -1),

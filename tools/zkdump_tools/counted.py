@@ -6,9 +6,8 @@ order, as that of equally frequent errors, comes in the order of the messages.
 
 import collections
 
-import columns
-import listing
-from histogram import Histogram
+from . import columns, listing
+from .histogram import Histogram
 
 
 def grouped(numpy, keys):

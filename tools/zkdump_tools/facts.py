@@ -3,7 +3,8 @@
 They are in NAME.facts.json beside NAME.zkr: one line with an object of JSON. Its `facts` is the version of this format,
 1. `recording` marks the recording that they are of, and `times` the file of its times, if they have one: each has the
 number of its bytes, `bytes`, and `sha256`, the SHA-256 of its first and its last 65,536 bytes, one after the other. The
-other members are the fields of Facts, but for those that have their usual value.
+other members are the fields of Facts, but for those that have their usual value. Facts that were written when the
+recording began mark 0 bytes.
 """
 
 import json
@@ -12,9 +13,9 @@ import os
 import re
 from typing import NamedTuple, Optional
 
-import running
-from newfile import NewFile
-from operations import PROFILES
+from . import files, running
+from .newfile import NewFile
+from .operations import PROFILES
 
 VERSION, MARKED, LONGEST = 1, 1 << 16, 1 << 16
 SIDES = ("C", "S")
@@ -33,7 +34,8 @@ class Facts(NamedTuple):
     packets were not captured whole. `lost` counts the bytes of each side that are missing before the recording, and
     `hole` names the sides of which bytes are missing after it. `skipped` counts captured bytes that are left out, and
     `unasked` replies that are, where it begins with connect messages that were made up; `overlooked` says that no
-    request of it has a reply, and that replies may be among the bytes that are left out.
+    request of it has a reply, and that replies may be among the bytes that are left out. `unfinished` says that the
+    recording is still being made, or that its end could not be written.
     """
     tool: Optional[str] = None
     client: Optional[str] = None
@@ -55,6 +57,7 @@ class Facts(NamedTuple):
     skipped: Optional[dict] = None
     unasked: int = 0
     overlooked: bool = False
+    unfinished: bool = False
 
     def connection(self):
         """What is the same of all parts of a connection. Where two recordings have the same, and the same `part`, they
@@ -62,17 +65,17 @@ class Facts(NamedTuple):
         return self.client, self.server, self.connected, self.session
 
     def has_hole(self):
-        """Whether bytes are missing before or after it."""
-        return bool(self.hole) or any(self.lost.values())
+        """Whether bytes are missing before or after it, or may be."""
+        return bool(self.hole) or any(self.lost.values()) or self.unfinished
 
     def loses_replies(self):
         """Whether replies to the requests that wait at its end may be among bytes that are missing or left out."""
-        return "S" in self.hole or self.overlooked
+        return "S" in self.hole or self.overlooked or self.unfinished
 
     def words(self):
         """What pcap2zkr and record.py print of it."""
         words = [f"{name}={value}" for name in ("closed", "reset", "broken") if (value := getattr(self, name))]
-        words += ["open"] * self.open
+        words += ["open"] * self.open + ["unfinished"] * self.unfinished
         if any(self.lost.values()):
             words.append(f"lost={counts(self.lost)}")
         elif self.late:
@@ -119,7 +122,8 @@ def are_counts(value):
 CHECKS = {
     **dict.fromkeys(("tool", "broken"), is_text), **dict.fromkeys(("client", "server"), is_address),
     **dict.fromkeys(("connected", "begun", "ended"), is_number), **dict.fromkeys(("part", "unasked"), is_count),
-    **dict.fromkeys(("open", "late", "snapped", "overlooked"), lambda value: type(value) is bool),
+    **dict.fromkeys(("open", "late", "snapped", "overlooked", "unfinished"),
+                    lambda value: type(value) is bool),
     **dict.fromkeys(("closed", "reset"), lambda value: value in SIDES and isinstance(value, str)),
     **dict.fromkeys(("lost", "skipped"), are_counts),
     "session": lambda value: isinstance(value, str) and bool(SESSION.fullmatch(value)),
@@ -145,7 +149,7 @@ def facts_path(path):
 def mark_of(path):
     """What marks a file: the number of its bytes, and the SHA-256 of its first and its last ones."""
     import hashlib      # it takes longer to load than most recordings without facts to read
-    with open(path, "rb") as file:
+    with files.open_again(path, files.RECORDING) as file:
         size, digest = file.seek(0, os.SEEK_END), hashlib.sha256()
         for at in (0, max(0, size - MARKED)):
             file.seek(at)
@@ -153,11 +157,30 @@ def mark_of(path):
     return {"bytes": size, "sha256": digest.hexdigest()}
 
 
-def write(path, facts, times=None):
-    """Writes the facts of the recording at this path, which is complete, and whose times are in that file, if any. The
-    file must not exist, and its owner alone may read it."""
-    made = {"facts": VERSION, "recording": mark_of(path), "times": times and mark_of(times), **facts.to_object()}
-    new = NewFile(facts_path(path))
+def begin(path, facts):
+    """Writes the facts of the recording at this path before it is there. Until others take their place, they say that
+    it is unfinished."""
+    put(facts_path(path), {"bytes": 0}, None, facts._replace(unfinished=True))
+
+
+def write(path, facts, times=None, begun=False):
+    """Writes the facts of the recording at this path, which is complete, and whose times are in that file, if any. They
+    take the place of those that were written when it began, if they were; else the file must not exist."""
+    marks, to = (mark_of(path), times and mark_of(times)), facts_path(path)
+    if not begun:
+        put(to, *marks, facts)
+        return
+    try:
+        put(f"{to}.new", *marks, facts)
+    except OSError as error:
+        raise OSError(error.errno, error.strerror, to) from error
+    os.replace(f"{to}.new", to)
+
+
+def put(path, mark, times, facts):
+    """Writes facts to a file that must not exist, and that its owner alone may read."""
+    made = {"facts": VERSION, "recording": mark, "times": times, **facts.to_object()}
+    new = NewFile(path)
     new.waiting += json.dumps(made).encode("ascii") + b"\n"
     try:
         new.flush()
@@ -172,8 +195,10 @@ def read(path):
     """The object of the facts beside the recording at this path, or to which that links; None if there are none. A
     ValueError where these are not such facts."""
     try:
-        with open(facts_path(path), encoding="ascii", errors="replace") as file:
+        with files.open_again(facts_path(path), mode="r", encoding="ascii", errors="replace") as file:
             line = file.read(LONGEST + 1)
+    except files.NoFile as found:
+        raise ValueError(f"it is a {found.kind}, and no file") from None
     except FileNotFoundError:
         linked = os.path.realpath(path)
         return read(linked) if os.path.islink(path) and linked != os.fspath(path) else None
@@ -194,7 +219,7 @@ def facts_of(path):
         if made is None:
             return None
         found, mark = from_object(made), mark_of(path)
-        if made["recording"] != mark:
+        if made["recording"] != mark and not found.unfinished:
             size = made["recording"].get("bytes")
             raise ValueError(f"it is of another recording, of {size} bytes" if size != mark["bytes"] else
                              "it is of another recording of the same length")

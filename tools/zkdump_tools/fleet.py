@@ -8,7 +8,7 @@ for its result, and so has one whose worker died three times.
 
 import collections
 import concurrent.futures
-import importlib
+import importlib.util
 import multiprocessing
 import os
 import pathlib
@@ -18,9 +18,9 @@ import time
 from concurrent.futures.process import BrokenProcessPool
 from typing import NamedTuple
 
-import zkr
+from . import zkr
 
-TOOLS = str(pathlib.Path(__file__).resolve().parent)
+PACKAGE = pathlib.Path(__file__).resolve().with_name("__init__.py")
 AHEAD = 4           # for each worker, how many chunks may be done before one that comes first
 LEAST_CHUNK, CHUNKS, MOST_IN_CHUNK = 1 << 23, 2048, 1024
 UNITS = ((1 << 30, "GB"), (1 << 20, "MB"), (1 << 10, "kB"))
@@ -99,7 +99,7 @@ class Strict(zkr.Words):
 
 
 def work(tool, options, paths):
-    """What a worker does: the partial result of a chunk."""
+    """What a worker does: the partial result of a chunk, by the module of this name."""
     return importlib.import_module(tool).partial(options, paths)
 
 
@@ -178,11 +178,13 @@ class Dask:
         self.most = 2 * self.count
 
     def submit(self, tool, options, paths):
-        def task(tools, *words):        # a function within a function is sent as its code
-            if tools not in sys.path:
-                sys.path.insert(0, tools)
-            return importlib.import_module("fleet").work(*words)
-        future = self.client.submit(task, TOOLS, tool, options, paths, pure=False)
+        def task(package, path, *words):        # a function within a function is sent as its code
+            if package not in sys.modules:
+                found = importlib.util.spec_from_file_location(package, path)
+                sys.modules[package] = importlib.util.module_from_spec(found)
+                found.loader.exec_module(sys.modules[package])
+            return importlib.import_module(f"{package}.fleet").work(*words)
+        future = self.client.submit(task, __package__, str(PACKAGE), tool, options, paths, pure=False)
         self.busy.add(future)
         return future
 
@@ -267,7 +269,7 @@ class Task(NamedTuple):
 def results(words, tool, options, paths, together=True):
     """The partial results of these recordings, each with the paths of its recordings, in their order. Where they aren't
     done `together`, each is a chunk."""
-    shown = Shown(tool, paths)
+    shown = Shown(tool.rpartition(".")[2], paths)
     parts = chunks(paths, shown.sizes) if together else [[path] for path in paths]
     waiting, busy, found = collections.deque(Task(number, 0, each) for number, each in enumerate(parts)), {}, {}
     engine, first = Dask(words.scheduler) if words.scheduler else Processes(words.jobs), 0

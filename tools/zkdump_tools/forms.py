@@ -10,9 +10,8 @@ import functools
 import json
 import re
 
-import listing
-import operations
-from listing import BLOCK, NUMBER, TEXT
+from . import listing, operations
+from .listing import BLOCK, NUMBER, TEXT
 
 READABLE, ASCII = json.JSONEncoder(ensure_ascii=False).encode, json.JSONEncoder().encode
 BLANKS = {9: " ", 10: " ", 13: " "}

@@ -5,13 +5,8 @@ import os
 import stat
 import subprocess
 
-import columns
-import facts
-import joined
-import listing
-import program
-import zkr
-from times import times_of
+from . import columns, facts, joined, listing, program, zkr
+from .times import times_of
 
 UNREAD = object()
 

@@ -4,8 +4,7 @@ import json
 import math
 import re
 
-import facts
-import listing
+from . import facts, listing
 
 WORD = re.compile(r"[A-Za-z0-9-]+", re.ASCII)
 SESSION = re.compile("0x[0-9a-f]{1,16}", re.ASCII)

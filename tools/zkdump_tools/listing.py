@@ -11,7 +11,7 @@ import contextlib
 import math
 import re
 
-import operations
+from . import operations
 
 BLOCK = 1 << 16
 STANDARD_INPUT = "-"

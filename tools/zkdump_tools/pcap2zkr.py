@@ -1,4 +1,3 @@
-#!/usr/bin/env -S sh -c '[ -d /dev/stdin ] && exec <&-; exec python3 "$0" "$@"'
 """Makes recordings of the ZooKeeper connections in a capture of tcpdump or Wireshark.
 
     pcap2zkr.py [--port N] [--late] CAPTURE PREFIX
@@ -38,12 +37,10 @@ import struct
 import sys
 import zlib
 
-import packets
-import resync
-import zkr
-from conversation import Conversation
-from recordings import Series
-from streams import MASK, Stream
+from . import packets, resync, zkr
+from .conversation import Conversation
+from .recordings import Series
+from .streams import MASK, Stream
 
 MOST_HELD, MOST_SILENT, MOST_LINGERING, MOST_OVER, MOST_PORTS = 1 << 25, 8192, 256, 8192, 8
 DAMAGED = (struct.error, IndexError, zlib.error)
@@ -258,7 +255,3 @@ def main():
     if not capture.begun:
         zkr.complain(f"{words.capture}: no connection to port {words.port}{capture.ports_heard()}")
     return 1 if capture.left_out or not capture.begun else 0
-
-
-if __name__ == "__main__":
-    sys.exit(main())

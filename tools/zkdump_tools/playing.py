@@ -5,9 +5,8 @@ import struct
 import sys
 import time
 
-import facts
-import zkr
-from frames import LENGTH, NEVER, end_of
+from . import facts, zkr
+from .frames import LENGTH, NEVER, end_of
 
 NAMES = {zkr.CLIENT: "client", zkr.SERVER: "server"}
 PING = bytes.fromhex("00000008fffffffe0000000b")            # a whole frame: its length, the xid -2, the operation 11

@@ -5,15 +5,15 @@ import shutil
 import subprocess
 
 OWN = ("share", "zkdump", "tools")     # where installed tools are, below the prefix
-HERE = pathlib.Path(__file__).resolve().parent
+TOOLS = pathlib.Path(__file__).resolve().parents[1]
 
 
 def found():
     """The program that was installed or built with these tools, or else the name of the one on the PATH."""
-    if HERE.parts[-len(OWN):] == OWN:
-        path = HERE.parents[len(OWN) - 1] / "bin" / "zkdump"
+    if TOOLS.parts[-len(OWN):] == OWN:
+        path = TOOLS.parents[len(OWN) - 1] / "bin" / "zkdump"
     else:
-        path = HERE.parent / "crates" / "zkdump" / "out" / "zkdump"
+        path = TOOLS.parent / "crates" / "zkdump" / "out" / "zkdump"
     return str(path) if path.exists() else "zkdump"
 
 

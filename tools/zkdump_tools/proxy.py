@@ -19,9 +19,9 @@ import socket
 import struct
 import time
 
-import zkr
-from addresses import address_text
-from printer import Printer
+from . import zkr
+from .addresses import address_text
+from .printer import Printer
 
 BLOCK = 65536
 READ, WRITE = selectors.EVENT_READ, selectors.EVENT_WRITE

@@ -1,4 +1,3 @@
-#!/usr/bin/env -S sh -c '[ -d /dev/stdin ] && exec <&-; exec python3 "$0" "$@"'
 """Records the connections of ZooKeeper clients, one file each, as a proxy in front of a server.
 
     record.py [HOST:]PORT SERVER:PORT PREFIX
@@ -9,18 +8,14 @@ or ends, it prints a line with the client's address and the time. The line of th
 (the client closed it first, by a FIN) or reset=S (the server reset it). Ctrl-C or SIGTERM ends the recorder.
 
 Every piece is in its file before it is passed on, so in the recording no reply comes before its request. The end of one
-direction is passed on, and so is a reset. Only their owner may read the files: they have everything that was said,
+direction is passed on, and so is a reset. Until its connection has ended, the facts beside a recording
+(NAME.facts.json) say that it is unfinished. Only their owner may read the files: they have everything that was said,
 including session passwords and the data of nodes.
 """
 
-import sys
 import time
 
-import addresses
-import contents
-import facts
-import proxy
-import zkr
+from . import addresses, contents, facts, proxy, zkr
 
 
 def now():
@@ -34,7 +29,7 @@ class Recording:
         self.recorder, self.connection, self.writer, self.words = recorder, connection, None, []
         self.path, self.recorded, self.begun = "-", None, now()
         try:
-            self.writer = self.recorded = recorder.series.next()
+            self.writer = self.recorded = recorder.series.next(self.known())
             self.path = self.writer.path
         except OSError as error:
             recorder.status = 3
@@ -71,15 +66,19 @@ class Recording:
         if self.recorded:
             self.write_facts(ended, how, incomplete)
 
+    def known(self):
+        """The facts that are known from the beginning on."""
+        head = self.recorder.series.head
+        return facts.Facts(
+            tool="record", client=self.connection.peer, server=self.recorder.server_text, connected=self.begun,
+            begun=self.begun, profile=zkr.RELEASES[head.profile] if head.form == "zkr2" else None)
+
     def write_facts(self, ended, how, incomplete):
         """Writes what is known of the connection beside its recording."""
-        known = {word: value or True for word, _, value in (each.partition("=") for each in how)}
+        words = {word: value or True for word, _, value in (each.partition("=") for each in how)}
         try:
-            session, head = contents.session_of(self.path), self.recorded.head
-            self.recorded.write_facts(facts.Facts(
-                tool="record", client=self.connection.peer, server=self.recorder.server_text, connected=self.begun,
-                begun=self.begun, ended=ended, session=session, hole=facts.SIDES if incomplete else (),
-                profile=zkr.RELEASES[head.profile] if head.form == "zkr2" else None, **known))
+            self.recorded.write_facts(self.known()._replace(
+                ended=ended, session=contents.session_of(self.path), hole=facts.SIDES if incomplete else (), **words))
         except OSError as error:
             self.recorder.status = 3
             self.recorder.complaints.print(f"{error.filename or self.path}: {error.strerror}; the session of "
@@ -129,7 +128,3 @@ def main():
     recorder.complaints.wait()  # the first lines on a terminal
     recorder.run(listeners)
     return recorder.status
-
-
-if __name__ == "__main__":
-    sys.exit(main())

@@ -6,7 +6,7 @@ import io
 import os
 import sys
 
-import zkr
+from . import zkr
 
 GATHERED, MOST_GATHERED, LEAST_GATHERED = 1 << 16, 1 << 23, 1 << 11
 BLOCKS = 64         # of a recording's end, in which something can be taken back

@@ -31,9 +31,7 @@ the frames from it on are not plausible for long (joined.py).
 import re
 import struct
 
-import frames
-import operations
-import zkr
+from . import frames, operations, zkr
 
 ENOUGH, MOST_KEPT = 3, 1 << 16
 EVENT, PING, AUTH, SET_WATCHES = -1, -2, -4, -8

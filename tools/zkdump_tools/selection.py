@@ -6,10 +6,7 @@ import itertools
 import operator
 import re
 
-import columns
-import forms
-import listing
-import zkr
+from . import columns, forms, listing, zkr
 
 MILLISECONDS = re.compile(r"\d{1,19}", re.ASCII)
 MICROSECONDS = re.compile(r"[.,]\d{6}", re.ASCII)

@@ -11,8 +11,8 @@ import collections
 import heapq
 from typing import NamedTuple
 
-import zkr
-from packets import ACK, FIN, RST, SYN
+from . import zkr
+from .packets import ACK, FIN, RST, SYN
 
 SIDES = (zkr.CLIENT, zkr.SERVER)
 WRAP, MASK = 1 << 31, (1 << 32) - 1

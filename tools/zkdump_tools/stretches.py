@@ -17,9 +17,8 @@ What is held back when the connection ends is kept: no reply to it was captured.
 import collections
 from typing import NamedTuple
 
-import resync
-import zkr
-from streams import SIDES
+from . import resync, zkr
+from .streams import SIDES
 
 EVENT, PING, *OTHERS = (xid.to_bytes(4, "big", signed=True) for xid in (resync.EVENT, *resync.LANES))
 LANES = (PING, *OTHERS)

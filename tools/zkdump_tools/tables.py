@@ -3,8 +3,7 @@
 import json
 import re
 
-import facts
-import zkr
+from . import facts, zkr
 
 PERCENTS = (50, 95, 99)
 COUNTS = ("asked", "answered", "failed")

@@ -4,11 +4,8 @@ import os
 import re
 import struct
 
-import contents
-import listing
-import operations
-import zkr
-from frames import LARGEST, Beginning
+from . import contents, files, listing, operations, zkr
+from .frames import LARGEST, Beginning
 
 LETTERS = {zkr.CLIENT: "C", zkr.SERVER: "S"}
 LENGTH_AND_XID = struct.Struct(">ii")
@@ -134,11 +131,12 @@ class Times:
 
 def times_of(parser, path, beside, foreign):
     """The times of the messages of the recording at this path: in the file `beside`, where that is named; else in the
-    recording, or in the usual file. None if there are none, unless the listing is `foreign`, which needs them."""
-    pieces = zkr.Reader(open(path, "rb"))
-    if pieces.head.form == "zkr2" and not beside:
-        return Times(pieces, None, foreign)
+    usual file, whose times have decimals, or in the recording. None if there are none, unless the listing is `foreign`,
+    which needs them."""
+    pieces = zkr.Reader(files.open_again(path, files.RECORDING))
     if not beside and not os.path.exists(zkr.times_path(path)):
+        if pieces.head.form == "zkr2":
+            return Times(pieces, None, foreign)
         if foreign:
             parser.error(f"{path} has no times: name a file of them with --times FILE")
         return None

@@ -1,4 +1,3 @@
-#!/usr/bin/env -S sh -c '[ -d /dev/stdin ] && exec <&-; exec python3 "$0" "$@"'
 """Checks many recordings at once, by zkdump check.
 
     zkfleet.py check [--jobs N | --scheduler ADDRESS] [--all] [--json] [--profile RELEASE] DIR|LIST ..
@@ -14,11 +13,7 @@ import os
 import subprocess
 import sys
 
-import fleet
-import listing
-import program
-import tables
-import zkr
+from . import fleet, listing, program, tables, zkr
 
 PLACES = ("side", "reason", "place")
 
@@ -57,7 +52,7 @@ def check(words, path):
 
 def endings(words):
     """Each recording with its ending and its size, or with an Unread."""
-    for paths, found in fleet.results(words, "zkfleet", sys.argv[1:], paths_of(words.inputs)):
+    for paths, found in fleet.results(words, __name__, sys.argv[1:], paths_of(words.inputs)):
         yield from zip(paths, [found] if isinstance(found, fleet.Unread) else found)
 
 
@@ -114,7 +109,3 @@ def main():
                   f"{tables.plain(path)}: {tables.ending(ending, None)}")
     print(json.dumps(found.summary()) if words.json else "\n".join(found.lines()))
     return 0 if set(found.endings) <= {"whole"} else 1
-
-
-if __name__ == "__main__":
-    sys.exit(zkr.tool(main))

@@ -1,4 +1,3 @@
-#!/usr/bin/env -S sh -c '[ -d /dev/stdin ] && exec <&-; exec python3 "$0" "$@"'
 """Makes JSON of listings and recordings: one object a line, for jq and for programs.
 
     zkjson.py [--recording REC.zkr [--times FILE]] [CHOICE ..] [FILE ..]
@@ -28,13 +27,7 @@ import shutil
 import sys
 import tempfile
 
-import columns
-import fleet
-import forms
-import inputs
-import listing
-import selection
-import zkr
+from . import columns, fleet, forms, inputs, listing, pythons, selection, zkr
 
 FAILS = re.compile(rf" zxid={listing.NUMBER} err=", re.ASCII)
 PART = re.compile(r"([{;])([A-Za-z]+)", re.ASCII)
@@ -222,7 +215,7 @@ def write_parts(parser, words, out):
     how many connections have messages that choices by time left out."""
     missing, untimed = False, 0
     with tempfile.TemporaryDirectory(prefix="zkjson-") as folder:
-        for (path,), result in fleet.of_inputs(parser, words, "zkjson", "--parts", folder):
+        for (path,), result in fleet.of_inputs(parser, words, __name__, "--parts", folder):
             if isinstance(result, fleet.Unread):
                 missing = True
                 print(f'{head_of(path)}, "ending": "unread", "reason": {forms.readable(result.reason)}}}',
@@ -241,6 +234,7 @@ def write_parts(parser, words, out):
 
 def main():
     parser, words = words_of()
+    pythons.continue_with_numpy(words)
     sys.stdout.reconfigure(encoding="utf-8")
     if fleet.is_asked(words):
         missing, untimed = write_parts(parser, words, sys.stdout)
@@ -249,7 +243,3 @@ def main():
         missing, untimed = write_all(parser, words, progress, sys.stdout)
     selection.complain(untimed)
     return 1 if missing or untimed else 0
-
-
-if __name__ == "__main__":
-    sys.exit(zkr.tool(main))

@@ -1,4 +1,3 @@
-#!/usr/bin/env -S sh -c '[ -d /dev/stdin ] && exec <&-; exec python3 "$0" "$@"'
 """Plays the server of a recording to a client: a test bench without a ZooKeeper.
 
     zkplay.py [OPTIONS] [HOST:]PORT RECORDING
@@ -28,14 +27,7 @@ import sys
 import threading
 import time
 
-import addresses
-import contents
-import facts
-import frames
-import playing
-import program
-import running
-import zkr
+from . import addresses, contents, facts, frames, playing, program, running, zkr
 
 LONGEST_WAIT = 1_000_000
 MOST_CONNECTIONS = range(1, 10_001)
@@ -115,16 +107,18 @@ class Bench:
         path, open_recording = self.openers[number % len(self.openers)]
         try:
             with connection:
-                writer = self.series.next() if self.series else None
-                play = playing.Play(open_recording, self.own, connection, self.words.wait, self.faults, writer)
                 ends = [addresses.address_text(each) for each in (peer, connection.getsockname())]
+                client, server = ends if self.own == zkr.SERVER else reversed(ends)
                 begun = time.time() * 1000
+                known = facts.Facts(tool="zkplay", client=client, server=server, connected=begun, begun=begun)
+                writer = self.series.next(known) if self.series else None
+                play = playing.Play(open_recording, self.own, connection, self.words.wait, self.faults, writer)
                 try:
                     play.run()
                 finally:
                     play.close()
                     if writer:
-                        self.end(writer, play, begun, *(ends if self.own == zkr.SERVER else reversed(ends)))
+                        self.end(writer, play, known)
             self.print(sys.stdout, f"{head}played: {play.counts()}")
         except (ValueError, OSError) as error:
             self.fail(error, head + (f"{path}: " if isinstance(error, zkr.Damaged) else ""))
@@ -134,12 +128,11 @@ class Bench:
         self.status = max(self.status, 3 if isinstance(error, OSError) else 1)
         self.print(sys.stderr, running.shown(f"zkplay.py: {head}{running.described(error)}"))
 
-    def end(self, writer, play, begun, client, server):
+    def end(self, writer, play, known):
         """Ends a recording, and writes its facts."""
         writer.close()
-        writer.write_facts(facts.Facts(
-            tool="zkplay", client=client, server=server, connected=begun, begun=begun, ended=time.time() * 1000,
-            session=contents.session_of(writer.path), hole=play.hole, **play.ended))
+        writer.write_facts(known._replace(ended=time.time() * 1000, session=contents.session_of(writer.path),
+                                          hole=play.hole, **play.ended))
 
     def print(self, stream, line):
         """Prints a line, if the stream is open."""
@@ -219,7 +212,3 @@ def main():
     listeners = addresses.listen(words.address)
     print(f"listening on {addresses.address_text(listeners[0].getsockname())}", flush=True)
     return bench.run(clients(listeners, words.connections))
-
-
-if __name__ == "__main__":
-    sys.exit(zkr.tool(main))

@@ -19,12 +19,11 @@ import re
 import struct
 from typing import NamedTuple, Optional
 
-import facts
-import frames
-from newfile import NewFile, flush
-from operations import PROFILES
-from running import (Progress, allow_many_files, complain, hold_standard_streams, drop_standard_output,  # noqa: F401
-                     report, shown, standard_input, tool)
+from . import facts, files, frames
+from .newfile import NewFile, flush
+from .operations import PROFILES
+from .running import (Progress, allow_many_files, complain, hold_standard_streams, drop_standard_output,  # noqa: F401
+                      report, shown, standard_input, tool)
 
 CLIENT, SERVER = b"C", b"S"
 OTHER = {CLIENT: SERVER, SERVER: CLIENT}
@@ -192,7 +191,7 @@ def times_path(path):
 
 def read_times(path):
     """The times in a file of times, one for each piece of its recording, as the file spells them."""
-    with open(path, encoding="ascii", errors="replace") as lines:
+    with files.open_again(path, mode="r", encoding="ascii", errors="replace") as lines:
         for number, line in enumerate(iter(lambda: lines.readline(LONGEST_TIME), ""), 1):
             if not TIME.fullmatch(line):
                 raise ValueError(f"{path}: line {number} is not a time: a line has milliseconds since 1970, as "
@@ -205,7 +204,7 @@ def times_beside(path, beside=None):
     ValueError where that has another number of times than the recording has pieces."""
     beside = beside or times_path(path)
     times = sum(1 for _ in read_times(beside))
-    with open(path, "rb") as recording:
+    with files.open_again(path, files.RECORDING) as recording:
         pieces = Reader(recording).count()
     if times != pieces:
         raise ValueError(f"{beside} has {times} times, and {path} {pieces} pieces: these are not the times of this "
@@ -222,17 +221,22 @@ class Cutter(frames.Cutter):
 
 class Writer:
     """A new recording, with a file of times where `times` is true. The bytes given to `piece` are in the file once it
-    returns; `gather` says how many bytes may be gathered first. An OSError leaves whole pieces, and a time for each."""
+    returns; `gather` says how many bytes may be gathered first. An OSError leaves whole pieces, and a time for each.
+    The facts that are `known`, if any, are beside it first, and say that it is unfinished."""
 
-    def __init__(self, path, head, times, gather=0):
+    def __init__(self, path, head, times, gather=0, known=None):
         self.path, self.head, self.gather, self.timed = path, head, gather, times or head.form == "zkr2"
         self.usual = PIECE_HEADS["zkr1"].pack if head.form == "zkr1" else None
         self.count = {CLIENT: 0, SERVER: 0}
-        if os.access(facts.facts_path(path), os.F_OK):
-            raise FileExistsError(errno.EEXIST, "File exists", facts.facts_path(path))
-        self.recording, self.times = NewFile(path), None
-        self.files = [self.recording]
+        for each in (path, facts.facts_path(path)):
+            if os.access(each, os.F_OK):
+                raise FileExistsError(errno.EEXIST, "File exists", each)
+        self.files, self.begun, self.times = [], False, None
         try:
+            if known:
+                self.begin(known)
+            self.recording = NewFile(path)
+            self.files.append(self.recording)
             if times:
                 self.times = NewFile(times_path(path))
                 self.files.append(self.times)
@@ -242,6 +246,14 @@ class Writer:
         except OSError:
             self.remove()
             raise
+
+    def begin(self, known):
+        """Writes the facts that are known from the beginning on."""
+        try:
+            facts.begin(self.path, known)
+        except OSError as error:
+            raise OSError(error.errno, error.strerror, self.path) from error
+        self.begun = True
 
     def piece(self, side, milliseconds, data):
         """Writes any number of bytes of a side as pieces. Their time is the same in both files, to a microsecond."""
@@ -298,14 +310,16 @@ class Writer:
 
     def write_facts(self, found):
         """Writes the facts of the recording, which is closed."""
-        facts.write(self.path, found, self.times and self.times.path)
+        facts.write(self.path, found, self.times and self.times.path, self.begun)
 
     def remove(self, all_of_it=True):
-        """Closes the recording and its times, and removes them."""
+        """Closes the recording and its times, and removes them and its facts."""
         for file in self.files:
             file.file.close()
             if all_of_it:
                 pathlib.Path(file.path).unlink(missing_ok=True)
+        if all_of_it and self.begun:
+            pathlib.Path(facts.facts_path(self.path)).unlink(missing_ok=True)
 
 
 class Series:
@@ -314,11 +328,12 @@ class Series:
     def __init__(self, prefix, head, times, gather=0):
         self.prefix, self.head, self.times, self.gather, self.number = prefix, head, times, gather, 0
 
-    def next(self):
+    def next(self, known=None):
+        """The next recording, beside which are the facts that are `known`, if any."""
         while True:
             self.number += 1
             try:
-                return Writer(f"{self.prefix}-{self.number}.zkr", self.head, self.times, self.gather)
+                return Writer(f"{self.prefix}-{self.number}.zkr", self.head, self.times, self.gather, known)
             except FileExistsError:
                 continue
 
@@ -359,8 +374,9 @@ class Words(argparse.ArgumentParser):
 
     def add_format(self):
         """The options that say how recordings are written."""
-        self.add_argument("--times", action="store_true", help="write RECORDING.times, too: a line for each piece, "
-                          "its milliseconds since 1970")
+        self.add_argument("--no-times", dest="times", action="store_false", help="write no RECORDING.times, which has "
+                          "a line for each piece: its milliseconds since 1970")
+        self.add_argument("--times", action="store_true", default=True, help=argparse.SUPPRESS)     # it is usual
         self.add_argument("--format", choices=("zkr1", "zkr2"), default="zkr1",
                           help="zkr2 has a time in each piece, and in its head these three numbers:")
         self.add_number("--limit", LIMITS, help=f"the greatest payload of a frame ({USUAL_LIMIT})")

@@ -1,4 +1,3 @@
-#!/usr/bin/env -S sh -c '[ -d /dev/stdin ] && exec <&-; exec python3 "$0" "$@"'
 """Makes a capture of recordings, which Wireshark and tcpdump open.
 
     zkr2pcap.py [--port N] REC.zkr [REC.zkr ..] CAPTURE.pcap
@@ -13,13 +12,10 @@ may read it: it has everything that was said.
 import heapq
 import os
 import struct
-import sys
 from typing import NamedTuple
 
-import contents
-import facts
-import zkr
-from packets import ACK, ETHERNET, FIN, SYN
+from . import contents, facts, zkr
+from .packets import ACK, ETHERNET, FIN, SYN
 
 PUSH = 8
 CLIENT_HOST, SERVER_HOST = b"\x0a\0\0\1", b"\x0a\0\0\2"
@@ -121,7 +117,8 @@ def packets(path, reader, client, server):
     """The packets of a recording, each with its time in nanoseconds and the port of its client."""
     times = contents.times_beside(path) if os.path.exists(zkr.times_path(path)) else None
     known = facts.facts_of(path)
-    segments = conversation(timed(path, reader, times), close=not (known and (known.open or known.hole)))
+    ends = not (known and (known.open or known.hole or known.unfinished))
+    segments = conversation(timed(path, reader, times), close=ends)
     return ((sent.milliseconds, client, ETHERNET_HEAD + ipv4(sent.side, tcp(sent, client, server)))
             for sent in segments)
 
@@ -158,7 +155,3 @@ def main():
         os.unlink(words.capture)
         raise OSError(error.errno, error.strerror, error.filename or words.capture) from error
     return 0
-
-
-if __name__ == "__main__":
-    sys.exit(zkr.tool(main))

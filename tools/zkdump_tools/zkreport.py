@@ -1,4 +1,3 @@
-#!/usr/bin/env -S sh -c '[ -d /dev/stdin ] && exec <&-; exec python3 "$0" "$@"'
 """Reports what happened on many connections, as a page for a browser, as text, or as a trace.
 
     zkreport.py [-o REPORT.html] [--text] [--trace TRACE.json] [--against OTHER] [--port N] [CHOICE ..] INPUT ..
@@ -20,15 +19,11 @@ The page has no passwords of sessions and no credentials, but it has data of nod
 import contextlib
 import itertools
 import os
-import sys
 import tempfile
 
-import fleet
-import program
-import selection
-import zkr
-from inputs import refuse_repetition
-from report import against, gather, merged, messages, page, sources, summary, text, trace
+from . import fleet, program, selection, zkr
+from .inputs import refuse_repetition
+from .report import against, gather, merged, messages, page, sources, summary, text, trace
 
 NAMED = 6       # the files that a page's title names
 
@@ -144,7 +139,7 @@ def partial(options, paths):
 def read_all(parser, words):
     """The summary of many files; what can't be read is a connection without a message. And whether there was such."""
     found, unread = merged.Merged(), False
-    for (path,), result in fleet.of_inputs(parser, words, "zkreport"):
+    for (path,), result in fleet.of_inputs(parser, words, __name__):
         if isinstance(result, fleet.Unread):
             found.add_unread(sources.Source(path, os.path.basename(path)), result.reason)
             unread = True
@@ -179,7 +174,3 @@ def main():
     if words.text:
         write_text(found, compared)
     return 1 if is_incomplete(found) or compared and compared["first"] else 0
-
-
-if __name__ == "__main__":
-    sys.exit(zkr.tool(main))

@@ -1,4 +1,3 @@
-#!/usr/bin/env -S sh -c '[ -d /dev/stdin ] && exec <&-; exec python3 "$0" "$@"'
 """Leaves out of a recording the requests that a release lacks, with their replies, so that zkdump reads all the rest.
 
     zkskip.py [--profile RELEASE] REC.zkr PLAIN.zkr
@@ -16,10 +15,7 @@ import os
 import struct
 import sys
 
-import contents
-import facts
-import operations
-import zkr
+from . import contents, facts, operations, zkr
 
 OF_PROFILE = {profile: {each.number for each in operations.ALL if each.release and each.release <= profile}
               for profile in zkr.PROFILES}
@@ -195,7 +191,3 @@ def skip_all(words):
         if known and words.target:
             out.write_facts(known)
         zkr.report(f"left out: {skipping.requests} requests, {skipping.replies} replies")
-
-
-if __name__ == "__main__":
-    sys.exit(zkr.tool(main))

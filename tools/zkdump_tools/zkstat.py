@@ -1,4 +1,3 @@
-#!/usr/bin/env -S sh -c '[ -d /dev/stdin ] && exec <&-; exec python3 "$0" "$@"'
 """Counts conversations: requests, replies, errors and latencies of each operation and each connection, events, the
 slowest requests, and those without a reply.
 
@@ -19,15 +18,8 @@ import itertools
 import json
 import sys
 
-import columns
-import counted
-import fleet
-import inputs
-import listing
-import selection
-import tables
-import zkr
-from histogram import Histogram
+from . import columns, counted, fleet, inputs, listing, pythons, selection, tables, zkr
+from .histogram import Histogram
 
 SLOWEST = 20
 LONGEST_PATH = 1000
@@ -269,10 +261,11 @@ def partial(options, paths):
 
 def main():
     parser, words = words_of()
+    pythons.continue_with_numpy(words)
     sys.stdout.reconfigure(errors="backslashreplace")
     found = Statistics(selection.Selection(words))
     if fleet.is_asked(words):
-        for paths, result in fleet.of_inputs(parser, words, "zkstat", together=True):
+        for paths, result in fleet.of_inputs(parser, words, __name__, together=True):
             found.take(paths[0], result)
     else:
         read(parser, words, found, zkr.Progress("zkstat"))
@@ -283,7 +276,3 @@ def main():
             print(line.rstrip())
     selection.complain(found.untimed)
     return 1 if found.has_hole or found.has_unread or found.untimed else 0
-
-
-if __name__ == "__main__":
-    sys.exit(zkr.tool(main))

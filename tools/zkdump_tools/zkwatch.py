@@ -1,4 +1,3 @@
-#!/usr/bin/env -S sh -c '[ -d /dev/stdin ] && exec <&-; exec python3 "$0" "$@"'
 """A proxy that shows the messages of the ZooKeeper connections through it, as they pass.
 
     zkwatch.py [--zkdump PATH] [--profile RELEASE] [--limit N] [--once] [HOST:]PORT SERVER:PORT
@@ -23,12 +22,8 @@ import subprocess
 import sys
 import time
 
-import addresses
-import program
-import proxy
-import zkr
-import zkskip
-from proxy import READ, WRITE
+from . import addresses, program, proxy, zkr, zkskip
+from .proxy import READ, WRITE
 
 BLOCK = 65536
 MOST_WAITING = 1 << 26
@@ -282,7 +277,3 @@ def main():
     watch.say(f"listening on {addresses.address_text(listeners[0].getsockname())}")
     watch.run(listeners)
     return 0
-
-
-if __name__ == "__main__":
-    sys.exit(zkr.tool(main))

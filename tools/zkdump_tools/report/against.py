@@ -11,7 +11,7 @@ import itertools
 import json
 import re
 
-from report import gather, messages, summary, text
+from . import gather, messages, summary, text
 
 STAT = re.compile(r'"[^"]*"|stat=\((?:-?\d+,){4}((?:-?\d+,){3})(-?\d+),(-?\d+,-?\d+),-?\d+\)')
 CONNECT_FIELDS = re.compile(r" (?:zxid=-?\d+|session=-?\d+|passwd=\S+)")

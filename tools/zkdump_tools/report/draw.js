@@ -21,7 +21,7 @@ function duration(ms) {
 
 const LATEST = 253402300800000;     // the end of the year 9999
 
-// A time as tools/zkr.py's clock has it: after the year 9999 its milliseconds since 1970, of which a text has the digits.
+// A time as zkdump_tools/zkr.py's clock has it: after the year 9999 its milliseconds since 1970, of which a text has the digits.
 function iso(ms) {
   return ms < LATEST ? new Date(Math.floor(ms)).toISOString() : `${typeof ms === "string" ? ms : BigInt(Math.floor(ms))} ms`;
 }

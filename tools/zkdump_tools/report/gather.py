@@ -3,10 +3,9 @@
 import collections
 import json
 
-import listing
-import zkjson
-from histogram import Histogram
-from report import kept, paths, sources, watching
+from .. import listing, zkjson
+from ..histogram import Histogram
+from . import kept, paths, sources, watching
 
 CLOSE = "closeSession"
 HEARD = {listing.CONNECT, CLOSE}         # the operations that a Heard takes

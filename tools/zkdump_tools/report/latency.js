@@ -1,6 +1,7 @@
 // The picture of the requests: latency against time. A mark is larger the longer its request took. Where marks would hide
 // each other, a shade shows how many there are, and the slowest of them keeps its mark if that is large. Where the page has
-// not every request, a shade shows how many there were. The failed ones are drawn first, below all else.
+// not every request, a shade shows how many there were, and the failed ones, of which it has the slowest, have no marks.
+// Else the failed ones are drawn first, below all else. Two lines show the median and the 99th percentile over time.
 
 const TALL = 260, BAND = 22, FOOT = 40;
 const CELL = 5, CROWD = 3;                  // pixels of a side, and how many marks it has before it is a shade
@@ -20,7 +21,7 @@ function latencyAxis(indices) {
     if (requests.ms[i] > 0) low = Math.min(low, requests.ms[i]);
     if (requests.ms[i] > high) high = requests.ms[i];
   }
-  if (showsDensity()) low = Math.min(low, 10 ** (leastBin() / BINS_OF_TEN + LEAST_EXPONENT));
+  if (showsDensity()) low = Math.min(low, leastOfDensity());
   if (low === Infinity) {
     if (!indices.some(i => requests.ms[i] === 0)) return null;
     low = 1;              // all of them are shorter than a time's unit
@@ -36,12 +37,13 @@ function showsDensity() {
   return !data.complete && filter.path === "" && filter.op === "" && filter.outcome === "" && filter.slower === null;
 }
 
-function leastBin() {
-  let least = BINS - 1;
+// The least latency that the density has; Infinity where no request has a time.
+function leastOfDensity() {
+  let least = Infinity;
   for (const cells of Object.values(data.density.cells)) {
     for (let i = 1; i < cells.length; i += 3) least = Math.min(least, cells[i]);
   }
-  return least;
+  return 10 ** (least / BINS_OF_TEN + LEAST_EXPONENT);
 }
 
 function drawLatency(indices) {
@@ -64,11 +66,12 @@ function drawLatency(indices) {
   pen.clip();
   latency.indices = indices;
   latency.marks = [];
-  for (const kind of [FAILED, OK, UNANSWERED]) {
+  for (const kind of showsDensity() ? [OK, UNANSWERED] : [FAILED, OK, UNANSWERED]) {
     if (kind === OK && axis && showsDensity()) drawDensity(pen, axis, to, colour);
     pen.fillStyle = colour(OUTCOMES[kind]);
     drawMarks(pen, indices.filter(i => outcome(i) === kind), kind, axis, to);
   }
+  if (axis) drawQuantiles(pen, trend(indices), axis, to, colour);
   if (latency.at >= 0) ring(pen, latency.at, colour);
   pen.restore();
   if (latency.drag) {

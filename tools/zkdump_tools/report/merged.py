@@ -1,7 +1,7 @@
 """Adds what was found of each of many files, by another process, to what was found of those before."""
 
-import listing
-from report import gather, kept
+from .. import listing
+from . import gather, kept
 
 
 class Merged:

@@ -3,6 +3,7 @@
 const panel = document.getElementById("messages");
 const SHOWN_FIRST = 5;
 const HEAD_FIELDS = new Set(["n", "side", "xid", "op", "path", "at", "ms", "of", "asked", "err", "errName"]);
+const DATES = new Set(["ctime", "mtime"]);      // of a stat: milliseconds since 1970
 let opened = null;      // the connection, the message, and the first and last index that are shown
 
 function openMessages(connection, n) {
@@ -111,6 +112,7 @@ function fieldsOf(each, connection) {
 // A field's value: data in both spellings, lists and parts element by element.
 function valueOf(name, value) {
   const text = told => [element("span", { text: told })];
+  if (DATES.has(name) && (typeof value === "number" || typeof value === "string")) return text(`${iso(value)} (${value})`);
   if (value === null || typeof value === "number" || typeof value === "boolean") return text(String(value));
   if (name === "blob") return dataOf(value);
   if (typeof value === "string") return text(visible(value));

@@ -5,8 +5,8 @@ import json
 import re
 import secrets
 
-import listing
-from report import gather, paths
+from .. import listing
+from . import gather, paths
 
 AROUND = 5
 ALL = 2_000                  # a run of no more messages has all of them in its page

@@ -43,6 +43,7 @@ function draw() {
   const indices = matching();
   drawSessions(indices);
   drawLatency(indices);
+  drawTrends(indices);
   drawTables(indices);
   document.getElementById("matched").textContent = isFiltered()
     ? `${count(indices.length)} of ${count(requests.count)} requests${data.complete ? "" : " that are in the page"}` : "";
@@ -101,15 +102,16 @@ function head() {
   document.getElementById("warnings").append(...data.warnings.map(text => element("p", { class: "failed", text: `Not read: ${visible(text)}` })));
   const one = (name, value, kind = "") => element("li", { class: value ? kind : "" },
     element("b", { text: count(value) }), ` ${name}`);
+  const some = (name, value) => one(value === 1 ? name : `${name}s`, value);
   document.getElementById("counts").append(
-    one("sessions", data.sessions.length), one("connections", data.counts.connections), one("requests", data.counts.asked),
+    some("session", data.sessions.length), some("connection", data.counts.connections), some("request", data.counts.asked),
     one("failed", data.counts.failed, "failed"), one("unanswered", data.counts.unanswered, "unanswered"),
-    ...(data.counts.notCaptured ? [one("replies not captured", data.counts.notCaptured)] : []), one("events", data.counts.events), one("messages", data.counts.messages));
+    ...(data.counts.notCaptured ? [one("replies not captured", data.counts.notCaptured)] : []), some("event", data.counts.events), some("message", data.counts.messages));
   data.sessions.forEach((_, number) => field("session").append(element("option", { value: sessionKeys[number], text: visible(sessionName(number)) })));
   [...data.tables.operations.rows].map(row => row[0]).sort().forEach(op => field("op").append(element("option", { value: op, text: visible(op) })));
   field("from").placeholder = timed ? place(0) : "1";
   field("to").placeholder = timed ? place(whole[1]) : String(whole[1]);
-  document.getElementById("hint").textContent = `${data.complete ? "Each mark is a request, larger the longer it took; where there are many, a shade shows how many." : "There were too many requests to draw each: the shade shows how many there were. Marks are the slowest, larger the longer they took, the unanswered, and the failed or some of them, which are behind the others. The red part of a bar is the share of requests that failed."} Drag over the picture to choose a time; a double click takes that back. A bar or a mark leads to its messages.`;
+  document.getElementById("hint").textContent = `${data.complete ? "Each mark is a request, larger the longer it took; where there are many, a shade shows how many." : "There were too many requests to draw each: the shade shows how many there were. Marks are the slowest of those that did not fail, larger the longer they took, and the unanswered. The red part of a bar is the share of requests that failed."} Drag over the picture to choose a time; a double click takes that back. A bar or a mark leads to its messages.`;
 }
 
 head();

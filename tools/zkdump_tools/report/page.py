@@ -7,12 +7,12 @@ import json
 import pathlib
 import re
 
-import listing
-from report import kept, paths, summary, text
-from report.messages import exact
+from .. import listing
+from . import kept, paths, summary, text
+from .messages import exact
 
 HERE = pathlib.Path(__file__).resolve().parent
-SCRIPTS = ("model.js", "draw.js", "sessions.js", "latency.js", "tables.js", "messages.js", "page.js")
+SCRIPTS = ("model.js", "draw.js", "sessions.js", "trends.js", "latency.js", "tables.js", "messages.js", "page.js")
 
 
 def page(title, found, messages, compared=None):
@@ -116,7 +116,8 @@ def connection_of(each):
     return {"name": each.name, "label": each.label, "server": about.server, "begun": exact(begun), "ended": exact(ended),
             "messages": each.messages, "refused": each.is_refused(), "closed": summary.closed_by(each),
             "end": summary.ending_of(each), "first": each.first and each.first.number,
-            "hole": "hole" in about.notes or bool(ending) and ending["ending"] != "whole"}
+            "hole": not {"hole", "unfinished"}.isdisjoint(about.notes) or
+            bool(ending) and ending["ending"] != "whole"}
 
 
 def session_of(session):

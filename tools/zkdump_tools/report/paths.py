@@ -3,7 +3,7 @@
 import hashlib
 from typing import NamedTuple
 
-import listing
+from .. import listing
 
 LONGEST, FRONT = 300, 100       # characters of a path's spelling in a line, and of the front of a longer one
 

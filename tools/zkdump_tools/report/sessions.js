@@ -65,7 +65,7 @@ function pattern(svg) {
 function label(svg, row, top, high) {
   const { session, number } = row;
   const link = shape("a", { href: "#", class: "label" }, svg,
-    `${sessionName(number)}: ${session.connections.length} connections, ${session.end}`);
+    `${sessionName(number)}: ${session.connections.length} connection${session.connections.length === 1 ? "" : "s"}, ${session.end}`);
   shape("text", { x: 0, y: top + high / 2 + 4 }, link).textContent = visible(session.id ?? `session unknown`);
   link.addEventListener("click", event => {
     event.preventDefault();
@@ -157,6 +157,7 @@ const LEGEND = [
   ["closed", "closed"], ["reset", "reset, or the session was refused"], ["still", "end not recorded"],
   ["hole", "bytes are missing, or the recording ends early"], ["gap", "gap between a session's connections"],
   ["ok", "answered"], ["failed", "failed"], ["unanswered", "unanswered"],
+  ["p50", "p50: half of the replies took no longer"], ["p99", "p99: 99 of a hundred took no longer"],
 ];
 
 function drawLegend() {
@@ -167,6 +168,7 @@ function drawLegend() {
     svg.setAttribute("aria-hidden", "true");
     const bar = shape("g", { class: sign === "gap" ? "gap" : "bar" }, svg);
     if (sign === "gap") shape("line", { x1: 1, x2: 21, y1: 8, y2: 8 }, bar);
+    else if (sign === "p50" || sign === "p99") shape("path", { class: sign, d: "M1,11h7v-5h7v3h6" }, svg);
     else if (sign === "ok") shape("circle", { class: "mark ok", cx: 12, cy: 8, r: 2.6 }, bar);
     else if (sign === "failed") shape("path", { class: "mark failed", d: "M12,3.5l4.5,4.5l-4.5,4.5l-4.5,-4.5z" }, bar);
     else if (sign === "unanswered") shape("path", { class: "mark unanswered", d: "M7.5,4h9l-4.5,8.5z" }, bar);

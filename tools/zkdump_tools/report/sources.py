@@ -10,12 +10,9 @@ import subprocess
 import sys
 import tempfile
 
-import facts
-import inputs
-import listing
-import zkr
+from .. import facts, inputs, listing, zkr
 
-TOOLS = pathlib.Path(__file__).resolve().parent.parent
+TOOLS = pathlib.Path(__file__).resolve().parents[2]
 LISTINGS = re.compile(rb"[CS] |\. |\{")
 CAPTURED = re.compile(r"(.+) (\S+) > (\S+) begun (\S+)(?: ended (\S+))?((?: \S+)*)")
 PART = re.compile(r"-(\d+)(?:\.(\d+))?\.zkr")
@@ -41,7 +38,7 @@ class Source:
 
     def has_hole(self):
         """Whether bytes of the connection are known to be missing."""
-        return not {"hole", "lost"}.isdisjoint(self.notes)
+        return not {"hole", "lost", "unfinished"}.isdisjoint(self.notes)
 
     def take_facts(self, known, parts):
         """Takes the facts of the recording, or None. `parts` has the first part of each connection that has several,

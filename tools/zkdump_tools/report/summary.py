@@ -7,8 +7,8 @@ the connection's number and the message's number that the row leads to.
 import collections
 from typing import NamedTuple
 
-import tables
-from report import gather
+from .. import tables
+from . import gather
 
 SLOWEST, ROWS, MOST_CONNECTIONS, MOST_SESSIONS = 20, 50, 300, 200
 SIDES = {"C": "client", "S": "server"}
@@ -141,6 +141,8 @@ def closed_by(connection):
         return f"{SIDES.get(side, side)}: {error}"
     if "open" in notes:
         return "open at the end"
+    if "unfinished" in notes:
+        return "not known: the recording is unfinished"
     return "not known: bytes are missing" if "hole" in notes else "not recorded"
 
 

@@ -1,8 +1,7 @@
 """The tables of a report as text for a terminal, in printable ASCII."""
 
-import tables
-import zkr
-from report import paths, summary
+from .. import tables, zkr
+from . import paths, summary
 
 NUMBERS = ("count", "ms", "length", "connection")
 ROWS, WHOLE = 20, ("sessions", "connections", "operations", "errors")

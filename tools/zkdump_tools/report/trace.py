@@ -6,8 +6,8 @@ at once; events of watches are instants. Times are microseconds since 1970.
 
 import json
 
-import zkr
-from report import paths
+from .. import zkr
+from . import paths
 
 MOST = 2 ** 53
 

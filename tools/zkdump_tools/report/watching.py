@@ -2,9 +2,8 @@
 
 import json
 
-import listing
-import operations
-from report import paths
+from .. import listing, operations
+from . import paths
 
 WATCHING = {operation.name for operation in operations.ALL if "watch:bit" in operation.request.split()}
 WATCH_LISTS = ("dataWatches", "existWatches", "childWatches")

@@ -6,7 +6,7 @@
  * Standard output gets blocks, each a `struct head`, then its records, patches, paths and text. The first block has
  * names of numbers as text, and the last one the requests that wait and the ending line. A message's text is its JSON
  * after HEAD (--json), or its time as it is spelled and its line (--lines), or where a double isn't exact its time and
- * that of its request. tools/columns.py reads the blocks, and tools/listing.py, over the lines of `zkdump show`, is the
+ * that of its request. zkdump_tools/columns.py reads the blocks, and zkdump_tools/listing.py, over the lines of `zkdump show`, is the
  * plain form of all that is said here. The status is 4 if nothing was written since the recording's head or its times
  * are for the plain form to report. */
 #include "state.h"

@@ -1,5 +1,5 @@
 /* JSON of a message: tools/zkjson.py's plain form is the model, byte for byte (`short`, `pieces`; the names of the
- * fields are those of tools/forms.py). Whether a character that isn't ASCII can be printed only Python says, so a text
+ * fields are those of zkdump_tools/forms.py). Whether a character that isn't ASCII can be printed only Python says, so a text
  * or data that has one goes out as it is, with a patch beside it. */
 #include "columns.h"
 
@@ -118,7 +118,7 @@ static void put_code(struct bytes *out, const char *field, int64_t number, const
 }
 
 /* Whole microseconds as milliseconds, as Python spells the float; `took` where that isn't exact (milliseconds in
- * tools/listing.py). */
+ * zkdump_tools/listing.py). */
 static void put_milliseconds(struct bytes *out, double microseconds, int64_t took) {
     if (microseconds < 1e15) {
         uint64_t whole = (uint64_t)microseconds, part = whole % 1000;

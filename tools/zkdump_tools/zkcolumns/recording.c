@@ -1,7 +1,7 @@
-/* Recordings of both formats, and files of times, as tools/zkr.py reads them (docs/FORMATS.md, section 12). */
+/* Recordings of both formats, and files of times, as zkdump_tools/zkr.py reads them (docs/FORMATS.md, section 12). */
 #include "columns.h"
 
-/* A time from 8 and 12 more digits on is left to tools/listing.py (COARSE there). */
+/* A time from 8 and 12 more digits on is left to zkdump_tools/listing.py (COARSE there). */
 enum { SOURCE_BLOCK = 1 << 18, COARSE_DIGITS = 13 };
 
 static void open_source(struct source *source, const char *path) {

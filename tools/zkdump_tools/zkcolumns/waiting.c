@@ -1,5 +1,5 @@
 /* Growing bytes, and the requests that wait for their replies, in the lanes in which a server answers them
- * (docs/CONVERSATION.md), as tools/listing.py has them. */
+ * (docs/CONVERSATION.md), as zkdump_tools/listing.py has them. */
 #include "columns.h"
 
 uint8_t *room_for(struct bytes *bytes, size_t more) {

@@ -1,0 +1,9 @@
+#!/usr/bin/env -S sh -c '[ -d /dev/stdin ] && exec <&-; exec python3 "$0" "$@"'
+"""The command of zkdump_tools/zkskip.py, which says what it does."""
+
+import sys
+
+from zkdump_tools import running, zkskip
+
+if __name__ == "__main__":
+    sys.exit(running.tool(zkskip.main))
