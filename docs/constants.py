@@ -122,6 +122,9 @@ def go_names(_):
         found += go_constants(f"The numbers of {kind.of}", names)
     found += go_constants("What an access right permits", [(f"Permit{name.capitalize()}", number)
                                                            for number, name in newer.PERMISSIONS.items()])
+    sentinels = [(f"Err{newer.camel('status', name)}", f"Fault{{Status: {number}}}") for number, name in rows(KINDS[-1]) if number]
+    width = max(len(name) for name, _ in sentinels)
+    found += ["", "// The faults of each status, for errors.Is.", "var (", *(f"\t{name:{width}} = {fault}" for name, fault in sentinels), ")"]
     for kind in NUMBERED:
         name, of = kind.name[0].upper() + kind.name[1:], kind.in_c[:-2]
         found += ["", f'// {name}Name returns the name of {kind.of}, or "".', f"func {name}Name(number {of}) string {{",

@@ -157,6 +157,41 @@ const (
 	PermitAll    = 31
 )
 
+// The faults of each status, for errors.Is.
+var (
+	ErrShort       = Fault{Status: 1}
+	ErrBadBool     = Fault{Status: 2}
+	ErrBadLength   = Fault{Status: 3}
+	ErrBadText     = Fault{Status: 4}
+	ErrNoMemory    = Fault{Status: 5}
+	ErrTrailing    = Fault{Status: 6}
+	ErrUnknownOp   = Fault{Status: 7}
+	ErrXidOp       = Fault{Status: 8}
+	ErrBadPart     = Fault{Status: 9}
+	ErrEventErr    = Fault{Status: 10}
+	ErrLengthRange = Fault{Status: 11}
+	ErrQueueFull   = Fault{Status: 12}
+	ErrUnasked     = Fault{Status: 13}
+	ErrXidOrder    = Fault{Status: 14}
+	ErrStreamEnd   = Fault{Status: 15}
+	ErrEmpty       = Fault{Status: 65}
+	ErrInUse       = Fault{Status: 66}
+	ErrRange       = Fault{Status: 67}
+	ErrRoom        = Fault{Status: 68}
+	ErrNoMessage   = Fault{Status: 69}
+	ErrNull        = Fault{Status: 70}
+	ErrNotFirst    = Fault{Status: 81}
+	ErrMisfit      = Fault{Status: 82}
+	ErrTooLong     = Fault{Status: 83}
+	ErrLineWord    = Fault{Status: 91}
+	ErrLineNumber  = Fault{Status: 92}
+	ErrLineText    = Fault{Status: 93}
+	ErrLineBlob    = Fault{Status: 94}
+	ErrLineName    = Fault{Status: 95}
+	ErrLineRest    = Fault{Status: 96}
+	ErrLineEnding  = Fault{Status: 97}
+)
+
 // OperationName returns the name of an operation, or of a part of a multi, or "".
 func OperationName(number int32) string {
 	return C.GoString(C.zk_operation_name(C.int32_t(number)))

@@ -45,6 +45,7 @@ type Passed struct {
 // next frame has no room, and the pieces of the client that Take keeps.
 type through struct {
 	sync.Mutex
+	store
 	handle C.struct_zk_through
 	came   [2][]byte
 	full   bool
@@ -78,13 +79,14 @@ func (it *through) made(status C.uint32_t) (Through, error) {
 	return Through{it}, nil
 }
 
-// Close frees the passage, whose calls are then refused.
-func (p Through) Close() {
+// Close frees the passage, whose calls are then refused. It returns nil, also where it is closed already.
+func (p Through) Close() error {
 	if p.it != nil {
 		p.it.Lock()
 		defer p.it.Unlock()
 		C.zk_safe_through_free(&p.it.handle)
 	}
+	return nil
 }
 
 // Renew begins the passage anew with its limits, whatever came before: for one conversation after another.
@@ -208,19 +210,32 @@ func (it *through) passed(side Side, step C.struct_zk_passed, used []byte) (pass
 	if passed.Went == WentWithin || passed.Went == WentFull {
 		return passed, nil
 	}
-	payload := it.came[side][4:]
-	it.came[side] = nil
+	payload := it.cut(len(it.came[side]) - 4)
+	copy(payload, it.came[side][4:])
+	it.came[side] = it.came[side][:0]
 	if passed.Went == WentMessage {
-		view := C.zk_safe_through_view(&it.handle, C.uint32_t(side))
-		passed.Message, err = shown(view, payload, func(out *C.struct_zk_field, room C.size_t) C.struct_zk_read {
-			return C.zk_safe_through_fields(&it.handle, C.uint32_t(side), out, room)
-		})
+		passed.Message, err = it.newest(C.uint32_t(side), payload)
 		return passed, err
 	}
-	passed.Payload, err = written(len(payload), func(out *C.uint8_t, room C.size_t) C.struct_zk_line {
-		return C.zk_safe_through_payload(&it.handle, C.uint32_t(side), out, room)
-	})
-	return passed, err
+	passed.Payload = payload
+	written := C.zk_safe_through_payload(&it.handle, C.uint32_t(side), start(payload), C.size_t(len(payload)))
+	return passed, fault(written.status, 0)
+}
+
+// newest returns the message of the side's newest frame.
+func (it *through) newest(side C.uint32_t, payload []byte) (*Message, error) {
+	view := C.zk_safe_through_view(&it.handle, side)
+	count := it.count()
+	answer := C.zk_safe_through_fields(&it.handle, side, &it.room[0], count)
+	if answer.status == C.ZK_ROOM {
+		it.grow(answer.count)
+		answer = C.zk_safe_through_fields(&it.handle, side, &it.room[0], it.count())
+	}
+	message, err := it.read(answer, payload)
+	if err == nil {
+		message.Frame, message.Answers = uint64(view.frame), uint64(view.answers)
+	}
+	return message, err
 }
 
 // Ending returns how the conversation ends if nothing more comes, with all frames that came.
