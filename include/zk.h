@@ -1241,6 +1241,71 @@ static inline struct zk_line zk_safe_listing(const struct zk_piece *pieces, size
 #define zk_write_connected zk_safe_write_connected
 #define zk_listing zk_safe_listing
 
+/* ---- Many messages by one call, for who pays for each call, as from Python */
+
+/* A message, as zk_talk_view has it: its payload is `length` of the bytes from `place` on, its fields are `count` from
+ * `first` on. */
+struct zk_entry {
+    uint32_t kind;
+    int32_t xid;
+    int32_t operation;
+    int32_t err;
+    int64_t zxid;
+    uint64_t frame;
+    uint64_t answers;
+    uint32_t place;
+    uint32_t length;
+    uint32_t first;
+    uint32_t count;
+};
+
+/* What a block has: the bytes used of the piece, and how many messages. If there is more, one more is whole, for which
+ * the rooms were too small: zk_talk_view and its like have it. The status and the fault are those of the last step. */
+struct zk_block {
+    size_t used;
+    size_t entries;
+    uint32_t status;
+    bool more;
+    struct zk_fault fault;
+};
+
+/* Takes a piece by zk_talk_step, up to its end, a fault, or as many messages as there is room for. */
+ZK_ALSO struct zk_block zk_talk_block(struct zk_talk *talk, uint32_t side, const uint8_t *piece, size_t length, struct zk_entry *entries, size_t most, uint8_t *bytes, size_t size, struct zk_field *fields, size_t room) {
+    struct zk_block block = ZK_ZEROS;
+    size_t placed = 0, counted = 0;
+    do {
+        struct zk_step step = zk_talk_step(talk, side, piece + block.used, length - block.used);
+        block.status = step.status;
+        block.fault = step.fault;
+        block.used += step.used;
+        if (step.status != ZK_WELL || !step.whole) {
+            return block;
+        }
+        struct zk_message message = zk_talk_view(talk, side);
+        struct zk_line payload = zk_talk_payload(talk, side, bytes + placed, size - placed);
+        struct zk_read read = zk_talk_fields(talk, side, fields + counted, room - counted);
+        block.more = payload.status != ZK_WELL || read.status != ZK_WELL;
+        if (block.more) {
+            return block;
+        }
+        struct zk_entry *entry = &entries[block.entries++];
+        entry->kind = message.kind;
+        entry->xid = message.xid;
+        entry->operation = message.operation;
+        entry->err = message.err;
+        entry->zxid = message.zxid;
+        entry->frame = message.frame;
+        entry->answers = message.answers;
+        entry->place = (uint32_t)placed;
+        entry->length = (uint32_t)payload.length;
+        entry->first = (uint32_t)counted;
+        entry->count = read.count;
+        placed += payload.length;
+        counted += read.count;
+    } while (block.used < length && block.entries < most);
+    return block;
+}
+
 #ifdef __cplusplus
 }
 #endif

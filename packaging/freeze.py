@@ -91,7 +91,8 @@ def lines():
     yield ""
     yield from wrapped([f"CONSTANT({name}, {known[name]});" for name in constants()])
     yield ""
-    for name, (result, words) in declared.items():
+    also = re.findall(r"^ZK_ALSO ([\w ]+[ *])(zk_\w+)\(([^)]*)\) \{$", HEADER.read_text(), re.M)
+    for name, (result, words) in {**declared, **{name: (result.strip(), words) for result, name, words in also}}.items():
         if f"{name}_into" not in declared:
             yield f"#undef {name}\nCALL({name}, {result}({words}));"
 

@@ -58,6 +58,18 @@ STRUCT(zk_written, 24);
 FIELD(zk_written, status, 0, uint32_t); FIELD(zk_written, length, 8, size_t); FIELD(zk_written, index, 16, size_t);
 STRUCT(zk_piece, 16);
 FIELD(zk_piece, side, 0, uint32_t); FIELD(zk_piece, length, 8, size_t);
+STRUCT(zk_builder, 56);
+FIELD(zk_builder, fields, 0, struct zk_field *); FIELD(zk_builder, room, 8, size_t);
+FIELD(zk_builder, count, 16, size_t); FIELD(zk_builder, content, 24, uint8_t *); FIELD(zk_builder, size, 32, size_t);
+FIELD(zk_builder, length, 40, size_t); FIELD(zk_builder, status, 48, uint32_t);
+STRUCT(zk_entry, 56);
+FIELD(zk_entry, kind, 0, uint32_t); FIELD(zk_entry, xid, 4, int32_t); FIELD(zk_entry, operation, 8, int32_t);
+FIELD(zk_entry, err, 12, int32_t); FIELD(zk_entry, zxid, 16, int64_t); FIELD(zk_entry, frame, 24, uint64_t);
+FIELD(zk_entry, answers, 32, uint64_t); FIELD(zk_entry, place, 40, uint32_t); FIELD(zk_entry, length, 44, uint32_t);
+FIELD(zk_entry, first, 48, uint32_t); FIELD(zk_entry, count, 52, uint32_t);
+STRUCT(zk_block, 64);
+FIELD(zk_block, used, 0, size_t); FIELD(zk_block, entries, 8, size_t); FIELD(zk_block, status, 16, uint32_t);
+FIELD(zk_block, more, 20, bool); FIELD(zk_block, fault, 24, struct zk_fault);
 
 CONSTANT(ZK_CLIENT, 0); CONSTANT(ZK_SERVER, 1); CONSTANT(ZK_PROFILE_34, 34); CONSTANT(ZK_PROFILE_35, 35);
 CONSTANT(ZK_WELL, 0); CONSTANT(ZK_SHORT, 1); CONSTANT(ZK_BAD_BOOL, 2); CONSTANT(ZK_BAD_LENGTH, 3);
@@ -83,6 +95,39 @@ CONSTANT(ZK_NAME_CHILDREN, 23); CONSTANT(ZK_NAME_ZXID, 24); CONSTANT(ZK_NAME_DAT
 CONSTANT(ZK_NAME_EXIST_WATCHES, 26); CONSTANT(ZK_NAME_CHILD_WATCHES, 27); CONSTANT(ZK_NAME_PROTOCOL_VERSION, 28);
 CONSTANT(ZK_NAME_LAST_ZXID_SEEN, 29); CONSTANT(ZK_NAME_TIME_OUT, 30); CONSTANT(ZK_NAME_SESSION_ID, 31);
 CONSTANT(ZK_NAME_PASSWD, 32); CONSTANT(ZK_NAME_READ_ONLY, 33); CONSTANT(ZK_NAME_ERR, 34);
+CONSTANT(ZK_OP_CLOSE_SESSION, -11); CONSTANT(ZK_OP_CREATE, 1); CONSTANT(ZK_OP_DELETE, 2); CONSTANT(ZK_OP_EXISTS, 3);
+CONSTANT(ZK_OP_GET_DATA, 4); CONSTANT(ZK_OP_SET_DATA, 5); CONSTANT(ZK_OP_GET_ACL, 6); CONSTANT(ZK_OP_SET_ACL, 7);
+CONSTANT(ZK_OP_GET_CHILDREN, 8); CONSTANT(ZK_OP_SYNC, 9); CONSTANT(ZK_OP_PING, 11); CONSTANT(ZK_OP_GET_CHILDREN2, 12);
+CONSTANT(ZK_OP_CHECK, 13); CONSTANT(ZK_OP_MULTI, 14); CONSTANT(ZK_OP_CREATE2, 15); CONSTANT(ZK_OP_RECONFIG, 16);
+CONSTANT(ZK_OP_CHECK_WATCHES, 17); CONSTANT(ZK_OP_REMOVE_WATCHES, 18); CONSTANT(ZK_OP_CREATE_CONTAINER, 19);
+CONSTANT(ZK_OP_DELETE_CONTAINER, 20); CONSTANT(ZK_OP_CREATE_TTL, 21); CONSTANT(ZK_OP_MULTI_READ, 22);
+CONSTANT(ZK_OP_AUTH, 100); CONSTANT(ZK_OP_SET_WATCHES, 101); CONSTANT(ZK_OP_SASL, 102);
+CONSTANT(ZK_OP_GET_EPHEMERALS, 103); CONSTANT(ZK_OP_GET_ALL_CHILDREN_NUMBER, 104); CONSTANT(ZK_OP_SET_WATCHES2, 105);
+CONSTANT(ZK_OP_ADD_WATCH, 106); CONSTANT(ZK_OP_WHO_AM_I, 107); CONSTANT(ZK_ERR_OK, 0);
+CONSTANT(ZK_ERR_SYSTEM_ERROR, -1); CONSTANT(ZK_ERR_RUNTIME_INCONSISTENCY, -2); CONSTANT(ZK_ERR_DATA_INCONSISTENCY, -3);
+CONSTANT(ZK_ERR_CONNECTION_LOSS, -4); CONSTANT(ZK_ERR_MARSHALLING_ERROR, -5); CONSTANT(ZK_ERR_UNIMPLEMENTED, -6);
+CONSTANT(ZK_ERR_OPERATION_TIMEOUT, -7); CONSTANT(ZK_ERR_BAD_ARGUMENTS, -8); CONSTANT(ZK_ERR_UNKNOWN_SESSION, -12);
+CONSTANT(ZK_ERR_NEW_CONFIG_NO_QUORUM, -13); CONSTANT(ZK_ERR_RECONFIG_IN_PROGRESS, -14);
+CONSTANT(ZK_ERR_API_ERROR, -100); CONSTANT(ZK_ERR_NO_NODE, -101); CONSTANT(ZK_ERR_NO_AUTH, -102);
+CONSTANT(ZK_ERR_BAD_VERSION, -103); CONSTANT(ZK_ERR_NO_CHILDREN_FOR_EPHEMERALS, -108);
+CONSTANT(ZK_ERR_NODE_EXISTS, -110); CONSTANT(ZK_ERR_NOT_EMPTY, -111); CONSTANT(ZK_ERR_SESSION_EXPIRED, -112);
+CONSTANT(ZK_ERR_INVALID_CALLBACK, -113); CONSTANT(ZK_ERR_INVALID_ACL, -114); CONSTANT(ZK_ERR_AUTH_FAILED, -115);
+CONSTANT(ZK_ERR_SESSION_MOVED, -118); CONSTANT(ZK_ERR_NOT_READ_ONLY, -119);
+CONSTANT(ZK_ERR_EPHEMERAL_ON_LOCAL_SESSION, -120); CONSTANT(ZK_ERR_NO_WATCHER, -121);
+CONSTANT(ZK_ERR_REQUEST_TIMEOUT, -122); CONSTANT(ZK_ERR_RECONFIG_DISABLED, -123);
+CONSTANT(ZK_ERR_SESSION_CLOSED_REQUIRE_SASL_AUTH, -124); CONSTANT(ZK_ERR_QUOTA_EXCEEDED, -125);
+CONSTANT(ZK_ERR_THROTTLED_OP, -127); CONSTANT(ZK_EVENT_NONE, -1); CONSTANT(ZK_EVENT_NODE_CREATED, 1);
+CONSTANT(ZK_EVENT_NODE_DELETED, 2); CONSTANT(ZK_EVENT_NODE_DATA_CHANGED, 3);
+CONSTANT(ZK_EVENT_NODE_CHILDREN_CHANGED, 4); CONSTANT(ZK_EVENT_DATA_WATCH_REMOVED, 5);
+CONSTANT(ZK_EVENT_CHILD_WATCH_REMOVED, 6); CONSTANT(ZK_EVENT_PERSISTENT_WATCH_REMOVED, 7);
+CONSTANT(ZK_STATE_EXPIRED, -112); CONSTANT(ZK_STATE_UNKNOWN, -1); CONSTANT(ZK_STATE_DISCONNECTED, 0);
+CONSTANT(ZK_STATE_NO_SYNC_CONNECTED, 1); CONSTANT(ZK_STATE_SYNC_CONNECTED, 3); CONSTANT(ZK_STATE_AUTH_FAILED, 4);
+CONSTANT(ZK_STATE_CONNECTED_READ_ONLY, 5); CONSTANT(ZK_STATE_SASL_AUTHENTICATED, 6); CONSTANT(ZK_STATE_CLOSED, 7);
+CONSTANT(ZK_CREATE_PERSISTENT, 0); CONSTANT(ZK_CREATE_EPHEMERAL, 1); CONSTANT(ZK_CREATE_PERSISTENT_SEQUENTIAL, 2);
+CONSTANT(ZK_CREATE_EPHEMERAL_SEQUENTIAL, 3); CONSTANT(ZK_CREATE_CONTAINER, 4);
+CONSTANT(ZK_CREATE_PERSISTENT_WITH_TTL, 5); CONSTANT(ZK_CREATE_PERSISTENT_SEQUENTIAL_WITH_TTL, 6);
+CONSTANT(ZK_PERMISSION_READ, 1); CONSTANT(ZK_PERMISSION_WRITE, 2); CONSTANT(ZK_PERMISSION_CREATE, 4);
+CONSTANT(ZK_PERMISSION_DELETE, 8); CONSTANT(ZK_PERMISSION_ADMIN, 16); CONSTANT(ZK_PERMISSION_ALL, 31);
 
 #undef zk_version
 CALL(zk_version, uint32_t(void));
@@ -176,3 +221,27 @@ CALL(zk_through_step_into, void(struct zk_through *through, uint32_t side, const
 CALL(zk_through_view_into, void(struct zk_through *through, uint32_t side, struct zk_message *out, size_t size));
 #undef zk_through_finish_into
 CALL(zk_through_finish_into, void(struct zk_through *through, struct zk_ending *out, size_t size));
+#undef zk_build
+CALL(zk_build, struct zk_builder(struct zk_field *fields, size_t room, uint8_t *content, size_t size));
+#undef zk_add_number
+CALL(zk_add_number, void(struct zk_builder *to, uint8_t kind, int64_t number));
+#undef zk_add_null
+CALL(zk_add_null, void(struct zk_builder *to, uint8_t kind));
+#undef zk_add_bytes
+CALL(zk_add_bytes, void(struct zk_builder *to, uint8_t kind, const void *bytes, size_t length));
+#undef zk_operation_name
+CALL(zk_operation_name, const char *(int32_t number));
+#undef zk_error_name
+CALL(zk_error_name, const char *(int32_t number));
+#undef zk_event_name
+CALL(zk_event_name, const char *(int64_t number));
+#undef zk_state_name
+CALL(zk_state_name, const char *(int64_t number));
+#undef zk_flags_name
+CALL(zk_flags_name, const char *(int64_t number));
+#undef zk_field_name
+CALL(zk_field_name, const char *(uint16_t number));
+#undef zk_status_name
+CALL(zk_status_name, const char *(uint32_t number));
+#undef zk_talk_block
+CALL(zk_talk_block, struct zk_block(struct zk_talk *talk, uint32_t side, const uint8_t *piece, size_t length, struct zk_entry *entries, size_t most, uint8_t *bytes, size_t size, struct zk_field *fields, size_t room));

@@ -19,8 +19,9 @@ PYTHON, RUST, GO = (EXAMPLES / name for name in ("python", "rust", "go"))
 
 def run(name, *words, **environment):
     """Whether a command ends with the status 0, and its output."""
+    given = {name: environment.pop(name) for name in ("user", "group", "extra_groups") if name in environment}
     folder = environment.pop("folder")
-    found = subprocess.run(words, cwd=folder, env={**os.environ, **environment}, capture_output=True, text=True)
+    found = subprocess.run(words, cwd=folder, env={**os.environ, **environment}, capture_output=True, text=True, **given)
     said = found.stdout + found.stderr
     return (name, found.returncode == 0, f"{name}: status {found.returncode}, {said[-2000:]}"), said
 
@@ -33,6 +34,16 @@ def pythons(*modules):
             yield path
 
 
+def another(python):
+    """The words by which a command is run by a user who can't write everywhere, if root runs these tests and that user
+    has this Python."""
+    who = {"user": "nobody", "group": "nogroup", "extra_groups": []}
+    try:
+        return who if os.geteuid() == 0 and subprocess.run([python, "-c", ""], **who).returncode == 0 else {}
+    except (OSError, LookupError):
+        return {}
+
+
 def check_python(folder, shared):
     """The wheel is made and installed in a folder, and the tests run over it."""
     python = next(pythons("pip", "setuptools", "wheel"), None)
@@ -41,9 +52,17 @@ def check_python(folder, shared):
         return
     source, into = folder / "python", folder / "site"
     shutil.copytree(PYTHON, source)
+    for path in (source, *source.rglob("*")):  # as one that is installed, for users who can't write there
+        path.chmod(path.stat().st_mode & ~0o222)
+    who = another(python)
+    folder.chmod(0o755)
+    into.mkdir()
+    into.chmod(0o777)
     result, _ = run("pip install", python, "-m", "pip", "install", "--quiet", "--no-index", "--no-build-isolation",
-                    "--no-deps", "--disable-pip-version-check", "--target", into, ".", folder=source)
+                    "--no-deps", "--disable-pip-version-check", "--target", into, source, folder=folder, HOME=str(into), **who)
     yield result
+    for path in (source, *source.rglob("*")):
+        path.chmod(path.stat().st_mode | 0o200)
     tested = {"folder": folder, "PYTHONPATH": str(into), "LIBZK": str(shared)}
     with_kazoo = next(pythons("kazoo"), None)
     if with_kazoo is None:
@@ -145,13 +164,17 @@ def compare_calls(calls):
     rust = re.findall(r"pub fn (zk_\w+)\((.*?)\)(?: ->|;)", (RUST / "zk-sys" / "src" / "lib.rs").read_text(), re.S)
     found = [("python", name, words.rstrip(",").count(",")) for name, words in python]
     found += [("rust", name, words.count(":")) for name, words in rust]
-    for package, name, count in found:
+    also = {name: words.count(",") + 1 for name, words in re.findall(
+        r"^ZK_ALSO [\w ]+[ *](zk_\w+)\(([^)]*)\) \{$", HEADER.read_text(), re.M)}
+    yield from ((name, count == also[name], f"examples/{package}: {name} has {count} parameters, and {also[name]} in the header")
+                for package, name, count in found if name in also)
+    for package, name, count in (row for row in found if row[1] not in also):
         wanted = len(calls[name][1]) if name in calls else None
         yield name, count == wanted, f"examples/{package}: {name} has {count} parameters, and {wanted} in the header"
     go = re.findall(r"\bC\.(zk)(?:_safe)?(_(?!\w+_name)\w+)\(", "".join(path.read_text() for path in sorted(GO.glob("*.go"))))
     go = [f"{name}_into" if f"{name}_into" in calls else name for name in map("".join, go)]  # by the header's functions
     for package, declared in (("python", [name for name, _ in python]), ("rust", [name for name, _ in rust]), ("go", go)):
-        other = {*declared} ^ {*calls}
+        other = ({*declared} - also.keys()) ^ {*calls}
         yield package, not other, f"examples/{package} lacks calls of the header, or has others: {sorted(other)}"
 
 

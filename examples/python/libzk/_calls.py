@@ -78,6 +78,15 @@ class Piece(ctypes.Structure):
     _fields_ = [("side", U32), ("length", SIZE)]
 
 
+class Entry(ctypes.Structure):
+    _fields_ = [("kind", U32), ("xid", I32), ("operation", I32), ("err", I32), ("zxid", I64), ("frame", U64),
+                ("answers", U64), ("place", U32), ("length", U32), ("first", U32), ("count", U32)]
+
+
+class Block(ctypes.Structure):
+    _fields_ = [("used", SIZE), ("entries", SIZE), ("status", U32), ("more", ctypes.c_bool), ("fault", Fault)]
+
+
 HANDLE, FIELDS = ctypes.POINTER(Handle), ctypes.POINTER(Field)
 PARTS, PIECES = ctypes.POINTER(I32), ctypes.POINTER(Piece)
 VERSION = 10000  # of these calls, as ZK_VERSION_NUMBER of include/zk.h
@@ -127,8 +136,13 @@ CALLS = {
     "zk_write_reply": (Written, I32, I64, I32, I32, FIELDS, SIZE, BYTES, SIZE, BYTES, SIZE),
     "zk_write_event": (Written, I64, FIELDS, SIZE, BYTES, SIZE, BYTES, SIZE),
     "zk_write_connected": (Written, FIELDS, SIZE, BYTES, SIZE, BYTES, SIZE),
+    "zk_talk_block": (Block, HANDLE, U32, BYTES, SIZE, BYTES, SIZE, BYTES, SIZE, BYTES, SIZE),
     "zk_listing": (Line, PIECES, SIZE, BYTES, SIZE, U32, U32, U32, U32, BYTES, SIZE),
 }
+
+
+_FILLED = {"zk_talk_view": Message, "zk_through_view": Message, "zk_talk_finish": Ending, "zk_through_finish": Ending,
+           "zk_through_step": Passed}
 
 
 def _filled(call: Callable[..., None], kind: Type[ctypes.Structure]) -> Callable[..., ctypes.Structure]:
@@ -152,7 +166,7 @@ def _typed(calls: ctypes.PyDLL) -> ctypes.PyDLL:
         call = getattr(calls, name)
         call.restype, call.argtypes = result, words
         if name.endswith("_into"):
-            setattr(calls, name[:-5], _filled(call, words[-2]._type_))
+            setattr(calls, name[:-5], _filled(call, _FILLED[name[:-5]]))
     return calls
 
 

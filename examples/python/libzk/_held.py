@@ -7,6 +7,7 @@ from typing import Callable, Deque, Iterable, Iterator, List, NamedTuple, NoRetu
 
 from . import _calls
 from ._calls import library
+from ._block import Room
 from ._messages import RANGE, Fault, Kind, Message, Refused, Side, bytes_of, fault_of, message_of, written
 from ._names import Profile
 
@@ -103,29 +104,45 @@ class Talk(_Held):
                  profile: Profile = Profile.V34, lines: bool = False):
         super().__init__(library.zk_talk_new, library.zk_talk_renew, library.zk_talk_free,
                          (client, server, waiting, Profile(profile)))
-        self._lines = lines
+        self._lines, self._room = lines, Room()
 
     def feed(self, side: Side, piece: bytes) -> List[Message]:
         """The messages that these bytes of a side complete."""
         messages: List[Message] = []
-        side = Side(side)
         try:
-            for step in self._steps(library.zk_talk_step, side, bytes_of(piece)):
-                if step.whole:
-                    messages.append(self._newest(side))
+            for message in self._messages(Side(side), bytes_of(piece)):
+                messages.append(message)
         except Refused as refused:
             refused.messages = tuple(messages)
             raise
         return messages
+
+    def _messages(self, side: Side, piece: bytes) -> Iterator[Message]:
+        """The messages that the piece completes."""
+        if self._lines:  # a line is asked for while its message is the newest
+            for step in self._steps(library.zk_talk_step, side, piece):
+                if step.whole:
+                    yield self._newest(side)
+            return
+        begin, length, at = ctypes.cast(ctypes.c_char_p(piece), ctypes.c_void_p).value or 0, len(piece), 0
+        while True:
+            block = library.zk_talk_block(self._handle, side, begin + at, length - at, *self._room.words)
+            at += block.used
+            yield from self._room.messages(block.entries)
+            if block.status:
+                raise Refused(block.status, block.fault.place, fault=fault_of(block.fault))
+            if block.more:  # than the room takes
+                yield self._newest(side)
+            if at == length:
+                return
 
     def read(self, pieces: Iterable[Tuple[Side, bytes]]) -> Iterator[Tuple[Side, Message]]:
         """The messages of the pieces that both sides sent, in the order in which these came: each with its side, as it
         becomes whole."""
         for side, piece in pieces:
             side = Side(side)
-            for step in self._steps(library.zk_talk_step, side, bytes_of(piece)):
-                if step.whole:
-                    yield side, self._newest(side)
+            for message in self._messages(side, bytes_of(piece)):
+                yield side, message
 
     def skip(self, side: Side, piece: bytes) -> int:
         """Takes bytes of a side and judges them as `feed`, but makes no message: how many they complete."""

@@ -6,19 +6,19 @@ from typing import Callable, List, Sequence, Tuple, Union
 
 from . import _calls
 from ._calls import library
-from ._messages import (LONGEST, RANGE, ROOM, TOO_LONG, Field, FieldKind, Kind, Message, Refused, Side, Value,
-                        bytes_of, fields_of, number_of, written)
+from ._messages import (KINDS, LONGEST, RANGE, ROOM, TOO_LONG, Field, FieldKind, Message, Refused, Side, Value, bytes_of,
+                        fields_in, number_of, read_into, written)
 from ._names import OPERATIONS, Profile
 
 Item = Union[Field, Tuple[FieldKind, Value]]
 
 
 def _read(payload: bytes, read: Callable[..., _calls.Read]) -> Message:
-    answer, fields = fields_of(read, lambda: payload)
+    answer, fields = read_into(read)
     if answer.status:
-        raise Refused(answer.status, answer.place, fields)
-    return Message(Kind(answer.kind), answer.xid, OPERATIONS.get(answer.operation, ""), answer.err, answer.zxid, fields,
-                   payload)
+        raise Refused(answer.status, answer.place, fields_in(fields, payload))
+    return Message(KINDS[answer.kind], answer.xid, OPERATIONS.get(answer.operation, ""), answer.err, answer.zxid, payload,
+                   _read=fields)
 
 
 def _parts(parts: Sequence[Union[str, int]]) -> "Tuple[ctypes.Array[ctypes.c_int32], int]":
