@@ -34,6 +34,9 @@
 //! drop(one);
 //! ```
 //!
+//! `Message::to_owned` makes a copy that can be. Of a payload that is refused, `Reader::faulty` has what comes before the
+//! fault.
+//!
 //! Talks, passages and speakers are freed when they are dropped. They may go to another thread, but can't be shared or
 //! copied. The first call of a program whose library is older than this crate panics.
 
@@ -98,7 +101,7 @@ mod write;
 pub use ending::{Ending, Waiting};
 pub use held::{listing, Limits, Speaker, Talk};
 pub use judge::{judge_connected, judge_event, judge_first, judge_reply, judge_request};
-pub use message::{Field, Kind, Message, Reader, Value};
+pub use message::{Faulty, Field, Kind, Message, OwnedMessage, Reader, Value};
 pub use through::{LeftOut, Through, Unseen, Went};
 pub use write::Writer;
 
