@@ -10,12 +10,12 @@ override PREFIX := $(or $(PREFIX),/usr/local)
 endif
 override LIBDIR := $(or $(LIBDIR),lib)
 DESTDIR ?=
-INSTALL = python3 packaging/install.py --destdir "$(DESTDIR)" --prefix "$(PREFIX)" --libdir "$(LIBDIR)"
+INSTALL = python3 -m packaging.install --destdir "$(DESTDIR)" --prefix "$(PREFIX)" --libdir "$(LIBDIR)"
 
 all:
 	./zkdump check < crates/zkdump/stdin
-	python3 packaging/build_library.py
-	python3 packaging/make_columns.py
+	python3 -m packaging.build_library
+	python3 -m packaging.make_columns
 
 install:
 	$(INSTALL)

@@ -1,7 +1,6 @@
-#!/usr/bin/env python3
 """Counts the instructions of the proved programs over small inputs, and compares them with those that are kept.
 
-    bench/costs.py [--update] [--install] [--checkout FOLDER] [WORD ..]
+    python3 -m bench.costs [--update] [--install] [--checkout FOLDER] [WORD ..]
 
 Each row is a program and an input (costs_inputs.py). callgrind counts the instructions of its run, less those of a run
 that does less, over nothing or of one turn of a job, so that the start and the making of a job's input aren't among
@@ -29,9 +28,8 @@ import sys
 import tempfile
 from typing import NamedTuple, Optional
 
-import costs_inputs
-import measure_library
-from build_library import kit  # measure_library says where
+from . import costs_inputs, measure_library
+from packaging.build_library import kit
 
 TOP = pathlib.Path(__file__).resolve().parent.parent
 KEPT = TOP / "bench" / "costs.txt"

@@ -5,16 +5,13 @@ and of their replies.
 """
 
 import io
-import pathlib
 import random
 import struct
-import sys
 
-import make_recording as making
-from growth import exchange
+from . import make_recording as making
+from .growth import exchange
 
-sys.path.append(str(pathlib.Path(__file__).resolve().parent.parent / "tools"))
-from zkdump_tools import zkr
+from tools.zkdump_tools import zkr
 
 NAMES, REPLIES, SYNCS = 10_000, 2, 1_000
 NULL = struct.pack(">i", -1)

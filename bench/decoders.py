@@ -1,7 +1,6 @@
-#!/usr/bin/env python3
 """Measures zkdump beside other decoders, over three long recordings.
 
-    bench/run.py [--program PATH] [--jars FOLDER] [--megabytes N] [--times N] [--least] [--core N]
+    python3 -m bench.decoders [--program PATH] [--jars FOLDER] [--megabytes N] [--times N] [--least] [--core N]
 
 The recordings are small, big and listing (make_recording.py). The decoders are cat, which decodes nothing; peer.rs,
 written by hand for this, where rustc is there; JuteDecode.java, ZooKeeper's own record classes, where there are javac
@@ -21,8 +20,7 @@ import subprocess
 import sys
 import tempfile
 
-import make_recording
-import timing
+from . import make_recording, timing
 
 HERE = pathlib.Path(__file__).resolve().parent
 JARS = ("zookeeper-jute.jar", "zookeeper.jar", "slf4j-api.jar", "slf4j-nop.jar")

@@ -1,7 +1,6 @@
-#!/usr/bin/env python3
 """Shows how the time and the memory of zkdump's commands grow with the size of the input.
 
-    bench/growth.py [--program PATH] [--quick] [--only WORD] [--core N]
+    python3 -m bench.growth [--program PATH] [--quick] [--only WORD] [--core N]
 
 Each row is a size of one of these: the parts of one multi; the requests that wait at once, up to the usual limit, and
 above it; the names of one list; the bytes of one path; the bytes of one frame that come in pieces of one byte; and the
@@ -23,8 +22,8 @@ import sys
 import tempfile
 from typing import Callable, NamedTuple
 
-import make_recording as making
-import timing
+from . import make_recording as making
+from . import timing
 
 NOISE = 0.02  # seconds
 GROWTH = math.log2(1.5)  # the power of a size with which the time of each one may grow

@@ -1,4 +1,3 @@
-#!/usr/bin/env python3
 """Measures how a proxy of the tools takes many clients that come at once, while others are busy.
 
     measure_crowd.py [--busy N] [--pause MS] [--new N] [--times N] [TOOLS ..]
@@ -21,7 +20,7 @@ import subprocess
 import sys
 import tempfile
 
-from measure_record import begin, end
+from .measure_record import begin, end
 
 HERE = pathlib.Path(__file__).resolve().parent
 ALONE = 2000                # the milliseconds that the busy clients are alone

@@ -1,7 +1,6 @@
-#!/usr/bin/env python3
 """Measures the library for C: what the fields of messages cost, its size, and a client's round trip.
 
-    bench/measure_library.py [--program PATH] [--library PATH] [--messages N] [--rounds N] [--core N]
+    python3 -m bench.measure_library [--program PATH] [--library PATH] [--messages N] [--rounds N] [--core N]
 
 The small mix (make_recording.py) of --messages messages (1,000,000) is read by `zkdump check`, and in C by zk_talk_step
 alone, by zk_talk_step and zk_talk_fields, and by a decoder by hand (hand.h), whose fields have to be the same. Of each
@@ -9,7 +8,7 @@ the instructions are counted, by perf where it can count them, else by valgrind'
 fastest of five runs. Allocations are counted between the first message and the last.
 
 A client reads a node --rounds times (20,000), one request at a time: examples/client.c, and apache.c where Debian's
-libzookeeper-mt-dev is there. The server is tests/answering.py.
+libzookeeper-mt-dev is there. The server is tests/library/small_server.py.
 """
 
 import os
@@ -20,14 +19,12 @@ import subprocess
 import sys
 import tempfile
 
-import make_recording
-import timing
+from packaging import make_library
+from packaging.build_library import LIBRARY
+from . import make_recording, timing
 
 TOP = timing.TOP
 HERE = TOP / "bench"
-sys.path += [str(TOP / "packaging"), str(TOP / "tests")]
-import make_library  # noqa: E402
-from build_library import LIBRARY  # noqa: E402
 
 WAYS = ("step", "fields", "hand")
 TIMES = 5
@@ -113,7 +110,7 @@ def clients(folder, archive, port, rounds):
 
 def measure_rounds(folder, archive, rounds):
     """Prints the mean round trip of each client."""
-    server = subprocess.Popen([sys.executable, TOP / "tests" / "answering.py"], stdout=subprocess.PIPE, text=True)
+    server = subprocess.Popen([sys.executable, "-m", "tests.library.small_server"], cwd=TOP, stdout=subprocess.PIPE, text=True)
     try:
         port = server.stdout.readline().strip()
         for name, words in clients(folder, archive, port, rounds):

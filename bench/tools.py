@@ -1,4 +1,3 @@
-#!/usr/bin/env python3
 """Measures the tools over one recording: the processor time of each, and its greatest memory.
 
     tools.py [--megabytes N] [--python PATH] [--jobs N] [FOLDER]
@@ -21,11 +20,10 @@ import sys
 import tempfile
 import time
 
+from tools.zkdump_tools import zkr
+
 TOP = pathlib.Path(__file__).resolve().parent.parent
 TOOLS = TOP / "tools"
-sys.path.insert(0, str(TOOLS))
-
-from zkdump_tools import zkr
 
 PROGRAM = TOP / "crates" / "zkdump" / "out" / "zkdump"
 RUNS = (("check", None), ("zkstat.py", ("{timed}",)), ("zkstat.py", ("--path", "/", "{timed}")),

@@ -1,9 +1,8 @@
-#!/usr/bin/env python3
 """Measures what the plugin for Wireshark costs: tshark's time and memory over a long capture, with it and without it.
 
-    bench/wireshark.py [--libzk PATH] [--messages N] [--connections N] [--times N] [--core N]
+    python3 -m bench.wireshark [--libzk PATH] [--messages N] [--connections N] [--times N] [--core N]
 
-The plugin is built as tests/wireshark.py builds it, with the proved library of this repository or another libzk.a. The
+The plugin is built as tests/wireshark builds it, with the proved library of this repository or another libzk.a. The
 first capture is one connection with N messages (100,000), a packet each. tshark lists it, or makes a statistic of it.
 The second has N connections (3,000) of two messages each: what memory a connection takes more where the library judges
 it. What a passage of the plugin's size allocates is asked of the C library. Each run is one of --times (3), on one core;
@@ -20,12 +19,10 @@ import subprocess
 import sys
 import tempfile
 
-import make_recording
-import timing
+from . import make_recording, timing
 
-sys.path.append(str(timing.TOP / "tests"))
-import dissected  # noqa: E402
-from dissected import wire, zkr  # noqa: E402
+from tests.wireshark import installed_plugin
+from tests.wireshark.installed_plugin import wire, zkr
 
 # tshark's words, by what is said of them; None where the plugin isn't there.
 RUNS = (("tshark without the plugin", None), ("with it", ()), ("with it, no verdict", ("-o", "zookeeper.strict:FALSE")),
@@ -49,8 +46,8 @@ int main(void) {
 
 def passage(folder, libzk):
     """What a passage takes at once."""
-    program, include = folder / "passage", f"-I{dissected.TOP / 'include'}"
-    subprocess.run(["cc", "-x", "c", "-", "-x", "none", include, f"-I{dissected.SOURCES}", "-o", program, libzk],
+    program, include = folder / "passage", f"-I{installed_plugin.TOP / 'include'}"
+    subprocess.run(["cc", "-x", "c", "-", "-x", "none", include, f"-I{installed_plugin.SOURCES}", "-o", program, libzk],
                    input=PASSAGE.encode(), check=True)
     return subprocess.run([program], capture_output=True, text=True, check=True).stdout.strip()
 
@@ -60,18 +57,18 @@ def long_capture(folder, count):
     recording, per_megabyte = folder / "recording", 9_900
     make_recording.write(recording, "small", count // per_megabyte + 1)
     cutter, frames = zkr.Cutter(), []
-    for piece in dissected.pieces_of(recording):
+    for piece in installed_plugin.pieces_of(recording):
         frames += [zkr.Piece(frame.side, None, len(frame.payload).to_bytes(4, "big") + frame.payload)
                    for frame in cutter.take(piece)]
     frames = frames[:count]
-    return dissected.capture_of(frames), len(frames)
+    return installed_plugin.capture_of(frames), len(frames)
 
 
 def short_connections(count):
     """A capture of this number of connections, each of a connect request and its response."""
-    recording = dissected.TOP / "captures" / "kazoo_basic.zkr"
-    sent = list(wire.conversation(list(itertools.islice(dissected.pieces_of(recording), 2))))
-    return wire.pcap([packet for at in range(count) for packet in dissected.packed(sent, client=2200 + at)])
+    recording = installed_plugin.TOP / "captures" / "kazoo_basic.zkr"
+    sent = list(wire.conversation(list(itertools.islice(installed_plugin.pieces_of(recording), 2))))
+    return wire.pcap([packet for at in range(count) for packet in installed_plugin.packed(sent, client=2200 + at)])
 
 
 class Measured:
@@ -83,7 +80,7 @@ class Measured:
 
     def command(self, words):
         home = self.empty if words is None else self.plugin.home
-        drop = ["setpriv", f"--reuid={dissected.NOBODY}", f"--regid={dissected.NOBODY}", "--clear-groups"]
+        drop = ["setpriv", f"--reuid={installed_plugin.NOBODY}", f"--regid={installed_plugin.NOBODY}", "--clear-groups"]
         return [*(drop if os.geteuid() == 0 else []), "env", f"HOME={home}", "tshark", "-r", self.capture,
                 *(words or ())]
 
@@ -115,11 +112,11 @@ def main():
     parser.add_argument("--times", type=int, default=3)
     parser.add_argument("--core", type=int, help="the core that all runs use (the last one)")
     words = parser.parse_args()
-    if missing := dissected.missing(words.libzk):
+    if missing := installed_plugin.missing(words.libzk):
         sys.exit(f"{', '.join(missing)} is not here")
     os.sched_setaffinity(0, {max(os.sched_getaffinity(0)) if words.core is None else words.core})
     with tempfile.TemporaryDirectory() as folder:
-        measured = Measured(dissected.Plugin(folder, words.libzk), pathlib.Path(folder), words.times)
+        measured = Measured(installed_plugin.Plugin(folder, words.libzk), pathlib.Path(folder), words.times)
         measured.empty.chmod(0o755)
         capture, count = long_capture(pathlib.Path(folder), words.messages)
         measured.take(capture)

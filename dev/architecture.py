@@ -1,7 +1,6 @@
-#!/usr/bin/env python3
 """Lists the crates in docs/ARCHITECTURE.md, and the files of each in crates/README.md.
 
-    docs/architecture.py [--check]
+    python3 -m dev.architecture [--check]
 
 A crate or a file is described by its own text: the first paragraph of the `//!` comment of lib.rt or main.rt, and of
 the other src/*.rt, or the comment that a file of specs/ begins with. What a crate uses is in crates.txt. The lines are
@@ -16,7 +15,7 @@ import re
 import sys
 
 TOP = pathlib.Path(__file__).resolve().parent.parent
-BEGIN, END = "<!-- The lines from here on are written by docs/architecture.py. -->", "<!-- Up to here. -->"
+BEGIN, END = "<!-- The lines from here on are written by dev/architecture.py. -->", "<!-- Up to here. -->"
 HEAD = {".rt": r"(?://!(?: .*)?\n)+", ".antt": r"(?:-- .*\n)+"}
 ROOTS = ("lib.rt", "main.rt")
 
@@ -81,7 +80,7 @@ def main():
         if "--check" not in sys.argv:
             path.write_text(current)
         elif page != current:
-            wrong.append(f"{path.relative_to(TOP)} isn't current: run docs/architecture.py")
+            wrong.append(f"{path.relative_to(TOP)} isn't current: run dev/architecture.py")
     print("\n".join([*wrong, f"{0 if wrong else len(PAGES)} passed, {len(wrong)} failed"]))
     return 1 if wrong else 0
 

@@ -1,12 +1,11 @@
-#!/usr/bin/env python3
 """Lists every public call with its contract's clauses, in docs/PROVED.md.
 
-    docs/calls.py [--check]
+    python3 -m dev.calls [--check]
 
 It reads the signatures in the folders src/ of what each crate's lib.rt names as public, and writes them between two
 marks of the page: what a call returns, its conditions, and the names of its clauses, by whether they are about a
 success, a refusal or both. docs/MUST_FAIL.md names edits as `crate/edit`: each must be there. With --check it writes
-nothing and fails where the page isn't current. (docs/clauses.py checks the clauses that pages name.)
+nothing and fails where the page isn't current. (tests/pages/clauses.py checks the clauses that pages name.)
 
 The status is 0 if the page is current or was written, 1 if it isn't current or a name is wrong, 2 for invalid
 arguments.
@@ -18,7 +17,7 @@ import sys
 
 TOP = pathlib.Path(__file__).resolve().parent.parent
 PAGE, EDITS = TOP / "docs" / "PROVED.md", TOP / "docs" / "MUST_FAIL.md"
-BEGIN, END = "<!-- The lines from here on are written by docs/calls.py. -->", "<!-- Up to here. -->"
+BEGIN, END = "<!-- The lines from here on are written by dev/calls.py. -->", "<!-- Up to here. -->"
 
 CLAUSE = re.compile(r"\s*(requires|ensures)\*?\s+(\w+\s+)?\{")
 BLOCK = re.compile(r"^(?:pub )?(impl|trait)\b([^\n{;]*)\{", re.M)
@@ -148,7 +147,7 @@ def main():
     if "--check" not in sys.argv:
         PAGE.write_text(current)
     elif page != current:
-        wrong.append("docs/PROVED.md isn't current: run docs/calls.py")
+        wrong.append("docs/PROVED.md isn't current: run dev/calls.py")
     print("\n".join([*wrong, f"{0 if wrong else 1} passed, {len(wrong)} failed"]))
     return 1 if wrong else 0
 

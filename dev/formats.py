@@ -1,4 +1,4 @@
-"""Reads the tables of docs/FORMATS.md, the specification, for docs/names.py and the tests: the fields of records,
+"""Reads the tables of docs/FORMATS.md, the specification, for dev/names.py and the tests: the fields of records,
 operations and parts, the names of numbers, and the spelling of lines. A table is found by its head.
 
 A row is the line of the page and what it says; a field its name in zk_records, its name in C, and its kind (source.py).
@@ -8,7 +8,7 @@ import pathlib
 import re
 from typing import List, NamedTuple, Optional
 
-PAGE = pathlib.Path(__file__).resolve().parent / "FORMATS.md"
+PAGE = pathlib.Path(__file__).resolve().parents[1] / "docs" / "FORMATS.md"
 KINDS = {"int": "int", "long": "long", "boolean": "bool", "ustring": "text", "buffer": "blob", "Stat": "stat",
          "Id": "id", "vector of ustring": "texts", "vector of ACL": "acl"}
 FIELD = re.compile(rf"({'|'.join(KINDS)})(?: ([a-z]\w*))?(?: \(([^)]*)\))?$")

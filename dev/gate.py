@@ -1,4 +1,3 @@
-#!/usr/bin/env python3
 """What a passed gate says at its end of what it has passed: the commit, and the checksums of the program and the
 libraries.
 
@@ -12,7 +11,7 @@ import hashlib
 import subprocess
 import sys
 
-from build_library import LIBRARY, PLAIN, TOP
+from packaging.build_library import LIBRARY, PLAIN, TOP
 
 PROGRAM = TOP / "crates" / "zkdump" / "out" / "zkdump"
 

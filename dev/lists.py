@@ -1,16 +1,13 @@
-"""The lists of names that docs/names.py writes: each function takes the lines that are there, and returns those that
+"""The lists of names that dev/names.py writes: each function takes the lines that are there, and returns those that
 should be, by the crates' sources (source.py)."""
 
 import ast
 import re
-import runpy
 
-import constants
-import source
-from constants import in_order
-from source import TOP
+from . import constants, source
+from .constants import in_order
 
-BEGIN, END = "The lines from here on are written by docs/names.py", "Up to here."
+BEGIN, END = "The lines from here on are written by dev/names.py", "Up to here."
 # A kind of field, or an item of a line, in zkdump_tools/operations.py and zkdump_tools/forms.py.
 TOOLS = {"int": "number", "bool": "bit", "blob": "data", "acl": "acls", "ro": "readonly", "kcode": "kind",
          "ecode": "err"}
@@ -89,7 +86,7 @@ def with_others(names, there):
 
 def of_tools():
     """What zkdump_tools/operations.py has by name, its operations of later releases too."""
-    return runpy.run_path(str(TOP / "tools" / "zkdump_tools" / "operations.py"))
+    return source.python_names("tools/zkdump_tools/operations.py")
 
 
 def plugin_names(lines):
@@ -227,9 +224,9 @@ WHOLE = {"examples/python/libzk/_names.py": constants.python_names, "examples/ru
 PARTS = {"include/zk.h": (header_profiles, header_enum, constants.header_constants, constants.header_functions),
          "tools/zkdump_tools/operations.py": (operation_rows,),
          "wireshark/names.c": (plugin_names, newer_ranges), "wireshark/hole.c": (hole_shapes,),
-         "tools/zkdump_tools/zkcolumns/json.c": (json_keys,), "tests/chosen.h": (random_profiles, random_operations),
+         "tools/zkdump_tools/zkcolumns/json.c": (json_keys,), "tests/library/chosen.h": (random_profiles, random_operations),
          "examples/go/libzk.go": (go_profiles,), "wireshark/register.c": (plugin_profiles,),
-         "completion/zkdump.bash": (completed_profiles,),
+         "packaging/completion/zkdump.bash": (completed_profiles,),
          "bench/peer/peer.rs": (peer_operations,)}
 
 

@@ -1,8 +1,7 @@
-#!/usr/bin/env python3
 """Writes the names of operations, errors, events, fields, statuses and profiles where they are listed, from the crates'
 sources, and the forms of operations for the tools and the measured peer.
 
-    docs/names.py --write|--check
+    python3 -m dev.names --write|--check
 
 The sources are the one table (source.py reads them). The files that it writes, or of which it writes what is between
 two marks, are those of lists.py. In a table that has more numbers than the sources, such as those of later
@@ -16,14 +15,10 @@ With --check nothing is written, and each row that is wrong is named. The status
 import difflib
 import math
 import re
-import runpy
 import sys
 
-import formats
-import lists
-import newer
-import source
-from source import TOP
+from . import formats, lists, newer, source
+from .source import TOP
 
 ENTRY = re.compile(r'-?\d+: "\w+"|\{[\w()-]+, "\w+"\}|\{-?\d+, (?:true|false)[^}]*\}'
                    r"|(?<=[( ])-?\d+(?=, -?[\dI])|ZK_(?!NAME_)\w+ = -?\d+")
@@ -241,7 +236,7 @@ def constants(name):
     """The constants of a file: where each is, its name, and its number."""
     text = (TOP / name).read_text()
     if name.endswith(".py"):
-        known = runpy.run_path(str(TOP / name))
+        known = source.python_names(name)
         yield from ((name, each, number) for each, number in known.items() if isinstance(number, int))
         return
     for found in re.finditer(r"\b(?:OP_)?([A-Z][A-Z_0-9]*)(?:: i32)? = (-?\d+)\b", text):

@@ -1,7 +1,6 @@
-#!/usr/bin/env python3
 """Lists the definitions that the headline statements rest on, in docs/PROVED.md.
 
-    docs/proved.py [--check]
+    python3 -m dev.proved [--check]
 
 From the contract of each headline call it follows the names through `ghost use` and `use`, to every definition of the
 folders specs/ and every type of the folders src/ that they name, and writes them between two marks of the page. With
@@ -19,7 +18,7 @@ import sys
 
 TOP = pathlib.Path(__file__).resolve().parent.parent
 PAGE, MEANING = TOP / "docs" / "PROVED.md", TOP / "docs" / "CONVERSATION.md"
-BEGIN, END = "<!-- The lines from here on are written by docs/proved.py. -->", "<!-- Up to here. -->"
+BEGIN, END = "<!-- The lines from here on are written by dev/proved.py. -->", "<!-- Up to here. -->"
 
 # The headline statements: a title, and the public calls whose contracts they are.
 HEADLINES = (
@@ -239,7 +238,7 @@ def main():
     else:
         wrong = [f"docs/CONVERSATION.md: no section has {name}" for name in unexplained(current, MEANING.read_text())]
         if page != current:
-            wrong.append("docs/PROVED.md isn't current: run docs/proved.py")
+            wrong.append("docs/PROVED.md isn't current: run dev/proved.py")
     print("\n".join([*wrong, f"{0 if wrong else 1} passed, {len(wrong)} failed"]))
     return 1 if wrong else 0
 

@@ -1,4 +1,4 @@
-"""What the crates' sources say of the protocol's numbers and records, for docs/names.py and the tests: operations and
+"""What the crates' sources say of the protocol's numbers and records, for dev/names.py and the tests: operations and
 the parts of a multi, with the fields of their requests and replies; errors, events, names of fields, statuses, and
 profiles.
 
@@ -34,6 +34,13 @@ class Operation(NamedTuple):
     release: Optional[str] = None
     xid: Optional[int] = None
     ordinary: bool = True
+
+
+def python_names(name):
+    """What a module in Python has by name, as its file is at this moment."""
+    found = {"__name__": name}
+    exec(compile((TOP / name).read_text(), name, "exec"), found)
+    return found
 
 
 def plain(text):

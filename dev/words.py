@@ -1,16 +1,16 @@
-#!/usr/bin/env python3
-"""Measures how the pages are written, and checks their links.
+"""Checks how the pages and scripts are written, and the pages' links.
 
-    docs/words.py [--check]
+    python3 -m dev.words [--check]
 
-It prints each page's words (those of `wc -w`, without the parts that scripts write), the limit, and the longest
-sentence. With --check it prints only what is wrong: a page or docs/ above its limit of words, a sentence above the
-page's, a word of DIALECT more often than its number allows, a date, a machine or an hour outside of bench/README.md and
-CHANGELOG.md, a link between pages whose file or heading isn't there, a path of the repository or the name of a source
-in code that isn't there, and a word of DIALECT in a script's comments or texts, which are its messages and help, or in
-a comment of a crate's sources, or of C, Rust, Go or JavaScript. There a fast form "stands for" a plain one. So is a
-source or script of more than 400 lines that CONTRIBUTING.md doesn't name, or a shorter one that it names; and a number
-of hints to inline, or of must-fail edits, that isn't that of the crates.
+It prints the number of words of each page's longest sentence. With --check it prints only what is wrong: a sentence
+above the page's limit, a word of DIALECT more often than its number allows, a date, a machine or an hour outside of
+bench/README.md and CHANGELOG.md, a link between pages whose file or heading isn't there, a path of the repository or
+the name of a source in code that isn't there, and a word of DIALECT in a script's comments or texts, which are its
+messages and help, or in a comment of a crate's sources, or of C, Rust, Go or JavaScript. There a fast form "stands for"
+a plain one. So is a script that changes the path on which Python looks for modules, or runs one by its file: modules
+are named from the top (`python3 -m dev.words`, `from dev import words`). So is a source or script of more than 400
+lines that CONTRIBUTING.md doesn't name, or a shorter one that it names; and a number of hints to inline, or of
+must-fail edits, that isn't that of the crates.
 
 A sentence ends with a full stop, a question or an exclamation mark; a table's cell, an item of a list and a heading are
 sentences of their own. Code within a sentence is one word; blocks of code are none.
@@ -26,13 +26,8 @@ import tokenize
 
 TOP = pathlib.Path(__file__).resolve().parent.parent
 
-# The greatest number of words of a page, and of all of docs/; and of words in one sentence.
-WORDS = {"README.md": 1300, "tools/README.md": 3500, "docs/DECISIONS.md": 3000, "docs/MUST_FAIL.md": 1500,
-         "docs/": 22000}
+# The greatest number of words in one sentence.
 SHORT, LONG = 40, 60
-
-# The page of what was measured and changed for speed, which docs/ is counted without.
-FIGURES = "docs/PERF.md"
 PLAIN = {"README.md": SHORT, "tools/README.md": SHORT, "docs/LIBRARY.md": SHORT}
 
 # Words that are rarely the plainest, and how often all pages together may have them.
@@ -51,6 +46,9 @@ DIALECT = {
 MONTHS = "January|February|March|April|May|June|July|August|September|October|November|December"
 DIARY = re.compile(rf"\b\d{{1,2}} (?:{MONTHS})|\b(?:{MONTHS}) \d|\b\d{{4}}-\d\d-\d\d\b"
                    r"|\b(?:this|that) machine\b|\b(?:hours?|minutes?) on\b|\bat a load of\b")
+
+# How a script finds a module in a way of its own, and what is said of it.
+OWN_WAY, WAY = re.compile(r"\bsys\.path\b|\brunpy\b"), "a module is named from the top, as python3 -m dev.words"
 
 # A number that a page has: the page, the words around it, the files of the crates that it is of, and what it counts
 # there.
@@ -77,7 +75,7 @@ LINK = re.compile(r"\[([^\]]*)\]\(([^)\s]+)\)")
 # Code in a line, or a line of it; a path in it that begins with a folder of the repository, or that is the name of a
 # source alone; the words in one that stand for any name, and the names of sources that others have.
 CODE = re.compile(r"`([^`\n]+)`|^    (.*)", re.M)
-PATH = re.compile(r"(?<![\w./*}-])(?:bench|captures|completion|crates|docs|examples|include|packaging|tests|tools"
+PATH = re.compile(r"(?<![\w./*}-])(?:bench|captures|crates|dev|docs|examples|include|packaging|tests|tools"
                   r"|wireshark)/[\w./-]*\w/?(?![\w*{])")
 NAME = re.compile(rf"(?<![\w./*-])[\w-]+(?:{'|'.join(map(re.escape, SOURCES[1:]))})(?![\w./-])")
 ANY_NAME, OF_OTHERS = {"CRATE", "NAME", "mine"}, {"zkr_of.py", "zookeeper.c"}
@@ -163,7 +161,7 @@ def lost(path, text):
 
 def scripts():
     """The scripts in Python, except this one, which has the words themselves."""
-    folders = ("bench", "docs", "examples", "packaging", "tests", "tools")
+    folders = ("bench", "dev", "examples", "packaging", "tests", "tools")
     found = {path for folder in folders for path in (TOP / folder).rglob("*.py")} | {*TOP.glob("crates/*/*.py")}
     return sorted({*found, TOP / "bench" / "run", TOP / "release"} - {pathlib.Path(__file__).resolve()})
 
@@ -178,6 +176,13 @@ def in_scripts():
                 if token.type in kinds:
                     yield from (f"{name_of(path)}:{token.start[0]}: plainer words: {found[0]}"
                                 for found in dialect.finditer(" ".join(token.string.split())))
+
+
+def ways():
+    """The lines of scripts that find a module in a way of their own."""
+    for path in scripts():
+        yield from (f"{name_of(path)}:{line}: {WAY}" for line, text in enumerate(path.read_text().splitlines(), 1)
+                    if OWN_WAY.search(text))
 
 
 def in_sources():
@@ -229,11 +234,6 @@ def counted():
 
 def judged(texts):
     """What is wrong."""
-    sizes = {name_of(path): len(GENERATED.sub("", text).split()) for path, text in texts.items()}
-    sizes["docs/"] = sum(size for name, size in sizes.items() if name.startswith("docs/") and name != FIGURES)
-    for name, limit in WORDS.items():
-        if sizes[name] > limit:
-            yield f"{name}: {sizes[name]} words, and at most {limit} are allowed"
     for path, text in texts.items():
         name = name_of(path)
         for sentence, size in sentences(text):
@@ -248,6 +248,7 @@ def judged(texts):
         if count > limit:
             yield f"the pages have \"{word}\" {count} times, and at most {limit} are allowed"
     yield from in_scripts()
+    yield from ways()
     yield from in_sources()
     yield from too_long()
     yield from counted()
@@ -260,9 +261,7 @@ def main():
     texts = {path: path.read_text() for path in pages()}
     if not sys.argv[1:]:
         for path, text in texts.items():
-            name = name_of(path)
-            longest = max(size for _, size in sentences(text))
-            print(f"{len(GENERATED.sub('', text).split()):6} {WORDS.get(name, '-'):>6} {longest:4}  {name}")
+            print(f"{max(size for _, size in sentences(text)):4}  {name_of(path)}")
     wrong = list(judged(texts))
     print("\n".join([*wrong, f"{0 if wrong else len(texts)} passed, {len(wrong)} failed"]))
     return 1 if wrong else 0

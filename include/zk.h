@@ -3,7 +3,7 @@
  * The library runs on any x86-64; glibc-hwcaps/x86-64-v2/ beside it has a faster one for processors of that level, which
  * the loader chooses.
  *
- * docs/LIBRARY.md says how to link a program with it, and what each call promises. tests/library.py checks this header
+ * docs/LIBRARY.md says how to link a program with it, and what each call promises. tests/library checks this header
  * against the library's source (crates/zk_c/src).
  *
  * The caller's duties: a pointer points to as much as the call says; nothing else writes there during the call, and
@@ -41,7 +41,7 @@ extern "C" {
 enum { ZK_CLIENT = 0, ZK_SERVER = 1 };
 
 /* Profiles, each the operations of a release: docs/FORMATS.md, section 4.
- * The lines from here on are written by docs/names.py. */
+ * The lines from here on are written by dev/names.py. */
 enum { ZK_PROFILE_34 = 34, ZK_PROFILE_35 = 35 };
 /* Up to here. */
 
@@ -224,7 +224,7 @@ enum {
 
 /* Names of a field (docs/FORMATS.md, sections 3 and 4; data, type, id and children are jute's). The elements of a list
  * have the list's name, except that each field of an access right has its own; the header of a part has none. */
-/* The lines from here on are written by docs/names.py. */
+/* The lines from here on are written by dev/names.py. */
 enum {
     ZK_NAME_NONE = 0,
     ZK_NAME_PATH = 1,
@@ -265,7 +265,7 @@ enum {
 /* Up to here. */
 
 /* Numbers that messages have, also of releases that no profile has.
- * The lines from here on are written by docs/names.py. */
+ * The lines from here on are written by dev/names.py. */
 /* An operation, or of a part of a multi. */
 enum {
     ZK_OP_CLOSE_SESSION = -11, ZK_OP_CREATE = 1, ZK_OP_DELETE = 2, ZK_OP_EXISTS = 3, ZK_OP_GET_DATA = 4,
@@ -677,7 +677,7 @@ static inline void zk_add_right(struct zk_builder *to, int32_t permissions, cons
 
 /* ---- Names of numbers; "" where a number has none */
 
-/* The lines from here on are written by docs/names.py. */
+/* The lines from here on are written by dev/names.py. */
 /* Of an operation, or of a part of a multi. */
 ZK_ALSO const char *zk_operation_name(int32_t number) {
     switch (number) {

@@ -8,7 +8,7 @@ import shutil
 import subprocess
 import tarfile
 
-from build_library import TOP
+from .build_library import TOP
 
 
 def time():

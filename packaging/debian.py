@@ -8,11 +8,10 @@ import re
 import shutil
 import subprocess
 
-import archive
-import make_columns
-from build_library import TOP
-from install import OWN, VERSION, install
-from make_library import FAST, SONAME
+from . import archive, make_columns
+from .build_library import TOP
+from .install import OWN, VERSION, install
+from .make_library import FAST, SONAME
 
 LIBDIR = "lib/x86_64-linux-gnu"
 SHARED = SONAME.replace(".so.", "")  # as Debian names it

@@ -3,9 +3,8 @@
 import pathlib
 import tempfile
 
-import archive
-import debian
-from install import VERSION, install
+from . import archive, debian
+from .install import VERSION, install
 
 NAME = f"zkdump-{VERSION}-linux-x86_64"
 

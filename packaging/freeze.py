@@ -1,7 +1,6 @@
-#!/usr/bin/env python3
-"""Lays down what programs that were compiled with a release's zk.h rely on, as static assertions in C: tests/frozen.c.
+"""Lays down what programs that were compiled with a release's zk.h rely on, as static assertions in C: tests/library/frozen.c.
 
-    freeze.py --write|--check
+    python3 -m packaging.freeze --write|--check
 
 The file has the size of each struct, the place and the type of each of its fields, the number of each constant, and
 the parameters of each call. It compiles only with a header that has the same; more calls and constants do no harm, nor do
@@ -16,10 +15,10 @@ import subprocess
 import sys
 import tempfile
 
-from build_library import TOP
-from make_library import HEADER, SONAME, NotMade, calls, run
+from .build_library import TOP
+from .make_library import HEADER, SONAME, NotMade, calls, run
 
-FROZEN = TOP / "tests" / "frozen.c"
+FROZEN = TOP / "tests" / "library" / "frozen.c"
 HEAD = """/* What programs rely on that were compiled with zk.h of {version}, and need {soname}. Written by packaging/freeze.py. */
 #include <stddef.h>
 #include <zk.h>

@@ -1,7 +1,6 @@
-#!/usr/bin/env python3
 """Installs what was built, or removes it.
 
-    install.py [--destdir FOLDER] [--prefix PREFIX] [--libdir LIB] [--remove]
+    python3 -m packaging.install [--destdir FOLDER] [--prefix PREFIX] [--libdir LIB] [--remove]
 
 PREFIX is /usr/local if no other is named, and LIB is a folder below it, lib if no other is named. LIB may have PREFIX
 before it. Everything goes below FOLDER, for whoever makes a package. The program has to be built. Any other part that
@@ -17,10 +16,8 @@ import sys
 import tempfile
 from typing import NamedTuple, Union
 
-import make_columns
-import make_library
-import make_manual
-from build_library import LIBRARY, PLAIN, TOP
+from . import make_columns, make_library, make_manual
+from .build_library import LIBRARY, PLAIN, TOP
 
 PROGRAM = TOP / "crates" / "zkdump" / "out" / "zkdump"
 VERSION = (TOP / "VERSION").read_text().strip()
@@ -67,7 +64,7 @@ def layout(libdir="lib"):
         f"{libdir}/libzk.so": Link(make_library.SONAME),
         f"{OWN}/BUILD": Made("BUILD"),
         f"lib/zkdump/{make_columns.NAME}": Made(make_columns.NAME),
-        "share/bash-completion/completions/zkdump": TOP / "completion" / "zkdump.bash",
+        "share/bash-completion/completions/zkdump": TOP / "packaging" / "completion" / "zkdump.bash",
     }
     libraries = [f"{folder}{name}" for folder in ("", f"{make_library.FAST}/") for name in ("libzk.a", make_library.SONAME)]
     files.update((f"{libdir}/{name}", Made(name)) for name in libraries)

@@ -1,4 +1,3 @@
-#!/usr/bin/env python3
 """Makes zkcolumns, the program by which the tools read recordings fast, of its sources in tools and the proved library for
 x86-64-v2, on which the program zkdump runs, too.
 
@@ -11,8 +10,8 @@ import pathlib
 import sys
 import tempfile
 
-import make_library
-from build_library import TOP
+from . import make_library
+from .build_library import TOP
 
 SOURCES = TOP / "tools" / "zkdump_tools" / "zkcolumns"
 STRICT = ("-std=c11", "-D_POSIX_C_SOURCE=200809L", "-Wall", "-Wextra", "-Wpedantic", "-Wconversion", "-Werror")

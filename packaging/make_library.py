@@ -1,4 +1,3 @@
-#!/usr/bin/env python3
 """Makes the libraries that a program links, out of the proved ones.
 
     make_library.py [--library PATH] [--allocator PATH] FOLDER
@@ -19,7 +18,7 @@ import shutil
 import subprocess
 import sys
 
-from build_library import LIBRARY, PLAIN, TOP, kit
+from .build_library import LIBRARY, PLAIN, TOP, kit
 
 HEADER = TOP / "include" / "zk.h"
 MAP = TOP / "packaging" / "zk.map"

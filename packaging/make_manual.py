@@ -6,9 +6,9 @@ import re
 import shutil
 import subprocess
 
-import archive
-from build_library import TOP
-from make_library import HEADER
+from . import archive
+from .build_library import TOP
+from .make_library import HEADER
 
 PAGES = ("zkdump.1", "zkr.5", "libzk.3")
 

@@ -1,10 +1,6 @@
 """Operations that no profile has, for tests: NUMBER, that of no release, and NAMED, one of those that the tools name."""
 
-import pathlib
-import sys
-
-sys.path.append(str(pathlib.Path(__file__).resolve().parent.parent / "tools"))
-from zkdump_tools import operations
+from tools.zkdump_tools import operations
 
 NUMBER, DIGITS = 9999, "0000270f"
 LACKED = [each for each in operations.ALL if not each.release]

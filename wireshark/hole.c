@@ -17,7 +17,7 @@ struct shape {
     uint32_t behind;
 };
 
-/* The lines from here on are written by docs/names.py. */
+/* The lines from here on are written by dev/names.py. */
 static const struct shape shapes[] = {
     {1, true, false, 12}, {2, true, true, 4}, {3, true, true, 1}, {4, true, true, 1}, {5, true, false, 8},
     {6, true, true, 0}, {7, true, false, 8}, {8, true, true, 1}, {9, true, true, 0}, {11, false, true, 8},

@@ -1,7 +1,7 @@
 /* hole.h
  * Where the frames of one side begin again after bytes that were not captured. It knows nothing of Wireshark.
  *
- * The rule is that of zkdump_tools/resync.py, in whose words it is written down, and tests/wireshark.py holds the two against
+ * The rule is that of zkdump_tools/resync.py, in whose words it is written down, and tests/wireshark holds the two against
  * each other.
  *
  * SPDX-License-Identifier: GPL-2.0-or-later

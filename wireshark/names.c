@@ -12,7 +12,7 @@
 
 #define NUMBER(n) ((guint32)(n))
 
-/* The lines from here on are written by docs/names.py; rows that the sources lack stay. */
+/* The lines from here on are written by dev/names.py; rows that the sources lack stay. */
 const value_string op_names[] = {
     {NUMBER(-11), "closeSession"}, {NUMBER(-10), "createSession"}, {NUMBER(-1), "error"}, {0, "notification"},
     {1, "create"}, {2, "delete"}, {3, "exists"}, {4, "getData"}, {5, "setData"}, {6, "getACL"}, {7, "setACL"},
@@ -81,7 +81,7 @@ int op_row(gint32 op) {
 }
 
 gboolean op_is_newer(gint32 op) {
-    /* The lines from here on are written by docs/names.py. */
+    /* The lines from here on are written by dev/names.py. */
     return (op >= 15 && op <= 22) || (op >= 102 && op <= 107);
     /* Up to here. */
 }

@@ -24,7 +24,7 @@ flag pref_desegment = TRUE, pref_strict = TRUE, pref_hide = TRUE;
 guint pref_limit = 4194304;
 gint pref_profile = NEWEST_PROFILE;
 
-/* The lines from here on are written by docs/names.py. */
+/* The lines from here on are written by dev/names.py. */
 static const enum_val_t profiles[] = {
     {"3.4", "ZooKeeper 3.4", ZK_PROFILE_34}, {"3.5", "ZooKeeper 3.5 (create2)", ZK_PROFILE_35}, {NULL, NULL, 0},
 };

@@ -180,7 +180,7 @@ fn may_have(xid: i32, operation: i32) -> bool {
         && (xid != SET_WATCHES_XID || operation == SET_WATCHES)
 }
 
-// The lines from here on are written by docs/names.py.
+// The lines from here on are written by dev/names.py.
 const CREATE: i32 = 1;
 const DELETE: i32 = 2;
 const EXISTS: i32 = 3;

@@ -1,7 +1,6 @@
-#!/usr/bin/env python3
 """Writes src/tests/earliest/bodies.rt: bodies of every layout, and what `earliest` has to answer for each.
 
-    make_bodies.py > src/tests/earliest/bodies.rt
+    python3 -m crates.talk_tests.make_bodies > crates/talk_tests/src/tests/earliest/bodies.rt
 
 The answers are made by the definition alone: the longest front of a body that begins some spelling of
 the same number of bytes. Whether a front does is found by trying: it is written as a pattern, in which each later
@@ -9,12 +8,9 @@ byte may be any, and `ends` gives the places where an item that fits the pattern
 """
 
 import functools
-import pathlib
 import random
-import sys
 
-sys.path.append(str(pathlib.Path(__file__).resolve().parents[2] / "docs"))
-import formats  # noqa: E402
+from dev import formats
 
 
 def items(of):

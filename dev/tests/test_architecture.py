@@ -1,26 +1,28 @@
-"""A test of docs/architecture.py: a crate that the list of crates lacks is named."""
+"""A test of dev/architecture.py: a crate that the list of crates lacks is named."""
 
 import shutil
 import subprocess
 import sys
 
-from support import TOP, ToolCase
+from tests.tools.support import TOP, ToolCase
 
-MARKS = "<!-- The lines from here on are written by docs/architecture.py. -->\n<!-- Up to here. -->\n"
+MARKS = "<!-- The lines from here on are written by dev/architecture.py. -->\n<!-- Up to here. -->\n"
 
 
 class Crates(ToolCase):
     def run_script(self, *words):
-        done = subprocess.run([sys.executable, self.folder / "docs" / "architecture.py", *words], capture_output=True,
-                              text=True, check=False)
+        done = subprocess.run([sys.executable, "-m", "dev.architecture", *words], cwd=self.folder,
+                              capture_output=True, text=True, check=False)
         return done.returncode, done.stdout, done.stderr
 
     def test_a_crate_that_the_list_lacks(self):
         for name in ("low", "left"):
             (self.folder / "crates" / name / "src").mkdir(parents=True)
             (self.folder / "crates" / name / "src" / "lib.rt").write_text("//! A crate.\n")
-        (self.folder / "docs").mkdir()
-        shutil.copy(TOP / "docs" / "architecture.py", self.folder / "docs")
+        for name in ("docs", "dev"):
+            (self.folder / name).mkdir()
+        for name in ("__init__.py", "architecture.py"):
+            shutil.copy(TOP / "dev" / name, self.folder / "dev")
         for page in ("docs/ARCHITECTURE.md", "crates/README.md"):
             (self.folder / page).write_text(MARKS)
         (self.folder / "crates.txt").write_text("low:\nleft: low\n")

@@ -1,20 +1,20 @@
 """Tests of bench/run, over scripts in the place of the programs of two checkouts, of the jobs that it runs, and of what
 the other scripts of bench/ do where a program fails."""
 
+import importlib.machinery
+import importlib.util
 import itertools
 import os
 import pathlib
 import re
 import resource
-import runpy
 import shutil
 import subprocess
 import sys
 
-from support import PROGRAM, TOP, ToolCase
+from tests.tools.support import PROGRAM, TOP, ToolCase
 
-sys.path.append(str(TOP / "bench"))
-import costs  # noqa: E402  (found by the line above)
+from bench import costs
 
 JOBS = TOP / "crates" / "bench_jobs" / "out" / "bench_jobs"
 # In the place of record.py: connections end early, each after its first bytes, or all but the first ones by a reset.
@@ -97,10 +97,12 @@ class Turns(ToolCase):
             self.assertEqual((done.returncode, done.stdout, done.stderr), (1, "", "workloads.txt has no job\n"))
 
     def test_one_checkout_twice(self):
-        run, took = runpy.run_path(str(TOP / "bench" / "run")), itertools.count(1)
-        workload = run["Workload"]("check bench_jobs check SEED 20")
+        loader, took = importlib.machinery.SourceFileLoader("bench_run", str(TOP / "bench" / "run")), itertools.count(1)
+        run = importlib.util.module_from_spec(importlib.util.spec_from_loader("bench_run", loader))
+        loader.exec_module(run)
+        workload = run.Workload("check bench_jobs check SEED 20")
         workload.run = lambda checkout, seed: (next(took), seed)
-        self.assertEqual(run["measure"](workload, self.folder, self.folder, 1),
+        self.assertEqual(run.measure(workload, self.folder, self.folder, 1),
                          ([1, 4, 5, 8, 9, 12, 13, 16, 17], [2, 3, 6, 7, 10, 11, 14, 15, 18]))
 
     def test_what_prints_nothing_or_another_sum_or_fails(self):
@@ -128,7 +130,7 @@ class Tools(ToolCase):
     def test_a_tool_that_fails_has_no_figures(self):
         if not PROGRAM.exists():
             self.skipTest("the program zkdump is not built")
-        done = subprocess.run([sys.executable, TOP / "bench" / "tools.py", "--megabytes", "1", "--python",
+        done = subprocess.run([sys.executable, "-m", "bench.tools", "--megabytes", "1", "--python",
                                "/bin/false"],
                               capture_output=True, text=True, check=False)
         self.assertEqual((done.returncode, len(done.stdout.splitlines())), (1, 2), done.stdout)
@@ -140,7 +142,7 @@ class Tools(ToolCase):
         time = self.folder / "time"
         time.write_text("#!/bin/sh\necho 250000 >&2\n")       # kilobytes of 1,024 bytes: 256,000,000 bytes
         time.chmod(0o700)
-        done = subprocess.run([sys.executable, TOP / "bench" / "tools.py", "--megabytes", "1"], capture_output=True,
+        done = subprocess.run([sys.executable, "-m", "bench.tools", "--megabytes", "1"], capture_output=True,
                               env={**os.environ, "PATH": f"{self.folder}:{os.environ['PATH']}"}, text=True, check=False)
         self.assertEqual((done.returncode, {line.split()[-1] for line in done.stdout.splitlines()[1:]}), (0, {"256"}))
 
@@ -148,7 +150,7 @@ class Tools(ToolCase):
         python = self.folder / "python"
         python.write_text("#!/bin/sh\necho $$\n")
         python.chmod(0o700)
-        done = subprocess.run([sys.executable, TOP / "bench" / "tools.py", "--megabytes", "1", "--python", python,
+        done = subprocess.run([sys.executable, "-m", "bench.tools", "--megabytes", "1", "--python", python,
                                "--jobs", "2"], capture_output=True, text=True, check=False)
         self.assertEqual((done.returncode, done.stdout.count("\n"), done.stderr), (1, 2, "OTHER OUTPUT\n"))
 
@@ -165,12 +167,12 @@ class Failing(ToolCase):
         program = self.folder / "zkdump"
         program.write_text(f"#!/bin/sh\ncat > {os.devnull}\necho 'a line'\necho '. whole unanswered=0'\n{script}\n")
         program.chmod(0o700)
-        done = subprocess.run([sys.executable, TOP / "bench" / words[0], "--program", program, *words[1:]],
+        done = subprocess.run([sys.executable, "-m", f"bench.{words[0]}", "--program", program, *words[1:]], cwd=TOP,
                               env={**os.environ, "PATH": str(tools)}, capture_output=True, text=True, check=False)
         return done.returncode, done.stdout.splitlines()[-1], done.stderr
 
     def test_a_run_that_is_measured(self):
-        status, _, err = self.measure("test -f /dev/stdout", "run.py", "--megabytes", "1", "--times", "1")
+        status, _, err = self.measure("test -f /dev/stdout", "decoders", "--megabytes", "1", "--times", "1")
         self.assertEqual((status, err), (1, f"{self.folder}/zkdump check ended with status 1\n"))
 
     def test_one_of_three_runs_that_takes_longer(self):
@@ -179,21 +181,21 @@ class Failing(ToolCase):
         script = f"""n=$(expr $(cat {count}) + 1)
             echo $n > {count}
             test $(expr $n % 3) != 0 || {{ i=0; while test $i -lt 20000; do i=$((i + 1)); done; exit 3; }}"""
-        status, last, err = self.measure(script, "growth.py", "--quick", "--only", "one path")
+        status, last, err = self.measure(script, "growth", "--quick", "--only", "one path")
         self.assertEqual((status, last, err), (1, "0 passed, 3 failed", ""))
 
     def test_the_listing_that_build_reads(self):
         script = "test $1 != show || ! test -f /dev/stdout"
-        status, last, err = self.measure(script, "growth.py", "--quick", "--only", "one path")
+        status, last, err = self.measure(script, "growth", "--quick", "--only", "one path")
         self.assertEqual((status, last, err), (1, "0 passed, 3 failed", ""))
 
     def test_a_listing_that_is_cut(self):
         script = "echo '. cut side=C frame=9 got=9'"
-        status, last, err = self.measure(script, "growth.py", "--quick", "--only", "one path")
+        status, last, err = self.measure(script, "growth", "--quick", "--only", "one path")
         self.assertEqual((status, last, err), (1, "0 passed, 3 failed", ""))
 
     def test_a_listing_of_nothing(self):
-        status, last, err = self.measure(": > /dev/stdout", "growth.py", "--quick", "--only", "one path")
+        status, last, err = self.measure(": > /dev/stdout", "growth", "--quick", "--only", "one path")
         self.assertEqual((status, last, err), (1, "0 passed, 3 failed", ""))
 
     def test_a_recording_that_was_not_written(self):
@@ -261,7 +263,7 @@ class Crowd(ToolCase):
     def test_few_clients(self):
         if not shutil.which("cc"):
             self.skipTest("there is no compiler for C")
-        done = subprocess.run([sys.executable, TOP / "bench" / "measure_crowd.py", "--busy", "2", "--new", "3",
+        done = subprocess.run([sys.executable, "-m", "bench.measure_crowd", "--busy", "2", "--new", "3",
                                "--times", "1"], capture_output=True, text=True, check=False)
         self.assertEqual((done.returncode, done.stderr), (0, ""))
         head, _, *rows, load = [line.split("|")[1:-1] for line in done.stdout.splitlines()]

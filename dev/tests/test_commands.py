@@ -1,9 +1,9 @@
-"""Tests of docs/run_examples.py: what of a page it runs, and what it fails."""
+"""Tests of tests/pages/commands.py: what of a page it runs, and what it fails."""
 
 import subprocess
 import sys
 
-from support import TOP, ToolCase
+from tests.tools.support import TOP, ToolCase
 
 LISTENS = """
     $ tools/zkplay.py 2181 crates/zkdump/stdin
@@ -31,7 +31,7 @@ class RunExamples(ToolCase):
         """The status, and what is printed of a page with this text."""
         page = self.folder / "page.md"
         page.write_text(text)
-        done = subprocess.run([sys.executable, TOP / "docs" / "run_examples.py", "--program", "/bin/true", page],
+        done = subprocess.run([sys.executable, "-m", "tests.pages.commands", "--program", "/bin/true", page], cwd=TOP,
                               capture_output=True, text=True, check=False)
         return done.returncode, done.stdout
 

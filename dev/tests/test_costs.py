@@ -8,11 +8,9 @@ import sys
 import unittest
 import unittest.mock
 
-from support import PROGRAM, TOP, ToolCase
+from tests.tools.support import PROGRAM, TOP, ToolCase
 
-sys.path.append(str(TOP / "bench"))
-import costs  # noqa: E402  (found by the line above)
-import costs_inputs  # noqa: E402
+from bench import costs, costs_inputs
 
 KEPT = costs.Cost(1_000_000, {"zk_talk::talk::Talk::step": 600_000, "zk_asks::front::body_end": 300_000})
 ROW = "check small"

@@ -1,11 +1,11 @@
-"""Tests of run.py, what it counts as passed and as failed, and of steps of ./test that are to run nothing."""
+"""Tests of tests/unit.py, what it counts as passed and as failed, and of steps of ./test that are to run nothing."""
 
 import shutil
 import subprocess
 import sys
 import unittest
 
-from support import TOOLS, TOP, ToolCase
+from tests.tools.support import TOP, ToolCase
 
 TESTS = """
 import unittest
@@ -36,20 +36,23 @@ class Never(unittest.TestCase):
 
 class Counts(ToolCase):
     def test_counts(self):
-        shutil.copy(TOOLS / "tests" / "run.py", self.folder)
-        (self.folder / "test_some.py").write_text(TESTS)
-        done = subprocess.run([sys.executable, self.folder / "run.py"], capture_output=True, text=True, check=False)
+        (self.folder / "tests" / "tools").mkdir(parents=True)
+        for name in ("tests/__init__.py", "tests/unit.py", "tests/tools/__main__.py"):
+            shutil.copy(TOP / name, self.folder / name)
+        (self.folder / "tests" / "tools" / "test_some.py").write_text(TESTS)
+        done = subprocess.run([sys.executable, "-m", "tests.tools"], cwd=self.folder, capture_output=True, text=True,
+                              check=False)
         self.assertEqual((done.returncode, done.stdout.splitlines()[-2:]),
-                         (1, ["not run: test_some.Some.test_left_out: it is not here", "1 passed, 3 failed"]))
+                         (1, ["not run: tests.tools.test_some.Some.test_left_out: it is not here", "1 passed, 3 failed"]))
 
     def test_words_that_nothing_has(self):
         program = ("--program", "/bin/true")
-        for words in (("bench/costs.py", "chek"), ("bench/growth.py", *program, "--only", "chek"),
-                      ("tests/devices.py", *program, "--only", "chek"), ("tests/wireshark.py", "chek"),
-                      ("bench/costs.py", "check", "chek"), ("tests/wireshark.py", "golden", "chek"),
-                      ("tools/tests/run.py", "histogram", "chek")):
+        for words in (("bench.costs", "chek"), ("bench.growth", *program, "--only", "chek"),
+                      ("tests.program.failing_streams", *program, "--only", "chek"), ("tests.wireshark", "chek"),
+                      ("bench.costs", "check", "chek"), ("tests.wireshark", "golden", "chek"),
+                      ("tests.tools", "histogram", "chek")):
             with self.subTest(words):
-                done = subprocess.run([sys.executable, TOP / words[0], *words[1:]], capture_output=True, text=True,
+                done = subprocess.run([sys.executable, "-m", *words], cwd=TOP, capture_output=True, text=True,
                                       check=False)
                 self.assertEqual((done.returncode, done.stdout), (2, ""))
                 self.assertRegex(done.stderr.splitlines()[-1], r": no \w+ has this word: chek$")

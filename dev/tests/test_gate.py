@@ -6,7 +6,7 @@ import shutil
 import subprocess
 import unittest
 
-from support import TOP, ToolCase
+from tests.tools.support import TOP, ToolCase
 
 CRATES = "# each crate\nlow:\nhigh: low\nother:\nlow_tests: low\nzkdump: high\n"
 PASSED, SKIPPED = "1 passed, 0 failed", "skipped: the stored cases, since the program isn't built"
@@ -66,12 +66,14 @@ class Quick(ToolCase):
 class Whole(ToolCase):
     def setUp(self):
         super().setUp()
-        (self.folder / "packaging").mkdir()
-        for name in ("test", ".gitignore", "packaging/gate.py", "packaging/build_library.py"):
+        for name in ("test", ".gitignore", "dev/__init__.py", "dev/gate.py", "packaging/__init__.py",
+                     "packaging/build_library.py", "tests/__init__.py", "bench/__init__.py"):
+            (self.folder / name).parent.mkdir(exist_ok=True)
             shutil.copy(TOP / name, self.folder / name)
-        for name in re.findall(r"^    step python3 (\S+)", (TOP / "test").read_text(), re.M):
-            (self.folder / name).parent.mkdir(parents=True, exist_ok=True)
-            (self.folder / name).write_text(f"print('{PASSED}')\n")
+        for name in re.findall(r"^    step python3 (?:-m )?(\S+)", (TOP / "test").read_text(), re.M):
+            path = self.folder / (name if "/" in name else f"{name.replace('.', '/')}/__main__.py")
+            path.parent.mkdir(parents=True, exist_ok=True)
+            path.write_text(f"print('{PASSED}')\n")
         for name in ("crates/zkdump/out/zkdump", "crates/zk_c/out/libzk_c.a", "crates/zk_c/out/plain/libzk_c.a", "bin/rt"):
             (self.folder / name).parent.mkdir(parents=True, exist_ok=True)
             (self.folder / name).write_text("#!/bin/sh\n")
@@ -107,6 +109,6 @@ class Whole(ToolCase):
         self.assertEqual(self.whole(), (0, "none, since the tree has changes"))
 
     def test_a_step_that_says_nothing(self):
-        (self.folder / "tests" / "devices.py").write_text("")
+        (self.folder / "tests" / "program" / "failing_streams" / "__main__.py").write_text("")
         self.git("commit", "--quiet", "--all", "--message=other")
         self.assertEqual(self.whole(), (1, None))

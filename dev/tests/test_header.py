@@ -1,15 +1,15 @@
-"""Tests of what tests/library.py finds in a header that is not the library's."""
+"""Tests of what tests/library/header.py finds in a header that is not the library's."""
 
 import unittest.mock
 
-from support import ToolCase
+from tests.tools.support import ToolCase
 
-import library  # of tests
+from tests.library import header
 
 
 class Header(ToolCase):
     def test_what_is_changed_is_found(self):
-        good = library.HEADER.read_text()
+        good = header.HEADER.read_text()
         for name, old, new in (
             ("nothing", "ZK_VERSION", "ZK_VERSION"),
             ("zk_talk_new", "*talk, uint32_t client, uint32_t server", "*talk, uint32_t server, uint32_t client"),
@@ -21,8 +21,8 @@ class Header(ToolCase):
             ("KIND_BLOB", "ZK_KIND_BLOB = 5", "ZK_KIND_BLOB = 6"), ("UNSEEN", "ZK_UNSEEN = 5", "ZK_UNSEEN = 6"),
         ):
             with self.subTest(name):
-                header = self.folder / "zk.h"
-                header.write_text(good.replace(old, new, 1))
-                with unittest.mock.patch.object(library, "HEADER", header):
-                    found = [name for name, good, _ in library.compare_header() if not good]
+                changed = self.folder / "zk.h"
+                changed.write_text(good.replace(old, new, 1))
+                with unittest.mock.patch.object(header, "HEADER", changed):
+                    found = [name for name, good, _ in header.compare_header() if not good]
                 self.assertEqual(found, [] if name == "nothing" else [name])

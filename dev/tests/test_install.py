@@ -11,13 +11,9 @@ import subprocess
 import sys
 import unittest.mock
 
-from support import PROGRAM, TOP, ToolCase
+from tests.tools.support import PROGRAM, TOP, ToolCase
 
-sys.path.append(str(TOP / "packaging"))
-import debian  # noqa: E402
-import install  # noqa: E402
-import make_columns  # noqa: E402
-import make_library  # noqa: E402
+from packaging import debian, install, make_columns, make_library
 
 
 class Install(ToolCase):
@@ -27,8 +23,8 @@ class Install(ToolCase):
         place = self.folder / "place"
         place.touch()
         for more in ((), ("--remove",)):
-            done = subprocess.run([sys.executable, TOP / "packaging" / "install.py", "--destdir", place, *more],
-                                  capture_output=True, text=True, check=False)
+            done = subprocess.run([sys.executable, "-m", "packaging.install", "--destdir", place, *more],
+                                  cwd=TOP, capture_output=True, text=True, check=False)
             self.assertEqual((done.returncode, done.stderr.count("\n")), (1, 1), done.stderr)
             self.assertRegex(done.stderr, r"^install.py: .*Not a directory: '.*/place/.*'$")
 
@@ -113,7 +109,7 @@ class Place(ToolCase):
     def test_the_environment(self):
         """By it a package went to /usr/local of the system."""
         place = {"DESTDIR": "/a place", "PREFIX": "/opt/zk", "LIBDIR": "lib64"}
-        wanted = 'python3 packaging/install.py --destdir "/a place" --prefix "/opt/zk" --libdir "lib64"'
+        wanted = 'python3 -m packaging.install --destdir "/a place" --prefix "/opt/zk" --libdir "lib64"'
         for target, more in (("install", ""), ("uninstall", " --remove")):
             done = subprocess.run(["make", "-n", "-s", "--no-print-directory", "-C", TOP, target], capture_output=True,
                                   text=True, check=False, env={"PATH": os.environ["PATH"], **place})

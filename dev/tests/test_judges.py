@@ -4,10 +4,11 @@ import shutil
 import subprocess
 import sys
 
-from support import PROGRAM, TOP, ToolCase
+from tests.tools.support import PROGRAM, TOP, ToolCase
 
 # Tests of the plugin for Wireshark where it shows nothing, or a secret where it is to hide none: what they find.
-PLUGIN = """import collections, types, connections, wireshark
+PLUGIN = """import collections, types
+from tests.wireshark import connections, dissection
 del connections.WHOLE[1:]
 class Plugin:
     def frames(self, capture, *words, hide=True):
@@ -20,27 +21,27 @@ class Secretive(Plugin):
         return super().frames(capture, hide=hide)
 for plugin, name in ((Plugin, "one_pass_is_two_passes"), (Plugin, "disturbed"), (Secretive, "secrets_are_hidden"),
                      (Plugin, "secrets_that_are_not_read_are_hidden")):
-    tests = wireshark.Tests(plugin(), "", types.SimpleNamespace(seeds=1))
+    tests = dissection.Tests(plugin(), "", types.SimpleNamespace(seeds=1))
     print(*(bool(good) for good, _ in getattr(tests, f"test_{name}")()))
 """
 
 
 class Judges(ToolCase):
     def run_inside(self, script, *words):
-        """The status and the output of lines in Python that import a script of tests/."""
-        done = subprocess.run([sys.executable, "-c", script, *words], cwd=TOP / "tests", capture_output=True, text=True,
+        """The status and the output of lines in Python that import a module of tests/."""
+        done = subprocess.run([sys.executable, "-c", script, *words], cwd=TOP, capture_output=True, text=True,
                               check=False)
         return done.returncode, done.stdout + done.stderr[-500:]
 
     def run_devices(self, script):
-        """What devices.py prints of a case, of which it has to fail, over a script in the place of the program."""
+        """What failing_streams.py prints of a case, of which it has to fail, over a script in the place of the program."""
         if not PROGRAM.exists() or not shutil.which("cc"):
             self.skipTest("the program zkdump is not built, or there is no compiler for C")
         program = self.folder / "zkdump"
         program.write_text(f"#!/bin/sh\n{script}\n")
         program.chmod(0o700)
-        done = subprocess.run([sys.executable, TOP / "tests" / "devices.py", "--only", "check/connect_answered",
-                               "--program", program], capture_output=True, text=True, check=False)
+        done = subprocess.run([sys.executable, "-m", "tests.program.failing_streams", "--only", "check/connect_answered",
+                               "--program", program], cwd=TOP, capture_output=True, text=True, check=False)
         self.assertEqual(done.returncode, 1, done.stdout)
         return done.stdout.splitlines()
 
@@ -52,14 +53,16 @@ class Judges(ToolCase):
         self.assertEqual(self.run_devices("exit 2")[:-1], ["check/connect_answered: (b'', b'', 2)"])
 
     def test_damage_that_is_refused_at_a_byte_that_did_not_come(self):
-        script = """import damage
+        script = """from tests.program import damage
 pieces = [(b"C", b"abcd"), (b"S", b"efg"), (b"C", b"hij")]
 for side, offset in (("C", 4), ("C", 5), ("S", 3), ("C", 7), ("C", 8), ("S", 4), ("S", 99)):
     print(damage.fault_at(pieces, b". refused side=%s frame=0 offset=%d place=0" % (side.encode(), offset)))"""
         self.assertEqual(self.run_inside(script), (0, "4\n8\n7\n10\n0\n0\n0\n"))
 
     def test_payloads_of_which_each_is_short_at_its_first_byte(self):
-        script = """import fields, source, types
+        script = """import types
+from dev import source
+from tests.library import fields
 class Caller:
     names = {"none": 0, **{name.lower(): number for name, number in source.field_names().items()}}
     def read(self, call, payload, size):
@@ -79,8 +82,8 @@ for caller in (Caller(), Right()):  # one without fields, and one with the right
 
     def test_endings_by_their_numbers(self):
         script = """import collections, sys, types
-sys.path.append("../examples")
-import messages, talk
+from examples import talk
+from tests.library import messages
 fault = talk.Fault(frame=1, offset=61, side=1, place=0, reason=14, expected=1, got=2)
 for ending in (talk.Ending(kind=1, unanswered=3), talk.Ending(kind=2, side=1, frame=4, got=5),
                talk.Ending(kind=3, fault=fault)):
@@ -103,15 +106,15 @@ print(messages.ending_so_far((b"", b""), lanes))"""
 
     def test_a_library_that_refuses_the_first_byte(self):
         script = """import pathlib, sys
-sys.path.append("../examples")
-import messages, talk
+from examples import talk
+from tests.library import messages
 class Library:
     zk_talk_new = zk_through_new = zk_talk_join = lambda *_: 0
     zk_talk_step = zk_talk_pass = lambda *_: talk.Step(status=1)
     zk_through_step = lambda *_: talk.Passed(status=1)
     zk_talk_free = zk_through_free = lambda *_: None
 for name in ("kazoo_basic", "refused_c_path_not_utf8"):
-    path = pathlib.Path(f"../captures/{name}.zkr")
+    path = pathlib.Path(f"captures/{name}.zkr")
     print(*(good for _, good, _ in messages.compare(talk, Library(), {}, [path])))"""
         self.assertEqual(self.run_inside(script), (0, "False False False False\nFalse False True False\n"))
 
@@ -121,13 +124,15 @@ for name in ("kazoo_basic", "refused_c_path_not_utf8"):
         self.assertEqual(self.run_inside(PLUGIN), (0, "".join(f"{line}\n" for line in wanted)))
 
     def test_no_program_that_must_not_compile(self):
-        script = "import pathlib, refused, sys; refused.ROOT = pathlib.Path(sys.argv[1]); sys.exit(refused.main())"
+        script = ("import pathlib, sys; from tests.library import must_not_compile as tested; "
+                  "tested.ROOT = pathlib.Path(sys.argv[1]); sys.exit(tested.main())")
         self.assertEqual(self.run_inside(script, self.folder), (1, "0 passed, 0 failed\n"))
 
     def test_a_call_of_the_library_whose_result_is_no_type_of_the_header(self):
         source = self.folder / "src"
         source.mkdir()
-        script = "import library, pathlib, sys; library.CRATE = pathlib.Path(sys.argv[1]); print(library.exported()[0])"
+        script = ("import pathlib, sys; from tests.library import header; header.CRATE = pathlib.Path(sys.argv[1]); "
+                  "print(header.exported()[0])")
         for result, told in (("", "{'zk_x': ('void', ['uint32_t number'])}\n"),
                              (" -> bool", "{'zk_x': ('bool', ['uint32_t number'])}\n"),
                              (" -> *mut u8", "{'zk_x': ('void *', ['uint32_t number'])}\n"),

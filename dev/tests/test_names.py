@@ -1,4 +1,4 @@
-"""Tests of docs/names.py: a row that is removed or changed is named, and a new operation is written everywhere."""
+"""Tests of dev/names.py: a row that is removed or changed is named, and a new operation is written everywhere."""
 
 import re
 import shutil
@@ -6,15 +6,14 @@ import signal
 import subprocess
 import sys
 
-from support import TOP, ToolCase
-from invented import NUMBER
+from tests.tools.support import TOP, ToolCase
+from tests.unknown_operations import NUMBER
 
-sys.path.append(str(TOP / "docs"))
-import lists  # noqa: E402
+from .. import lists
 
 FOLDERS = [f"crates/{name}/src" for name in ("zk_records", "zk_asks", "zk_answers", "zk_fields", "zk_items", "zk_lines",
                                              "zk_recordings", "zk_runs", "zk_talk", "zk_c")]
-FILES = (*lists.PARTS, *lists.WHOLE, "docs/names.py", "docs/lists.py", "docs/constants.py", "docs/newer.py", "docs/source.py", "docs/formats.py",
+FILES = (*lists.PARTS, *lists.WHOLE, "dev/__init__.py", "dev/names.py", "dev/lists.py", "dev/constants.py", "dev/newer.py", "dev/source.py", "dev/formats.py",
          "docs/FORMATS.md", "docs/LIBRARY.md", "docs/REASONS.md", "docs/man/zkdump.1.scd", "docs/man/zkr.5.scd",
          "examples/python/libzk/_messages.py", "examples/python/libzk/_held.py", "examples/server.c",
          "crates/talk_tests/src/tests/earliest/bodies.rt", "wireshark/tree.c", "wireshark/message.h",
@@ -51,7 +50,7 @@ WRITTEN = (
      "has {8, true, true, 2}; lacks {8, true, true, 1}"),
     ("bench/peer/peer.rs", "const GET_ACL: i32 = 6;", "const GET_ACL: i32 = 7;",
      "has const GET_ACL: i32 = 7; lacks const GET_ACL: i32 = 6"),
-    ("tests/chosen.h", "PICK(1, 2, 3, 4,", "PICK(1, 2, 4,", "lacks 3"),
+    ("tests/library/chosen.h", "PICK(1, 2, 3, 4,", "PICK(1, 2, 4,", "lacks 3"),
 )
 COMPARED = (
     ("docs/FORMATS.md", "| 9 | sync, `Sync` |", "| 10 | sync, `Sync` |",
@@ -226,10 +225,10 @@ class Names(ToolCase):
             (shutil.copytree if (TOP / name).is_dir() else shutil.copy)(TOP / name, to)
 
     def run_names(self, word):
-        """The status and the lines of docs/names.py. Each run has a minute, as a test has many."""
+        """The status and the lines of dev/names.py. Each run has a minute, as a test has many."""
         signal.alarm(60)
-        done = subprocess.run([sys.executable, self.folder / "docs" / "names.py", word], capture_output=True, text=True,
-                              check=False)
+        done = subprocess.run([sys.executable, "-m", "dev.names", word], cwd=self.folder, capture_output=True,
+                              text=True, check=False)
         self.assertEqual(done.stderr, "")
         return done.returncode, done.stdout.splitlines()
 
@@ -242,9 +241,9 @@ class Names(ToolCase):
 
     def test_words(self):
         for words in ([], ["--check", "--write"], ["--help"]):
-            done = subprocess.run([sys.executable, self.folder / "docs" / "names.py", *words], capture_output=True,
+            done = subprocess.run([sys.executable, "-m", "dev.names", *words], cwd=self.folder, capture_output=True,
                                   text=True, check=False)
-            self.assertEqual((done.returncode, done.stdout, done.stderr), (2, "", "docs/names.py --write|--check\n"))
+            self.assertEqual((done.returncode, done.stdout, done.stderr), (2, "", "python3 -m dev.names --write|--check\n"))
 
     def test_written(self):
         """A written row that is removed or changed is named, and written again."""
@@ -286,12 +285,12 @@ class Names(ToolCase):
         _, lines = self.run_names("--check")
         said = [line for line in lines if re.search("(?i)invent|9.?9", line)]
         places = {re.match(r"[\w./]+", line)[0] for line in said}
-        self.assertEqual(places, {"include/zk.h", "tools/zkdump_tools/operations.py", "tests/chosen.h", "docs/FORMATS.md",
+        self.assertEqual(places, {"include/zk.h", "tools/zkdump_tools/operations.py", "tests/library/chosen.h", "docs/FORMATS.md",
                                   "examples/python/libzk/_names.py", "examples/rust/zk/src/names.rs",
                                   "tools/zkdump_tools/zkcolumns/json.c", "wireshark/names.c", "wireshark/tree.c",
                                   "bench/peer/peer.rs", "wireshark/register.c", "examples/go/libzk.go",
                                   "examples/go/names.go",
-                                  "completion/zkdump.bash", "crates/talk_tests/src/tests/earliest/bodies.rt",
+                                  "packaging/completion/zkdump.bash", "crates/talk_tests/src/tests/earliest/bodies.rt",
                                   "docs/man/zkr.5.scd"})
         for name, before, added in PAGE:
             self.change(name, before, added + before)

@@ -1,15 +1,13 @@
-"""Tests of docs/clauses.py, docs/cases.py, docs/words.py and docs/proved.py: clauses, functions and paths that a page
-names and that aren't there, cases that it shows otherwise, and definitions that no section explains."""
+"""Tests of tests/pages/clauses.py, tests/pages/stored_cases.py, dev/words.py and dev/proved.py: clauses, functions and
+paths that a page names and that aren't there, cases that it shows otherwise, and definitions that no section explains."""
 
 import subprocess
 import sys
 
-from support import TOP, ToolCase
+from tests.tools.support import TOP, ToolCase
 
-sys.path.append(str(TOP / "docs"))
-import cases  # noqa: E402  (found by the line above)
-import proved  # noqa: E402
-import words  # noqa: E402
+from tests.pages import stored_cases
+from .. import proved, words
 
 PAGE = """| What holds | Clauses |
 |---|---|
@@ -26,7 +24,7 @@ class Clauses(ToolCase):
     def test_what_there_is_not_is_named(self):
         page = self.folder / "PAGE.md"
         page.write_text(PAGE)
-        done = subprocess.run([sys.executable, TOP / "docs" / "clauses.py", page], capture_output=True, text=True,
+        done = subprocess.run([sys.executable, "-m", "tests.pages.clauses", page], cwd=TOP, capture_output=True, text=True,
                               check=False)
         self.assertEqual((done.returncode, done.stderr), (1, ""))
         self.assertEqual(done.stdout.splitlines(), ["PAGE.md: no source has Talk::gone",
@@ -38,13 +36,13 @@ class Clauses(ToolCase):
         page.write_text("`zk_jute::laws`, `Ask::Multi`, `FromRead::read`, `put_escaped`, `connect_answered`, `_view`, "
                         "`zk_jute::ItemFault`, `Vec::new`; `Origin::has`, `Talk::put_escaped`, `zk_jute::read_all`, "
                         f"`Op::Gone`, `{GONE}`\n")
-        done = subprocess.run([sys.executable, TOP / "docs" / "clauses.py", page], capture_output=True, text=True,
+        done = subprocess.run([sys.executable, "-m", "tests.pages.clauses", page], cwd=TOP, capture_output=True, text=True,
                               check=False)
         self.assertEqual(done.stdout.splitlines(), [f"PAGE.md: no source has {name}" for name in (
             "Op::Gone", "Origin::has", "Talk::put_escaped", GONE, "zk_jute::read_all")] + [
                 "7 passed, 5 failed"])
         page.write_text("words\n")
-        done = subprocess.run([sys.executable, TOP / "docs" / "clauses.py", page], capture_output=True, text=True,
+        done = subprocess.run([sys.executable, "-m", "tests.pages.clauses", page], cwd=TOP, capture_output=True, text=True,
                               check=False)
         self.assertEqual((done.returncode, done.stdout), (1, "0 passed, 0 failed\n"))
 
@@ -93,7 +91,7 @@ OTHERWISE = (
 class Cases(ToolCase):
     def compared(self, text):
         (self.folder / "PAGE.md").write_text(text)
-        return [*cases.compared(self.folder / "PAGE.md")]
+        return [*stored_cases.compared(self.folder / "PAGE.md")]
 
     def test_what_a_page_shows_otherwise_than_the_case(self):
         self.assertEqual([good for good, _ in self.compared(CASES)], 15 * [True])
@@ -103,15 +101,15 @@ class Cases(ToolCase):
     def test_a_page_without_cases(self):
         (self.folder / "PAGE.md").write_text("`. whole unanswered=0`\n")
         for words, wanted in ((["PAGE.md"], (1, "0 passed, 0 failed\n")), ([], (0, None))):
-            done = subprocess.run([sys.executable, TOP / "docs" / "cases.py", *words], cwd=self.folder,
-                                  capture_output=True, text=True, check=False)
+            done = subprocess.run([sys.executable, "-m", "tests.pages.stored_cases", *(self.folder / word for word in words)],
+                                  cwd=TOP, capture_output=True, text=True, check=False)
             self.assertEqual((done.returncode, done.stderr), (wanted[0], ""))
             self.assertIn(wanted[1], (None, done.stdout))
 
 
 class Paths(ToolCase):
     def test_a_path_that_is_not_there_is_named(self):
-        page = ("`tests/devices.py`, `tests/device.py`, `tools/build.py`, `docs/*.py`, `tools/NAME.py`, "
+        page = ("`tests/unit.py`, `tests/device.py`, `tools/build.py`, `dev/*.py`, `tools/NAME.py`, "
                 "`tests/golden`, `bin/zkdump`, `crates/CRATE/must-fail/NAME.edit`, `crates/zk_c/out/libzk_c.a`, "
                 "`crates/zk_gone/src`, `crates/zkdump/cases/build/gone.args`, "
                 "`crates/zkdump/cases/build/no_lines.args`, `examples/python/build/lib`")
@@ -120,12 +118,12 @@ class Paths(ToolCase):
                 "tests/device.py", "tools/build.py", "crates/zk_gone/src", "crates/zkdump/cases/build/gone.args")])
 
     def test_a_path_among_other_words_and_a_source_alone_are_named(self):
-        page = ("`docs/gone.py --write`, `docs/names.py --write`, `cc -Iinclude bench/gone.c`, `gone.h`, `hand.h`, "
+        page = ("`dev/gone.py --write`, `dev/names.py --write`, `cc -Iinclude bench/gone.c`, `gone.h`, `hand.h`, "
                 "`crates/zk_*/src`, `gone.txt`, `zookeeper.c`, `/usr/share/tools/gone.py`\n\n"
                 "    tools/gone.py FILE  # and tools/zkstat.py\n")
         self.assertEqual([*words.lost(TOP / "bench" / "README.md", page)], [
             f"bench/README.md: there is no {name}" for name in (
-                "docs/gone.py", "bench/gone.c", "tools/gone.py", "gone.h")])
+                "dev/gone.py", "bench/gone.c", "tools/gone.py", "gone.h")])
 
 
 class Definitions(ToolCase):

@@ -4,7 +4,7 @@ import shutil
 import subprocess
 import sys
 
-from support import TOP, ToolCase
+from tests.tools.support import TOP, ToolCase
 
 
 class Lacking(ToolCase):

@@ -1,13 +1,11 @@
-"""Tests of docs/words.py: which scripts and sources it reads, and what it finds there and in pages."""
+"""Tests of dev/words.py: which scripts and sources it reads, and what it finds there and in pages."""
 
 import subprocess
-import sys
 import unittest.mock
 
-from support import TOP, ToolCase
+from tests.tools.support import TOP, ToolCase
 
-sys.path.append(str(TOP / "docs"))
-import words  # noqa: E402  (found by the line above)
+from .. import words
 
 WORDS = " ".join(("so", "many"))     # in one string this file would be reported
 
@@ -29,7 +27,7 @@ class Pages(ToolCase):
                             ("since 2026-11-28,", "2026-11-28"), ("as `2026-11-28T10:00:00.000Z`", None),
                             ("it may 2 times", None), ("    $ date\n    2026-11-28\n", None)):
             page = {words.TOP / "docs" / "LIBRARY.md": text + "\n"}
-            with unittest.mock.patch.multiple(words, WORDS={}, in_scripts=list, in_sources=list, too_long=list,
+            with unittest.mock.patch.multiple(words, in_scripts=list, ways=list, in_sources=list, too_long=list,
                                                counted=list):
                 self.assertEqual([*words.judged(page)], [f"docs/LIBRARY.md: a diary's words: {found}"] if found else [])
 
@@ -57,7 +55,18 @@ class Scripts(ToolCase):
         there = {TOP / name for name in done.stdout.split("\0") if name and (TOP / name).exists()}
         python = {path for path in there if path.is_file() and (
             path.suffix == ".py" or path.read_bytes().startswith(b"#!/usr/bin/env python3\n"))}
-        self.assertEqual(python - {*words.scripts()}, {TOP / "docs" / "words.py"})
+        self.assertEqual(python - {*words.scripts()}, {TOP / "dev" / "words.py"})
+
+    def test_another_way_to_a_module(self):
+        """A module that is found by a changed path, or run by its file, is another for each way to it."""
+        for name, text in (("tests/good.py", "import sys\n\nfrom dev import words\n"),
+                           ("tests/bad.py", f"import sys\nsys.{'path'}.append('dev')\n"),
+                           ("bench/run", f"import os, {'run' + 'py'}\n")):
+            (self.folder / name).parent.mkdir(parents=True, exist_ok=True)
+            (self.folder / name).write_text(text)
+        (self.folder / "release").touch()
+        with unittest.mock.patch.object(words, "TOP", self.folder):
+            self.assertEqual([*words.ways()], [f"bench/run:1: {words.WAY}", f"tests/bad.py:2: {words.WAY}"])
 
     def test_words_in_scripts_of_crates_and_without_a_suffix(self):
         for name in ("crates/zkdump/run_cases.py", "bench/run", "release"):

@@ -10,10 +10,9 @@ import sys
 import time
 import unittest
 
-from support import TOOLS, TOP, ToolCase
+from tests.tools.support import TOP, ToolCase
 
-sys.path.insert(0, str(TOP / "packaging"))
-import build_program  # noqa: E402
+from packaging import build_program
 
 # Writes down where it was called and how, and when that ended. Like the toolchain, it refuses a crates.txt with a line
 # of a crate that has no folder, and keeps every other call out of the crate and those that it uses, which are in the
@@ -230,10 +229,9 @@ class Lanes(WrapperCase):
     def run_lanes(self, count, **environment):
         """Proves in `count` lanes; returns the calls and their ends, in order."""
         self.calls.write_text("")
-        script = ("import sys; sys.path.insert(0, sys.argv[1]); import build_program as b; "
-                  f"b.Build.lane_count = lambda self: {count}; b.Build(b.pathlib.Path(sys.argv[2])).run()")
-        done = subprocess.run([sys.executable, "-c", script, TOP / "packaging", self.top], capture_output=True,
-                              text=True,
+        script = ("import sys; from packaging import build_program as b; "
+                  f"b.Build.lane_count = lambda self: {count}; b.Build(b.pathlib.Path(sys.argv[1])).run()")
+        done = subprocess.run([sys.executable, "-c", script, self.top], cwd=TOP, capture_output=True, text=True,
                               env=self.environment(**environment), check=False)
         self.assertEqual(done.returncode, 0, done.stderr)
         return self.calls.read_text().splitlines()

@@ -40,7 +40,7 @@ type Profile uint32
 
 // The profiles.
 const (
-	// The lines from here on are written by docs/names.py.
+	// The lines from here on are written by dev/names.py.
 	Profile34 Profile = C.ZK_PROFILE_34
 	Profile35 Profile = C.ZK_PROFILE_35
 	// Up to here.

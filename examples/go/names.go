@@ -1,6 +1,6 @@
 package libzk
 
-// Constants of numbers, and their names; written by docs/names.py.
+// Constants of numbers, and their names; written by dev/names.py.
 
 // #include <zk.h>
 import "C"

@@ -4,7 +4,7 @@ _zkdump() {
     # bash takes --option=value apart at the sign.
     [[ $before != = ]] || before=${COMP_WORDS[COMP_CWORD - 2]}
     case $before in
-    # The lines from here on are written by docs/names.py.
+    # The lines from here on are written by dev/names.py.
     --profile) words="3.4 3.5" ;;
     # Up to here.
     *['<>']) return ;;

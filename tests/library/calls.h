@@ -1,4 +1,4 @@
-/* What tests/calls.c is made of: numbers at random, memory between guard pages, and stored messages.
+/* What tests/library/calls.c is made of: numbers at random, memory between guard pages, and stored messages.
  *
  * A guard page may not be touched: a call that reads or writes a byte beside its bytes ends the program. */
 #define _DEFAULT_SOURCE

@@ -1,4 +1,4 @@
-/* What tests/calls.c gives to calls: limits, sides, profiles, operations, pieces and rooms, right or wrong, at random. */
+/* What tests/library/calls.c gives to calls: limits, sides, profiles, operations, pieces and rooms, right or wrong, at random. */
 #include "calls.h"
 
 enum { ROOM = 1 << 16, FIELDS = 300 };
@@ -57,7 +57,7 @@ static uint32_t any_side(void) {
     return one_in(50) ? (uint32_t)PICK(2, 3, UINT32_MAX) : (uint32_t)chance(2);
 }
 
-/* Profiles. The lines from here on are written by docs/names.py. */
+/* Profiles. The lines from here on are written by dev/names.py. */
 enum { NEWEST = 35 };
 
 static uint32_t any_profile(void) {
@@ -70,7 +70,7 @@ static bool is_profile(uint32_t number) {
 /* Up to here. */
 
 static int32_t any_operation(void) {
-    /* The lines from here on are written by docs/names.py. */
+    /* The lines from here on are written by dev/names.py. */
     return (int32_t)PICK(1, 2, 3, 4, 5, 6, 7, 8, 9, 11, 12, 13, 14, 15, 100, 101, -11, 0, 10, -1, INT32_MIN, INT32_MAX);
     /* Up to here. */
 }

@@ -1,6 +1,6 @@
 """Runs the proxy of examples/: all comes through as it is, and what it prints is compared with listings.
 
-tests/examples.py calls it.
+tests/library/examples.py calls it.
 """
 
 import pathlib
@@ -13,13 +13,13 @@ import subprocess
 import threading
 import time
 
-import answering
-from invented import DIGITS, NUMBER
-from listed import listings_of
+from . import small_server
+from ..unknown_operations import DIGITS, NUMBER
+from ..stored_listings import listings_of
 
-CAPTURES = pathlib.Path(__file__).resolve().parent.parent / "captures"
-HELLO = answering.framed(bytes.fromhex("00000000 0000000000000000 00007530 0000000000000000 00000010") + bytes(16))
-EXISTS = answering.framed(bytes.fromhex("00000001 00000003 00000002 2f61 01"))
+CAPTURES = pathlib.Path(__file__).resolve().parents[2] / "captures"
+HELLO = small_server.framed(bytes.fromhex("00000000 0000000000000000 00007530 0000000000000000 00000010") + bytes(16))
+EXISTS = small_server.framed(bytes.fromhex("00000001 00000003 00000002 2f61 01"))
 PATIENCE = 20  # seconds
 WAITING = 1024  # of proxy.c
 # What profile 3.5 lacks in a recording: the lines after those of the connect messages.
@@ -142,7 +142,7 @@ def pass_recordings(program):
 
 def many_connections(program):
     """Whether connections that are open at once are served, and a server that is not there harms none of them."""
-    with answering.Server() as server:
+    with small_server.Server() as server:
         threading.Thread(target=server.serve_forever, daemon=True).start()
         proxy = Proxy(program, server.port)
         clients = [proxy.connect() for _ in range(200)]
@@ -170,7 +170,7 @@ def half_closed(program):
             client.shutdown(socket.SHUT_WR)
             asked = came(server, 1000)
             time.sleep(0.1)
-            reply = answering.framed(answering.CONNECTED) + answering.framed(answering.reply(EXISTS[4:], 5))
+            reply = small_server.framed(small_server.CONNECTED) + small_server.framed(small_server.reply(EXISTS[4:], 5))
             server.sendall(reply)
             server.close()
             answered = came(client, 1000)
@@ -189,7 +189,7 @@ def backpressure(program):
         with proxy.connect() as client, undelayed(listener.accept()[0]) as server:
             client.setblocking(False)
             # The frame of no bytes is refused, so nothing waits for replies.
-            said, sent, idle = HELLO + answering.framed(b"") + EXISTS * 3_000_000, 0, 0
+            said, sent, idle = HELLO + small_server.framed(b"") + EXISTS * 3_000_000, 0, 0
             while idle < 5 and sent < len(said):
                 try:
                     sent += client.send(said[sent:sent + 65536])
@@ -225,11 +225,11 @@ def full(frame, offset):
 def heavy(program):
     """Whether a multi of too many parts is reported, though nothing else waits, and all goes on unseen."""
     part, ends = bytes.fromhex("0000000d 00 ffffffff 00000002 2f61 00000000"), bytes.fromhex("ffffffff 01 ffffffff")
-    multi = answering.framed(struct.pack(">ii", 1, 14) + part * WAITING + ends)
+    multi = small_server.framed(struct.pack(">ii", 1, 14) + part * WAITING + ends)
     with socket.create_server(("127.0.0.1", 0)) as listener:
         proxy = Proxy(program, listener.getsockname()[1])
         with proxy.connect() as client, undelayed(listener.accept()[0]) as server:
-            good = passes(client, server, HELLO) and passes(server, client, answering.framed(answering.CONNECTED))
+            good = passes(client, server, HELLO) and passes(server, client, small_server.framed(small_server.CONNECTED))
             good = good and all(passes(client, server, piece) for piece in (multi[:1000], multi[1000:] + EXISTS, EXISTS))
         status = proxy.end()
     good &= status == (0, "") and proxy.of(1)[2:] == [full(1, len(HELLO + multi))]
@@ -246,7 +246,7 @@ def few_descriptors(program):
     """Whether the proxy rests while it can't take a client, and then takes it."""
     def limit():
         resource.setrlimit(resource.RLIMIT_NOFILE, (12, 12))
-    with answering.Server() as server:
+    with small_server.Server() as server:
         threading.Thread(target=server.serve_forever, daemon=True).start()
         begun, proxy = spent(), Proxy(program, server.port, preexec_fn=limit)
         clients = [proxy.connect() for _ in range(8)]
@@ -265,8 +265,8 @@ def few_descriptors(program):
 def held_up(program):
     """Whether a client of which as many requests wait as may is held up, until the server replies or has sent all."""
     first, rest = HELLO + EXISTS * WAITING, EXISTS * 500
-    reply = answering.framed(answering.reply(EXISTS[4:], 5))
-    answers = answering.framed(answering.CONNECTED) + reply * WAITING, reply * 500
+    reply = small_server.framed(small_server.reply(EXISTS[4:], 5))
+    answers = small_server.framed(small_server.CONNECTED) + reply * WAITING, reply * 500
     for name, answers, told in (("replies", answers, ". whole unanswered=0"),
                                 ("no replies", (b"", b""), full(WAITING + 1, len(first + EXISTS)))):
         with socket.create_server(("127.0.0.1", 0)) as listener:
@@ -294,7 +294,7 @@ def one_waits(program):
         with proxy.connect() as client, undelayed(listener.accept()[0]) as server:
             client.sendall(HELLO + EXISTS * 3)
             good = came(server, len(HELLO + EXISTS)) == HELLO + EXISTS and is_silent(server)
-            answer, reply = answering.framed(answering.CONNECTED), answering.framed(answering.reply(EXISTS[4:], 5))
+            answer, reply = small_server.framed(small_server.CONNECTED), small_server.framed(small_server.reply(EXISTS[4:], 5))
             for wanted in (EXISTS, EXISTS, b""):
                 server.sendall(answer + reply)
                 good &= came(client, len(answer + reply)) == answer + reply and came(server, len(wanted)) == wanted
@@ -317,7 +317,7 @@ def unread(program):
         proxy = Unread(program, listener.getsockname()[1])
         proxy.reader.join()
         with proxy.connect() as client, undelayed(listener.accept()[0]) as server:
-            good = passes(client, server, HELLO) and passes(server, client, answering.framed(answering.CONNECTED))
+            good = passes(client, server, HELLO) and passes(server, client, small_server.framed(small_server.CONNECTED))
             good = good and passes(client, server, EXISTS)
         status = proxy.end()
     good &= status == (2, "proxy: standard output can't be written\n")
@@ -330,7 +330,7 @@ def endings(program):
         with socket.create_server(("127.0.0.1", 0)) as listener:
             proxy = Proxy(program, listener.getsockname()[1])
             with proxy.connect() as client, undelayed(listener.accept()[0]) as server:
-                good = passes(client, server, HELLO) and passes(server, client, answering.framed(answering.CONNECTED))
+                good = passes(client, server, HELLO) and passes(server, client, small_server.framed(small_server.CONNECTED))
                 for side, digits in said:
                     ends = (client, server) if side == "C" else (server, client)
                     good &= passes(*ends, bytes.fromhex(digits))

@@ -1,6 +1,6 @@
 """Runs the fake server of examples/: its frames are those of docs/FORMATS.md, and the client of examples/ reads them.
 
-tests/examples.py calls it.
+tests/library/examples.py calls it.
 """
 
 import signal

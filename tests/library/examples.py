@@ -1,9 +1,9 @@
 """Compiles and runs the examples of examples/, and the tests in C.
 
-tests/library.py calls it. Each program in C is compiled as C11 without a warning, and with the address sanitizer where
+header.py calls it. Each program in C is compiled as C11 without a warning, and with the address sanitizer where
 the compiler has it. The examples print the listing of every recording of captures/. The proxy passes on each of them,
-and many connections at once (passing.py). The client speaks to answering.py, and the fake server to the client
-(served.py).
+and many connections at once (example_proxy.py). The client speaks to small_server.py, and the fake server to the client
+(example_server.py).
 """
 
 import itertools
@@ -18,16 +18,16 @@ import subprocess
 import sys
 import threading
 
-import answering
-import passing
-import served
-from listed import listings_of
-from passing import came, pieces, undelayed
+from examples import talk
+from . import example_proxy, example_server, small_server
+from ..stored_listings import listings_of
+from .example_proxy import came, pieces, undelayed
 
-TOP = pathlib.Path(__file__).resolve().parent.parent
+TOP = pathlib.Path(__file__).resolve().parents[2]
 CAPTURES, EXAMPLES = TOP / "captures", TOP / "examples"
+HERE = TOP / "tests" / "library"
 PROGRAMS = {path.stem: path for path in (*sorted(EXAMPLES.glob("*.c")),
-                                         *(TOP / "tests" / f"{name}.c" for name in ("calls", "nulls", "threads")))}
+                                         *(HERE / f"{name}.c" for name in ("calls", "nulls", "threads")))}
 STRICT = ("-std=c11", "-Wall", "-Wextra", "-Wpedantic", "-Werror")
 SAID = """connected: time_out=10000
 create: OK path=/a
@@ -71,7 +71,7 @@ def ends_well(name, *words, **options):
 
 def measure_client(program):
     """Whether it goes on with reads, and with sessions one after another, each of which begins anew."""
-    with answering.Server() as server:
+    with small_server.Server() as server:
         threading.Thread(target=server.serve_forever, daemon=True).start()
         words = [program, "127.0.0.1", str(server.port), "/a", "", "20"]
         found = subprocess.run(words, capture_output=True, text=True)
@@ -86,7 +86,7 @@ def measure_client(program):
 
 def run_client(program):
     """Whether the client prints what the server has, and says what it should."""
-    with answering.Server() as server:
+    with small_server.Server() as server:
         threading.Thread(target=server.serve_forever, daemon=True).start()
         found = subprocess.run([program, "127.0.0.1", str(server.port), "/a", '"hü"'], capture_output=True, text=True)
         server.shutdown()
@@ -100,7 +100,7 @@ def run_client(program):
         with subprocess.Popen(words, stderr=subprocess.PIPE, text=True) as found:
             with undelayed(listener.accept()[0]) as server:
                 came(server, 48)
-                server.sendall(answering.framed(b"nothing"))
+                server.sendall(small_server.framed(b"nothing"))
                 told = found.stderr.read()
     good = (found.returncode, told) == (1, "client: SHORT\n")
     yield "client, refused", good, f"client: {found.returncode}, {told}"
@@ -108,19 +108,19 @@ def run_client(program):
 
 def try_addresses(folder, archive, cc):
     """Whether the client and the proxy find a server at a name's second address, where the first one refuses."""
-    first = TOP / "tests" / "refused_first.h"
+    first = HERE / "refused_first.h"
     programs = {name: os.path.join(folder, f"{name}_second") for name in ("client", "proxy")}
     for name, program in programs.items():
         subprocess.run([cc, *STRICT, "-include", first, f"-I{TOP / 'include'}", "-o", program, EXAMPLES / f"{name}.c",
                         archive, "-pthread"], check=True)
-    with answering.Server() as server:
+    with small_server.Server() as server:
         threading.Thread(target=server.serve_forever, daemon=True).start()
         words = ["127.0.0.1", str(server.port), "/a", '"hü"']
         found = subprocess.run([programs["client"], *words], capture_output=True, text=True)
         yield "client, addresses", found.stdout == SAID, f"client, addresses: {found.stdout}{found.stderr}"
-        proxy = passing.Proxy(programs["proxy"], server.port)
+        proxy = example_proxy.Proxy(programs["proxy"], server.port)
         with proxy.connect() as client:
-            client.sendall(passing.HELLO)
+            client.sendall(example_proxy.HELLO)
             got = len(came(client, 41))
         status = proxy.end()
         server.shutdown()
@@ -130,9 +130,9 @@ def try_addresses(folder, archive, cc):
 def wait_for_replies(folder, archive, cc):
     """Whether the proxy, made for one request that may wait, passes on each in its turn."""
     source, program = pathlib.Path(folder, "waits.c"), os.path.join(folder, "proxy_waits")
-    source.write_text((EXAMPLES / "proxy.c").read_text().replace(f"WAITING = {passing.WAITING}", "WAITING = 1"))
+    source.write_text((EXAMPLES / "proxy.c").read_text().replace(f"WAITING = {example_proxy.WAITING}", "WAITING = 1"))
     subprocess.run([cc, *STRICT, f"-I{TOP / 'include'}", "-o", program, source, archive], check=True)
-    yield from passing.one_waits(program)
+    yield from example_proxy.one_waits(program)
 
 
 # ---- Listings and fields
@@ -180,7 +180,7 @@ def fail_to_read(folder, archive, cc):
     """Whether a read that fails isn't taken for the end of the recording."""
     for left, (name, *more) in itertools.product((2, 4, 6, 11), (("listing",), ("late", "0"))):
         program = os.path.join(folder, f"{name}_within")
-        subprocess.run([cc, *STRICT, f"-DLEFT={left}", "-include", TOP / "tests" / "fails_within.h",
+        subprocess.run([cc, *STRICT, f"-DLEFT={left}", "-include", HERE / "fails_within.h",
                         f"-I{TOP / 'include'}", "-o", program, EXAMPLES / f"{name}.c", archive], check=True)
         found = subprocess.run([program, "any.zkr", *more], capture_output=True, text=True)
         good = (found.returncode, found.stdout, found.stderr) == (2, "", f"{name}: Input/output error\n")
@@ -190,8 +190,6 @@ def fail_to_read(folder, archive, cc):
 
 def fail_within(shared):
     """Whether talk.py reports a line that can't be made, and doesn't end the listing there as if all were read."""
-    sys.path.insert(0, str(EXAMPLES))
-    import talk
     library, status = talk.Library(str(shared)), None
     library.zk_talk_line = lambda *_: talk.Line(5, 0)  # NO_MEMORY
     try:
@@ -270,13 +268,13 @@ def print_in_vain(programs):
     """Whether each program that prints what it found says that it can't, and has another status."""
     if not os.path.exists("/dev/full"):
         return
-    with answering.Server() as server, open("/dev/full", "wb") as full:
+    with small_server.Server() as server, open("/dev/full", "wb") as full:
         threading.Thread(target=server.serve_forever, daemon=True).start()
         for name, *given in (("fields", "request", "34", "0000000100000003000000022f6101"), ("client_frames",),
                              ("client", "127.0.0.1", str(server.port), "/a", ""), ("server",),
                              ("proxy", "0", "127.0.0.1", str(server.port))):
             found = subprocess.run([programs[name], *given], stdout=full, stderr=subprocess.PIPE, text=True,
-                                   timeout=passing.PATIENCE)
+                                   timeout=example_proxy.PATIENCE)
             good = found.returncode > 0 and found.stderr == f"{name}: standard output can't be written\n"
             yield f"{name}, a full disk", good, f"{name}, a full disk: status {found.returncode}, {found.stderr}"
         server.shutdown()
@@ -312,7 +310,7 @@ def complain(programs):
         ("proxy", ["0", "127.0.0.1", "65537"], "proxy: 65537: no port"),
         ("proxy", ["0", "127.0.0.1", "no port"], "proxy: 127.0.0.1: Servname not supported for ai_socktype"),
     ):
-        found = subprocess.run([*programs[name], *given], capture_output=True, text=True, timeout=passing.PATIENCE)
+        found = subprocess.run([*programs[name], *given], capture_output=True, text=True, timeout=example_proxy.PATIENCE)
         good = found.returncode > 0 and (found.stdout, found.stderr) == ("", f"{told}\n")
         yield f"{name} {given}", good, f"{name} {given}: status {found.returncode}, {found.stdout}{found.stderr}"
 
@@ -332,7 +330,7 @@ def listers(folder, programs, archive, shared):
 
 # ---- Memory
 
-# What tests/memory.c does, how often, and the most kilobytes that may then stay with the process (docs/PERF.md). Where
+# What tests/library/memory.c does, how often, and the most kilobytes that may then stay with the process (docs/PERF.md). Where
 # little may stay, all goes back to the system; else the memory of one handle stays, however many there were.
 STAYS = (
     ("talk 4194304 4194304 65536", 20, 1024), ("talk 16777216 16777216 65536", 5, 1024),
@@ -348,7 +346,7 @@ def measure_memory(folder, archive, cc):
         print("skipped: what stays of closed talks is known of glibc alone")
         return
     program = os.path.join(folder, "memory")
-    words = [cc, "-O2", *STRICT, f"-I{TOP / 'include'}", "-o", program, TOP / "tests" / "memory.c", archive]
+    words = [cc, "-O2", *STRICT, f"-I{TOP / 'include'}", "-o", program, HERE / "memory.c", archive]
     subprocess.run(words, check=True)
     for what, rounds, most, *renew in STAYS:
         done = subprocess.run([program, *what.split(), str(rounds), *renew], capture_output=True, text=True)
@@ -375,12 +373,12 @@ def check(folder, archive, shared, cc):
     found = subprocess.run([programs["first"]], capture_output=True, text=True)
     good = (found.returncode, found.stdout) == (0, "WELL: exists, 2 fields\npath at 12+2\nwatch at 14+1\n")
     yield "first", good, f"first: status {found.returncode}, {found.stdout}{found.stderr}"
-    yield from passing.check(programs["proxy"])
+    yield from example_proxy.check(programs["proxy"])
     yield from run_client(programs["client"])
     yield from try_addresses(folder, archive, cc)
     yield from wait_for_replies(folder, archive, cc)
     yield ends_well("client frames", programs["client_frames"])
-    yield from served.check(programs["server"], programs["client"])
+    yield from example_server.check(programs["server"], programs["client"])
     yield ends_well("null pointers", programs["nulls"])
     yield ends_well("handles that go from thread to thread", programs["threads"])
     yield from measure_memory(folder, archive, cc)

@@ -1,21 +1,18 @@
 """Compares the fields that the library for C writes with tables of payloads and with a second reading of the formats.
 
-tests/library.py calls it. The rows of the table were derived from docs/FORMATS.md and docs/EXAMPLES.md, by hand or by
+tests/library calls it. The rows of the table were derived from docs/FORMATS.md and docs/EXAMPLES.md, by hand or by
 samples.py. Then each row's payload is truncated at each byte, each byte is changed, and one is added, and the answer is
 compared with that of readers here and in faults.py, by the tables of docs/FORMATS.md: the fault, and the fields before
 it. zk_judge_ finds the same fault, and no byte outside of the room is written.
 """
 
 import ctypes
-import pathlib
-import sys
 
-import faults
-from invented import DIGITS, NUMBER
-from samples import OPERATIONS
+from . import first_fault
+from ..unknown_operations import DIGITS, NUMBER
+from .operation_samples import OPERATIONS
 
-sys.path.append(str(pathlib.Path(__file__).resolve().parent.parent / "docs"))
-import formats  # noqa: E402
+from dev import formats
 
 KINDS = dict(zip(("int", "long", "bool", "text", "blob", "list", "part"), range(1, 8)))
 RECORDS = {name: of for name, (_, of) in formats.records().items()}
@@ -358,11 +355,11 @@ def fault_of(payload, call):
     """The name and the place of a payload's fault; None of a multi, and where the call alone says more."""
     kind, *asked = call.split()
     first = int(asked[0]) if asked else 0
-    operation = faults.number_at(payload, 4) if kind == "request" else first
+    operation = first_fault.number_at(payload, 4) if kind == "request" else first
     of = items_of(kind, operation)[1]
     if kind == "reply" and (len(asked) > 1 or operation not in BODIES) or of[:1] and of[0][1] in ("parts", "results"):
         return None
-    return faults.first_fault(payload, kind, [each for each, release in RELEASES.items() if release <= first], of)
+    return first_fault.first_fault(payload, kind, [each for each, release in RELEASES.items() if release <= first], of)
 
 
 def compare_damaged(caller, numbers):

@@ -1,4 +1,4 @@
-/* The handles of tests/calls.c: they are made, begun anew and freed in any order. */
+/* The handles of tests/library/calls.c: they are made, begun anew and freed in any order. */
 #include "payloads.h"
 
 enum { TALKS = 6, PASSAGES = 4, SPEAKERS = 3 };

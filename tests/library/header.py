@@ -1,13 +1,12 @@
-#!/usr/bin/env python3
 """Compares the library for C with its header, and runs what links it.
 
-    library.py [--library PATH] [--calls N] [--seed N]
+    python3 -m tests.library [--library PATH] [--calls N] [--seed N]
 
 Each call that crates/zk_c/src exports is in include/zk.h with the same parameters, each struct that C sees with the
-same fields, and each number by the same name. What the last release's header had is there still (frozen.c). Payloads, lines and conversations are judged as tables say (judged.py).
+same fields, and each number by the same name. What the last release's header had is there still (frozen.c). Payloads, lines and conversations are judged as tables say (verdicts.py).
 The fields of payloads, and of recordings' messages, are compared with a second reading of docs/FORMATS.md (fields.py,
-messages.py), and those of requests written again (written.py). Handles that are begun anew are compared with new ones
-(renewed.py), and passages with a model of them (passages.py). The examples and the tests in C are compiled and run
+messages.py), and those of requests written again (written_frames.py). Handles that are begun anew are compared with new ones
+(reused_handles.py), and passages with a model of them (passages.py). The examples and the tests in C are compiled and run
 (examples.py): listings of every recording, a proxy and a client over sockets, null pointers, handles that go from
 thread to thread, the memory that stays of closed ones, and --calls (1,000,000) calls at random between guard pages,
 from a seed. The packages for Python, Rust and Go are built, and run their own tests (packages.py). What is skipped,
@@ -19,28 +18,18 @@ the rest runs over the one for any x86-64. It prints what failed and one last li
 """
 
 import argparse
-import importlib
 import pathlib
 import re
 import sys
 import tempfile
 
-import examples
-import fields
-import judged
-import messages
-import packages
-import passages
-import renewed
-import written
+from dev import newer, source
+from examples import talk
+from packaging import freeze, make_library
+from packaging.build_library import CRATE, built
+from . import examples, fields, messages, packages, passages, reused_handles, verdicts, written_frames
 
-TOP = pathlib.Path(__file__).resolve().parent.parent
-sys.path += [str(TOP / folder) for folder in ("packaging", "examples", "docs")]
-import freeze  # noqa: E402
-import make_library  # noqa: E402
-import newer  # noqa: E402
-import source  # noqa: E402
-from build_library import CRATE, built  # noqa: E402
+TOP = pathlib.Path(__file__).resolve().parents[2]
 
 HEADER = TOP / "include" / "zk.h"
 C_TYPES = {"u8": "uint8_t", "u16": "uint16_t", "u32": "uint32_t", "u64": "uint64_t", "i32": "int32_t", "i64": "int64_t",
@@ -158,15 +147,15 @@ def frozen():
 
 def compare_calls(shared):
     """Whether the calls answer what the tests' tables say, and read recordings' messages as the formats say."""
-    talk, statuses = importlib.import_module("talk"), source.statuses()
+    statuses = source.statuses()
     names = {name.lower(): number for name, number in source.field_names().items()}
     library = talk.Library(str(shared))
-    yield from judged.compare(talk, library, declared()[2])
+    yield from verdicts.compare(talk, library, declared()[2])
     yield from fields.compare(talk, library, names, statuses)
     recordings = sorted((TOP / "captures").glob("*.zkr"))
     yield from messages.compare(talk, library, names, recordings)
-    yield from written.compare(talk, library, names, statuses, recordings)
-    yield from renewed.compare(talk, library, declared()[2], recordings)
+    yield from written_frames.compare(talk, library, names, statuses, recordings)
+    yield from reused_handles.compare(talk, library, declared()[2], recordings)
     yield from passages.compare(talk, library)
 
 

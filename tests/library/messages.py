@@ -1,8 +1,8 @@
 """Compares what a talk returns of each message of the stored recordings with a second reading of the formats.
 
-tests/library.py calls it. Each recording is given to a talk in the pieces that it has, and again byte by byte. Where a
+tests/library calls it. Each recording is given to a talk in the pieces that it has, and again byte by byte. Where a
 frame becomes whole, its payload, its fields, its number and the numbers of its header are compared with the bytes that
-were given, as tests/fields.py reads them. A second talk passes over the same pieces: it returns what the first returns,
+were given, as tests/library/fields.py reads them. A second talk passes over the same pieces: it returns what the first returns,
 and keeps no frame. After each piece what it holds, what waits, and how it would end are compared with the bytes and
 requests that came. Which of the client's frames each reply answers is compared with the requests that came; so it is of
 a passage, too, and the numbers of what a passage leaves out. As many messages have to come as the recording's listing
@@ -16,10 +16,10 @@ import collections
 import ctypes
 import struct
 
-import fields
-import source  # fields has its folder on the path
-from listed import listings_of
-from samples import PROFILE
+from . import fields
+from dev import source
+from ..stored_listings import listings_of
+from .operation_samples import PROFILE
 
 NO_MESSAGE, MULTI = 69, 14
 MESSAGE, ASKED, ANSWERED, FULL, UNSEEN = 1, 2, 3, 4, 5  # what becomes of a passage's bytes

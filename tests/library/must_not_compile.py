@@ -1,10 +1,9 @@
-#!/usr/bin/env python3
 """Programs that must not compile, before any proof.
 
-    python3 tests/refused.py
+    python3 -m tests.library.must_not_compile
 
-tests/refused/NAME.txt is the text of a crate that uses the repository's crates. Its lines with `// refused: CODE`, and
-no others, must be refused with that code. tests/refused/NAME.edit changes a crate of the repository, as a must-fail
+refused_programs/NAME.txt is the text of a crate that uses the repository's crates. Its lines with `// refused: CODE`, and
+no others, must be refused with that code. refused_programs/NAME.edit changes a crate of the repository, as a must-fail
 edit does. Each new text, and no other line, must be refused with the code in its line `refused: CODE`. It prints what
 fails and `N passed, M failed`; its status is 1 if one failed or there is none.
 """
@@ -15,9 +14,9 @@ import sys
 import tempfile
 from pathlib import Path
 
-ROOT = Path(__file__).resolve().parent.parent
-sys.path.insert(0, str(ROOT / "packaging"))
-import build_library  # noqa: E402 (the folder is named above)
+from packaging import build_library
+
+ROOT = Path(__file__).resolve().parents[2]
 
 
 def uses(crates):
@@ -88,7 +87,8 @@ def edit(top, text):
 
 def main():
     failed = 0
-    programs = sorted([*(ROOT / "tests" / "refused").glob("*.txt"), *(ROOT / "tests" / "refused").glob("*.edit")])
+    folder = ROOT / "tests" / "library" / "refused_programs"
+    programs = sorted([*folder.glob("*.txt"), *folder.glob("*.edit")])
     for path in programs:
         with tempfile.TemporaryDirectory() as temporary:
             copied(Path(temporary))

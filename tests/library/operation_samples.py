@@ -1,11 +1,7 @@
 """A request and a reply of each operation, made by the tables of docs/FORMATS.md, as rows of the table of fields.py."""
 
-import pathlib
-import sys
-
-sys.path += [str(pathlib.Path(__file__).resolve().parent.parent / folder) for folder in ("docs", "tools")]
-import formats  # noqa: E402
-from zkdump_tools import zkr
+from dev import formats
+from tools.zkdump_tools import zkr
 
 # Of each kind of items one: its bytes, where its content begins and how long it is, and its number in a row.
 SAMPLES = {"int": ("00000007", 0, 4, " 7"), "long": ("0000000000000008", 0, 8, " 8"), "bool": ("01", 0, 1, " 1"),

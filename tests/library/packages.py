@@ -1,6 +1,6 @@
 """Builds the packages of examples/ and runs their own tests, where their tools are: Python, Rust and Go.
 
-tests/library.py calls it. Nothing is taken from a network. The library is found in each way that docs/LIBRARY.md names.
+tests/library calls it. Nothing is taken from a network. The library is found in each way that docs/LIBRARY.md names.
 The names of numbers that a package has are compared with the header's. It declares every call of the header, with as
 many parameters. mypy, clippy and `go vet` find nothing to mend.
 """
@@ -12,7 +12,7 @@ import shutil
 import subprocess
 import sys
 
-TOP = pathlib.Path(__file__).resolve().parent.parent
+TOP = pathlib.Path(__file__).resolve().parents[2]
 HEADER, EXAMPLES = TOP / "include" / "zk.h", TOP / "examples"
 PYTHON, RUST, GO = (EXAMPLES / name for name in ("python", "rust", "go"))
 

@@ -1,6 +1,6 @@
 """Compares passages of the library for C with a model of them, by the comments of include/zk.h.
 
-tests/library.py calls it. Random conversations are cut anew at random, among them requests whose operation no profile
+tests/library calls it. Random conversations are cut anew at random, among them requests whose operation no profile
 has, replies out of order or to nothing, damaged messages, and lengths out of range. Few requests may wait. After each
 step all that a passage returns is compared: what became of the bytes, the message shown, the payload that was left out,
 and the ending. Half of the passages join late, and some are begun anew.
@@ -11,9 +11,9 @@ import ctypes
 import random
 import struct
 
-from invented import NUMBER
-from renewed import EVENT, HELLO, WELCOME, numbers
-from samples import PROFILE
+from ..unknown_operations import NUMBER
+from .reused_handles import EVENT, HELLO, WELCOME, numbers
+from .operation_samples import PROFILE
 
 WITHIN, MESSAGE, ASKED, ANSWERED, FULL, UNSEEN = range(6)
 CONNECT, REQUEST, CONNECTED, REPLY, EVENTS = range(1, 6)

@@ -1,6 +1,6 @@
 """Begins talks and speakers of the library for C anew, and compares each of their answers with those of new ones.
 
-tests/library.py calls it. One talk, and one speaker, is begun anew after all that may have come: after each reason of
+tests/library calls it. One talk, and one speaker, is begun anew after all that may have come: after each reason of
 docs/REASONS.md that a step can return, after a message that was cut at each of its bytes, with requests waiting in each
 lane, and after random conversations, which are damaged, cut and interleaved at random. Each time a stored conversation
 follows, for both. No step can return NoMemory, since none allocates, and StreamEnd is 4 EiB away.
@@ -9,8 +9,8 @@ follows, for both. No step can return NoMemory, since none allocates, and Stream
 import ctypes
 import random
 
-from invented import DIGITS
-from samples import PROFILE
+from ..unknown_operations import DIGITS
+from .operation_samples import PROFILE
 
 HELLO = "00000000 0000000000000000 00007530 0000000000000000 00000010 00000000000000000000000000000000 00"
 WELCOME = "00000000 00007530 0100000000000001 00000010 000102030405060708090a0b0c0d0e0f 00"

@@ -1,4 +1,3 @@
-#!/usr/bin/env python3
 """A small server of ZooKeeper's client port, which answers from stored payloads.
 
     answering.py [PORT]
@@ -10,13 +9,11 @@ NONODE.
 Each reply has its request's xid, and the next zxid. After a reply to closeSession the server ends the connection.
 """
 
-import pathlib
 import socketserver
 import struct
 import sys
 
-sys.path.append(str(pathlib.Path(__file__).resolve().parent.parent / "docs"))
-import formats  # noqa: E402
+from dev import formats
 
 CONNECTED = bytes.fromhex("00000000 00002710 0100000000000001 00000010 000102030405060708090a0b0c0d0e0f 00")
 STAT = bytes.fromhex("0000000000000004 0000000000000005 00000000000003e8 00000000000003e9 00000006 00000007 00000008"

@@ -1,12 +1,12 @@
 """Judges payloads, lines and whole conversations by the library for C, against tables of what the formats say.
 
-tests/library.py calls it. The rows were derived from docs/FORMATS.md and docs/CONVERSATION.md.
+tests/library calls it. The rows were derived from docs/FORMATS.md and docs/CONVERSATION.md.
 """
 
 import ctypes
 import pathlib
 
-TOP = pathlib.Path(__file__).resolve().parent.parent
+TOP = pathlib.Path(__file__).resolve().parents[2]
 
 # Payloads, as in the tables PAYLOADS of crates/codec_tests/src/tests (asks.rt, answers.rt): the call, of a reply with the
 # numbers of the operation and of its parts, the payload, the status and the place.

@@ -1,6 +1,6 @@
 """Compares the frames that the library for C writes of fields with the stored payloads.
 
-tests/library.py calls it. The messages are those of the table of tests/fields.py and of the stored recordings. Their
+tests/library calls it. The messages are those of the table of tests/library/fields.py and of the stored recordings. Their
 fields are read by the reader there. They are written over the payload, and over a content that has the texts and blobs
 alone: each time the frame has to be the payload's. With less room nothing is written. Messages that are written by
 hand have the bytes of docs/FORMATS.md. Fields that say nothing are reported by their index.
@@ -9,8 +9,8 @@ hand have the bytes of docs/FORMATS.md. Fields that say nothing are reported by 
 import collections
 import ctypes
 
-import fields
-from samples import PROFILE
+from . import fields
+from .operation_samples import PROFILE
 
 INT, LONG, BOOL, TEXT, BLOB, LIST, PART = fields.KINDS.values()
 GUARD, MULTI = b"\x07", 14

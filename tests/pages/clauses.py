@@ -1,7 +1,6 @@
-#!/usr/bin/env python3
 """Checks what the pages say of clauses and names against the sources.
 
-    docs/clauses.py [PAGE..]
+    python3 -m tests.pages.clauses [PAGE..]
 
 A page names clauses of a function as `call` (clause, ..) or, within brackets, as (`call`, clause, ..; ..), and calls of
 a trait or type as `Type` (call, ..). Each such word must be the name of a clause of a function of that name in
@@ -18,8 +17,8 @@ import pathlib
 import re
 import sys
 
-import words
-from calls import BOUNDS, CLAUSE, TAIL, TOP, balanced, blocks, generics
+from dev import words
+from dev.calls import BOUNDS, CLAUSE, TAIL, TOP, balanced, blocks, generics
 
 FUNCTION = re.compile(r"\bfn (\w+)")
 WORDS = r"[a-z]\w*(?:, [a-z]\w*)*"

@@ -1,7 +1,6 @@
-#!/usr/bin/env python3
 """Runs the commands that documents show, and compares what they print.
 
-    docs/run_examples.py [--program PATH] [--seconds N] PAGE ..
+    python3 -m tests.pages.commands [--program PATH] [--seconds N] PAGE ..
 
 A command is a line of four blanks, "$ " and the command; "> " in place of "$ " continues it. The lines of four blanks
 after it are what it prints, on standard output and standard error together. It has to end with the status 0, or with 1
@@ -42,7 +41,10 @@ import tempfile
 import textwrap
 import time
 
-TOP = pathlib.Path(__file__).resolve().parent.parent
+from ..tools import wire
+from ..tools.support import pieces
+
+TOP = pathlib.Path(__file__).resolve().parents[2]
 INDENT = "    "
 # A block of code, to its end or that of the page: the file that it names, and its lines.
 FENCE = re.compile(r"^ {0,3}```(?:(?:rust|c) (\S+)\n|[^\n]*\n?)(.*?)(?:^ {0,3}``` *$|\Z)", re.M | re.S)
@@ -121,9 +123,6 @@ def free_port():
 
 def capture(path):
     """The capture of the stored run."""
-    sys.path.insert(0, str(TOP / "tools" / "tests"))
-    import wire
-    from support import pieces
     sent = wire.conversation(pieces((TOP / STORED_RUN).read_bytes()))
     path.write_bytes(wire.pcap((each.milliseconds, wire.packet(each)) for each in sent))
 

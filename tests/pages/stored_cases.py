@@ -1,7 +1,6 @@
-#!/usr/bin/env python3
 """Compares what pages show of the stored cases (crates/zkdump/cases) with the cases.
 
-    docs/cases.py [PAGE..]
+    python3 -m tests.pages.stored_cases [PAGE..]
 
 In docs/EXAMPLES.md and the page beside the cases, the code in a paragraph, in a row of a table, or in a block is of the
 cases that are named there, or last above it under the same heading. At the beginning of EXAMPLES.md it is of the case
@@ -20,7 +19,7 @@ import pathlib
 import re
 import sys
 
-TOP = pathlib.Path(__file__).resolve().parent.parent
+TOP = pathlib.Path(__file__).resolve().parents[2]
 CASES = TOP / "crates" / "zkdump" / "cases"
 PAGES = (TOP / "docs" / "EXAMPLES.md", CASES / "README.md")
 FIRST = "exists_of_a_missing_node"

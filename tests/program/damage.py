@@ -1,4 +1,3 @@
-#!/usr/bin/env python3
 """Runs the proved program over truncated, cut and changed conversations: those of the stored cases
 (crates/zkdump/cases) and the small recordings in captures/.
 
@@ -26,10 +25,9 @@ import re
 import struct
 import sys
 
-from program import BUILT, HEAD, TOP, Program, last_line, recording, sides, split, stored
+from .harness import BUILT, HEAD, Program, last_line, recording, sides, split, stored
 
-sys.path.append(str(TOP / "docs"))
-import formats  # noqa: E402
+from dev import formats
 
 BYTES = (0x00, 0x01, 0x7F, 0x80, 0xFF)
 LENGTHS = ("7fffffff", "80000000", "fffffffe")

@@ -1,6 +1,6 @@
 /* The C library's read and write, as a standard input and a standard output may answer them. By the environment:
    READ_MOST, WRITE_MOST: the greatest number of bytes of a call. READ_ROOM, WRITE_ROOM: the number of bytes after which
-   calls fail, with the error READ_ERROR, WRITE_ERROR; if that is 0 they read or write no byte. tests/devices.py runs
+   calls fail, with the error READ_ERROR, WRITE_ERROR; if that is 0 they read or write no byte. tests/program/failing_streams.py runs
    the proved program with these functions in place of those of the C library. */
 #define _GNU_SOURCE
 #include <errno.h>

@@ -1,9 +1,8 @@
-#!/usr/bin/env python3
 """Runs the proved program over the worked examples, on a standard input and output that pass few bytes, or fail.
 
     devices.py [--only WORD] [--program PATH]
 
-tests/device.c, which a C compiler makes a library of, takes the place of the C library's read and write. For each
+tests/program/device.c, which a C compiler makes a library of, takes the place of the C library's read and write. For each
 stored case of show, check, build and migrate (crates/zkdump/cases)
 
 - steps: with reads and writes of 1 and of 7 bytes the run does the same as with all bytes at once;
@@ -27,7 +26,7 @@ import subprocess
 import sys
 import tempfile
 
-from program import BUILT, TOP, Program
+from .harness import BUILT, TOP, Program
 
 CASES = TOP / "crates" / "zkdump" / "cases"
 READ_FAILED, WRITE_FAILED = b"zkdump: read failed\n", b"zkdump: write failed\n"
@@ -121,7 +120,7 @@ def main():
     with tempfile.TemporaryDirectory() as folder:
         library = compiled(folder)
         if library is None:
-            print("skipped: there is no C compiler for tests/device.c\n0 passed, 0 failed")
+            print("skipped: there is no C compiler for tests/program/device.c\n0 passed, 0 failed")
             return 0
         devices = Devices(options.program, library)
         for args in cases:

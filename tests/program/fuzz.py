@@ -1,4 +1,3 @@
-#!/usr/bin/env python3
 """Runs the proved program over recordings that were changed at random.
 
     fuzz.py [--seed N] [--first N] [--program PATH] [--keep FOLDER] COUNT
@@ -29,7 +28,7 @@ import re
 import sys
 import time
 
-from program import BUILT, HEAD, Program, last_line, piece, recording, sides, split, stored
+from .harness import BUILT, HEAD, Program, last_line, piece, recording, sides, split, stored
 
 SECONDS = 10
 NUMBERS = (0, 1, 2, 4, 16, 0x7F, 0xFF, 0x100, 0x400000, 0x400001, 0x1000004, 0x1000005, 0x7FFFFFFF, 0x80000000,

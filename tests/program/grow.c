@@ -1,5 +1,5 @@
 /* Calls each function of the C library that allocates once, and writes for each whether it gave memory: `g` if it did,
-   `r` if it was refused. tests/refusals.py runs it with each call refused in turn. */
+   `r` if it was refused. tests/program/refused_memory.py runs it with each call refused in turn. */
 #define _GNU_SOURCE
 #include <malloc.h>
 #include <stdlib.h>

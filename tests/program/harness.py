@@ -6,7 +6,7 @@ import pathlib
 import signal
 import tempfile
 
-TOP = pathlib.Path(__file__).resolve().parent.parent
+TOP = pathlib.Path(__file__).resolve().parents[2]
 BUILT = TOP / "crates" / "zkdump" / "out" / "zkdump"
 HEAD = b"ZKR1"
 

@@ -1,6 +1,6 @@
 /* The C library's functions that allocate, of which one call is refused: the call whose number, counted from 1 over all
    of them, is in the environment variable REFUSED_GROWTH. A byte on file descriptor 3 reports that it was refused.
-   tests/refusals.py runs the proved program with these functions in place of those of the C library. */
+   tests/program/refused_memory.py runs the proved program with these functions in place of those of the C library. */
 #include <errno.h>
 #include <stddef.h>
 #include <stdint.h>

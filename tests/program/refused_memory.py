@@ -1,10 +1,9 @@
-#!/usr/bin/env python3
 """Runs the proved program and the library's calls over the stored cases, with each growth of memory refused in turn.
 
     refusals.py [--jobs N] [--only WORD] [--program PATH] [--tests PATH]
 
-tests/refuse.c, which a C compiler makes a library of, takes the place of the C library's functions that allocate, and
-refuses the Nth call of a run. tests/grow.c calls each of them; what is run imports no other by which memory grows
+tests/program/refuse.c, which a C compiler makes a library of, takes the place of the C library's functions that allocate, and
+refuses the Nth call of a run. tests/program/grow.c calls each of them; what is run imports no other by which memory grows
 (GROWING). For each stored case (crates/zkdump/cases) and N counting up from 1 until a run meets no refusal
 
 - show, check, build, migrate: over the stored cases, `build` over the listings of those of show, too, and `check` over a
@@ -35,10 +34,9 @@ import sys
 import tempfile
 import time
 
-from program import BUILT, HEAD, TOP, Program
+from .harness import BUILT, HEAD, TOP, Program
 
-sys.path.append(str(TOP / "bench"))
-import costs_inputs  # noqa: E402
+from bench import costs_inputs
 
 CASES = TOP / "crates" / "zkdump" / "cases"
 TESTS = TOP / "crates" / "talk_tests" / "out" / "talk_tests_tests"
@@ -179,14 +177,14 @@ def growths(library, grow, programs):
     refused = symbols(library, "defined") & GROWING
     for path in programs:
         more = sorted((symbols(path, "undefined") & GROWING) - refused)
-        yield f"{path} grows by {', '.join(more)}, which tests/refuse.c doesn't refuse" if more else None
-    yield None if refused <= symbols(grow, "undefined") else f"tests/grow.c doesn't call all of {sorted(refused)}"
+        yield f"{path} grows by {', '.join(more)}, which tests/program/refuse.c doesn't refuse" if more else None
+    yield None if refused <= symbols(grow, "undefined") else f"tests/program/grow.c doesn't call all of {sorted(refused)}"
     program, given = Refusing(grow, library), [b"g"] * len(refused)
     for growth in range(1, len(given) + 2):
         wanted = b"".join([*given[:growth - 1], b"r", *given[growth:]][:len(given)])
         found = program.run_without(growth, [], b"")
         good = found == ((wanted, b"", 0), growth <= len(given))
-        yield None if good else f"of the calls of tests/grow.c, number {growth} is to be refused: {found}"
+        yield None if good else f"of the calls of tests/program/grow.c, number {growth} is to be refused: {found}"
 
 
 def main():
@@ -205,7 +203,7 @@ def main():
     with tempfile.TemporaryDirectory() as folder, concurrent.futures.ProcessPoolExecutor(options.jobs) as pool:
         made = compiled(folder)
         if made is None:
-            print("skipped: there is no C compiler for tests/refuse.c\n0 passed, 0 failed")
+            print("skipped: there is no C compiler for tests/program/refuse.c\n0 passed, 0 failed")
             return 0
         library, grow = made
         found = list(growths(library, grow, [path for path, _ in programs]))

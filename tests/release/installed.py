@@ -1,7 +1,6 @@
-#!/usr/bin/env python3
 """Makes a release of the program and the library that the gate built, and uses it as one who installs it would.
 
-    release.py
+    python3 -m tests.release
 
 The number in VERSION is that of zk.h and of zk_version, and none below the newest of CHANGELOG.md. The header compiles without a warning as C11 and as C++17.
 The archive is unpacked: its program prints the listing of a recording, and examples/listing.c, linked with each of its
@@ -23,14 +22,10 @@ import sys
 import tarfile
 import tempfile
 
-TOP = pathlib.Path(__file__).resolve().parent.parent
-sys.path += [str(TOP / "packaging"), str(TOP / "docs")]
-import debian  # noqa: E402
-import distribution  # noqa: E402
-import gate  # noqa: E402
-import install  # noqa: E402
-import make_library  # noqa: E402
-import source  # noqa: E402
+from dev import gate, source
+from packaging import debian, distribution, install, make_library
+
+TOP = pathlib.Path(__file__).resolve().parents[2]
 
 RECORDING = TOP / "captures" / "kazoo_basic.zkr"
 LISTING = RECORDING.with_suffix(".show").read_bytes()
@@ -140,7 +135,7 @@ def logs():
     release = importlib.util.module_from_spec(importlib.util.spec_from_loader("release", loader))
     loader.exec_module(release)
     lines = list(gate.lines())
-    passed = "\n".join(["== step", "9 passed, 0 failed", "== python3 packaging/gate.py (after 9 s)", *lines, ""])
+    passed = "\n".join(["== step", "9 passed, 0 failed", "== python3 -m dev.gate (after 9 s)", *lines, ""])
     commit, program, library, plain = (line.rpartition(": ")[2] for line in lines)
     cases = {"its own": (passed, 0), "another commit's": (passed.replace(commit, "0" * 40), 1),
              "another program's": (passed.replace(program, "0" * 64), 1),
@@ -153,7 +148,7 @@ def logs():
     for name, (log, count) in cases.items():
         found = [line for line in release.faults(log) if line not in usual]
         yield f"log, {name}", len(found) == count, f"release, with the log of {name}: {found}"
-    told = run(sys.executable, TOP / "packaging" / "gate.py").stdout.decode().splitlines()
+    told = run(sys.executable, "-m", "dev.gate", cwd=TOP).stdout.decode().splitlines()
     yield "gate.py", told == lines, f"gate.py: {told}"
     yield "BUILD", "no gate passed" in release.NO_GATE, "BUILD doesn't say that no gate passed for it"
 
@@ -180,7 +175,7 @@ def commands(top):
 
 
 def completion():
-    script = TOP / "completion" / "zkdump.bash"
+    script = TOP / "packaging" / "completion" / "zkdump.bash"
     for words, wanted in COMPLETED:
         text = (f'. "{script}"; word=$1; shift; COMP_WORDS=("$@"); COMP_CWORD=$(($# - 1)); files=" files"; '
                 'compopt() { files=; }; _zkdump zkdump "$word"; echo "${COMPREPLY[*]}$files"')

@@ -6,18 +6,18 @@ import subprocess
 import sys
 import unittest.mock
 
-import wire
-from support import CAPTURES, TOOLS, ToolCase, pieces, sides, zkr
-from zkdump_tools import pcap2zkr
+from . import wire
+from .support import CAPTURES, TOOLS, TOP, ToolCase, pieces, sides, zkr
+from tools.zkdump_tools import pcap2zkr
 
 WITHIN = """
-import resource, runpy, signal, sys
+import resource, signal, sys
+from tools.zkdump_tools import pcap2zkr
 signal.signal(signal.SIGXFSZ, signal.SIG_IGN)
 resource.setrlimit(resource.{limit}, ({most}, {most}))
-sys.path.insert(0, {tool!r}.rpartition("/")[0])
 sys.argv[0] = {tool!r}
 try:
-    runpy.run_path({tool!r}, run_name="__main__")
+    sys.exit(pcap2zkr.main())
 finally:
     print(*[line for line in open("/proc/self/status") if "VmHWM" in line], file=sys.stderr, end="")
 """
@@ -79,7 +79,7 @@ class PcapCase(ToolCase):
         source, tool = self.folder / "capture", str(TOOLS / "pcap2zkr.py")
         source.write_bytes(capture)
         done = subprocess.run([sys.executable, "-c", WITHIN.format(limit=limit, most=most, tool=tool), *words,
-                               source, self.folder / "r"], capture_output=True, text=True, timeout=60, check=False)
+                               source, self.folder / "r"], cwd=TOP, capture_output=True, text=True, timeout=60, check=False)
         *complaint, memory = done.stderr.splitlines()
         return done.returncode, done.stdout.count("\n"), complaint, int(memory.split()[1]) / 1024
 

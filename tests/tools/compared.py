@@ -17,9 +17,9 @@ import struct
 import subprocess
 import sys
 
-from support import TOOLS, run_main, zkr
+from .support import TOOLS, run_main, zkr
 
-from zkdump_tools import columns
+from tools.zkdump_tools import columns
 
 CHOICES = ((), ("--path", "/"), ("--path", "/a", "--path", "/kazoo"),
            ("--op", "event", "--op", "multi", "--op", "create"), ("--slower", "0.5"),

@@ -11,13 +11,12 @@ import sys
 import threading
 import time
 
-from support import TOOLS, ToolCase, receive
+from .support import TOOLS, ToolCase, receive
 
 SECONDS = 20
 STAND_IN = f"""#!{sys.executable} -SE
 # Prints each frame as its side, its number and its number of bytes; a frame of no bytes is refused.
 import sys
-sys.path.insert(0, {str(TOOLS)!r})
 from zkdump_tools import zkr
 cutter = zkr.Cutter()
 for piece in zkr.Reader(sys.stdin.buffer):
@@ -30,7 +29,7 @@ print(". whole", *sys.argv[1:])
 """
 # Runs a tool where there is no IPv6, though a name of the server has such an address first.
 NO_IPV6 = """
-import errno, runpy, socket, sys
+import errno, importlib, pathlib, socket, sys
 class Socket(socket.socket):
     def __init__(self, family=-1, *more, **named):
         if family == socket.AF_INET6:
@@ -41,9 +40,18 @@ def found(host, port, *more):
     six = [(socket.AF_INET6, socket.SOCK_STREAM, 6, "", ("::1", port, 0, 0))]
     return six * (host == "localhost") + made("127.0.0.1", port, *more)
 socket.getaddrinfo, socket.socket, sys.argv = found, Socket, sys.argv[1:]
-sys.path.insert(0, sys.argv[0].rpartition("/")[0])
-runpy.run_path(sys.argv[0], run_name="__main__")
+tool = importlib.import_module(f"tools.zkdump_tools.{pathlib.Path(sys.argv[0]).stem}")
+sys.exit(importlib.import_module("tools.zkdump_tools.running").tool(tool.main))
 """
+
+
+def stand_in(folder):
+    """A program in the place of zkdump, in this folder, where it finds the tools' package beside it."""
+    path = folder / "show"
+    path.write_text(STAND_IN)
+    path.chmod(0o700)
+    (folder / "zkdump_tools").symlink_to(TOOLS / "zkdump_tools")
+    return path
 
 
 class Echo(threading.Thread):
@@ -87,9 +95,7 @@ class TroubleCase(ToolCase):
         self.echo = Echo()
         self.out, self.err = [], []
         self.prefix = self.folder / "r"
-        self.stand_in = self.folder / "show"
-        self.stand_in.write_text(STAND_IN)
-        self.stand_in.chmod(0o700)
+        self.stand_in = stand_in(self.folder)
 
     def begin(self, tool, *words, limits=(), out=None, program=None, python=()):
         """Runs a tool under these limits; returns the port that it listens on, once it does."""

@@ -10,19 +10,18 @@ import tempfile
 import unittest
 import unittest.mock
 
-TOOLS = pathlib.Path(__file__).resolve().parent.parent
-TOP = TOOLS.parent
+from tools.zkdump_tools import zkr
+
+TOP = pathlib.Path(__file__).resolve().parents[2]
+TOOLS = TOP / "tools"
 CAPTURES = sorted((TOP / "captures").glob("*.zkr"))
 PROGRAM = TOP / "crates" / "zkdump" / "out" / "zkdump"
-sys.path.insert(0, str(TOOLS))
-sys.path.append(str(TOP / "tests"))
 
-from zkdump_tools import zkr
 
 
 def run_main(tool, words, stdin=b""):
     """Runs a tool within this process: its status, and the bytes on standard output and standard error."""
-    main = importlib.import_module(f"zkdump_tools.{tool.removesuffix('.py')}").main
+    main = importlib.import_module(f"tools.zkdump_tools.{tool.removesuffix('.py')}").main
     out, err = io.BytesIO(), io.BytesIO()
     streams = [io.TextIOWrapper(each, "utf-8") for each in (io.BufferedReader(io.BytesIO(stdin)), out, err)]
     with unittest.mock.patch.multiple("sys", argv=[tool, *map(str, words)], stdin=streams[0], stdout=streams[1],

@@ -4,7 +4,7 @@ import os
 import subprocess
 import sys
 
-from support import TOOLS, TOP, ToolCase
+from .support import TOOLS, TOP, ToolCase
 
 LISTING = TOP / "captures" / "kazoo_auth.show"
 RECORDING = TOP / "captures" / "kazoo_auth.zkr"

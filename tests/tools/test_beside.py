@@ -4,7 +4,7 @@ import json
 import os
 import shutil
 
-from support import PROGRAM, TOP, ToolCase, pieces, zkr
+from .support import PROGRAM, TOP, ToolCase, pieces, zkr
 
 RUN = TOP / "crates" / "zkdump" / "stdin"
 SECONDS = 20

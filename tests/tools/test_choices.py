@@ -3,7 +3,7 @@
 import json
 import struct
 
-from support import PROGRAM, ToolCase, zkr
+from .support import PROGRAM, ToolCase, zkr
 
 ASKED = 1_795_332_633_000
 

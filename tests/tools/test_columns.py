@@ -3,7 +3,6 @@
 import contextlib
 import io
 import os
-import pathlib
 import re
 import shutil
 import signal
@@ -13,16 +12,13 @@ import tempfile
 import unittest
 import unittest.mock
 
-import compared
-from support import CAPTURES, PROGRAM, TOOLS, TOP, ToolCase
+from . import compared
+from .support import CAPTURES, PROGRAM, TOOLS, TOP, ToolCase
 
-sys.path.append(str(TOP / "packaging"))
 
-import make_columns  # noqa: E402
-import make_library  # noqa: E402
+from packaging import make_columns, make_library
 
 SANITIZED = ("-O1", "-g", "-fsanitize=address,undefined", "-fno-sanitize-recover=all")
-HERE = pathlib.Path(__file__).resolve().parent
 SLOWER = "Python's numpy is not installed"
 
 
@@ -60,8 +56,8 @@ class Same(ColumnsCase):
         if not python or not PROGRAM.exists():
             self.skipTest("numpy or the program zkdump is missing")
         signal.alarm(600)
-        done = subprocess.run([python, HERE / "compared.py", self.program, PROGRAM, self.folder, *CAPTURES],
-                              capture_output=True, text=True, check=False)
+        done = subprocess.run([python, "-m", "tests.tools.compared", self.program, PROGRAM, self.folder, *CAPTURES],
+                              cwd=TOP, capture_output=True, text=True, check=False)
         self.assertTrue(re.fullmatch(r"[1-9]\d* runs, 0 different\n", done.stdout),
                         done.stdout[:3000] + done.stderr[-2000:])
 

@@ -7,11 +7,10 @@ import signal
 import subprocess
 import sys
 
-import test_pcap_pairs as made
-import wire
-from proxied import TroubleCase
-from support import CAPTURES, PROGRAM, TOOLS, TOP, ToolCase, pieces, sides
-from zkdump_tools import contents, facts
+from tools.zkdump_tools import contents, facts
+from . import test_pcap_pairs as made, wire
+from .proxied import TroubleCase
+from .support import CAPTURES, PROGRAM, TOOLS, TOP, ToolCase, pieces, sides
 
 RUN = TOP / "crates" / "zkdump" / "stdin"
 SESSION = "0x100000000000001"

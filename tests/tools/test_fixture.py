@@ -4,7 +4,7 @@ import os
 import subprocess
 import sys
 
-from support import PROGRAM, TOP, ToolCase
+from .support import PROGRAM, TOP, ToolCase
 
 
 class Fixture(ToolCase):

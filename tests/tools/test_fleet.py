@@ -12,10 +12,10 @@ import time
 import unittest
 import unittest.mock
 
-from support import CAPTURES, PROGRAM, TOOLS, ToolCase
+from .support import CAPTURES, PROGRAM, TOOLS, ToolCase
 
-import compared
-from zkdump_tools import fleet
+from . import compared, deadly
+from tools.zkdump_tools import fleet
 
 FEW = [path for path in CAPTURES if "watches" in path.name or "refused" in path.name or "auth" in path.name]
 REFUSED = 6
@@ -57,8 +57,7 @@ class FleetCase(ToolCase):
     @staticmethod
     def in_small_chunks(tool, *words):
         """The command that runs a tool with each recording as a chunk."""
-        run = (f"import sys; sys.path.insert(0, {str(TOOLS)!r}); "
-               f"from zkdump_tools import fleet, zkr, {tool[:-3]} as tool; "
+        run = (f"import sys; from tools.zkdump_tools import fleet, zkr, {tool[:-3]} as tool; "
                f"fleet.LEAST_CHUNK = 1; sys.argv[0] = {tool!r}; sys.exit(zkr.tool(tool.main))")
         return [sys.executable, "-c", run, *map(str, words)]
 
@@ -212,13 +211,8 @@ class FleetCase(ToolCase):
 
     def test_deadly_recording(self):
         """One that ends each of its workers is a row; those of its chunk are done."""
-        (self.folder / "deadly.py").write_text("import os, signal\n\ndef partial(options, paths):\n"
-                                               "    if 'b' in paths:\n        os.kill(os.getpid(), signal.SIGKILL)\n"
-                                               "    return options, paths\n")
-        sys.path.insert(0, str(self.folder))
-        self.addCleanup(sys.path.remove, str(self.folder))
         for together in (False, True):
-            found = list(fleet.results(argparse.Namespace(jobs=2, scheduler=None), "deadly", ["x"],
+            found = list(fleet.results(argparse.Namespace(jobs=2, scheduler=None), deadly.__name__, ["x"],
                                        ["a", "b", "c", "d"], together))
             wanted = {path: (["x"], [path]) for path in "acd"}
             self.assertEqual(found,

@@ -5,11 +5,11 @@ mounted."""
 import subprocess
 import sys
 
-import wire
-from captured import PcapCase, packed
-from proxied import SECONDS, TroubleCase
-from support import CAPTURES, TOOLS, pieces, zkr
-from zkdump_tools import facts
+from . import wire
+from .captured import PcapCase, packed
+from .proxied import SECONDS, TroubleCase
+from .support import CAPTURES, TOOLS, pieces, zkr
+from tools.zkdump_tools import facts
 
 ASK, REPLY = zkr.Piece(zkr.CLIENT, None, bytes(300)), zkr.Piece(zkr.SERVER, None, bytes(300))
 

@@ -2,9 +2,9 @@
 
 import random
 
-from support import ToolCase
+from .support import ToolCase
 
-from zkdump_tools.histogram import Histogram  # found by the line above
+from tools.zkdump_tools.histogram import Histogram
 
 # By HdrHistogram's rule with three significant digits: the greatest number that is equivalent to this one. Up to 2,047
 # a number is alone; from 2,048 on two are equivalent, from 4,096 on four, and so on.

@@ -4,8 +4,8 @@ import argparse
 import json
 import types
 
-from support import ToolCase
-from zkdump_tools import selection
+from .support import ToolCase
+from tools.zkdump_tools import selection
 
 SESSION = "0x100000000000001"
 MESSAGES = [{"n": 3, "side": "C", "xid": 1, "op": "exists", "path": "/a", "watch": False},

@@ -1,6 +1,6 @@
 """Lines of a listing that no message has."""
 
-from support import ToolCase
+from .support import ToolCase
 
 
 class Lines(ToolCase):

@@ -3,7 +3,7 @@
 import subprocess
 import sys
 
-from support import TOOLS, ToolCase
+from .support import TOOLS, ToolCase
 
 MEGABYTE = 1 << 20
 CONNECTS = ("C connect version=0 zxid=0 timeout=30000 session=0 passwd=# ro=-\n"

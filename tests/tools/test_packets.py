@@ -2,9 +2,9 @@
 
 import struct
 
-import wire
-from captured import PcapCase, packed
-from support import sides, zkr
+from . import wire
+from .captured import PcapCase, packed
+from .support import sides, zkr
 
 LONG = bytes(range(250))
 ASK, REPLY = zkr.Piece(zkr.CLIENT, None, b"ask"), zkr.Piece(zkr.SERVER, None, LONG)

@@ -13,10 +13,10 @@ import sys
 import threading
 import time
 
-import wire
-from captured import SMALL, PcapCase, capture_of, disturbed, packed
-from support import CAPTURES, TOOLS, TOP, pieces, receive, sides, zkr
-from test_record import echo, serve
+from . import wire
+from .captured import SMALL, PcapCase, capture_of, disturbed, packed
+from .support import CAPTURES, TOOLS, TOP, pieces, receive, sides, zkr
+from .test_record import echo, serve
 
 
 class Forms(PcapCase):

@@ -3,9 +3,9 @@
 import random
 import re
 
-import wire
-from captured import PcapCase, capture_of
-from support import sides, zkr
+from . import wire
+from .captured import PcapCase, capture_of
+from .support import sides, zkr
 
 
 def captured_again(sent):

@@ -8,10 +8,10 @@ import sys
 import time
 import unittest.mock
 
-import wire
-from captured import SMALL, PcapCase, capture_of, packed
-from support import TOOLS, pieces, sides, zkr
-from zkdump_tools import pcap2zkr
+from . import wire
+from .captured import SMALL, PcapCase, capture_of, packed
+from .support import TOOLS, pieces, sides, zkr
+from tools.zkdump_tools import pcap2zkr
 
 ASK = zkr.Piece(zkr.CLIENT, None, b"ask")
 REPLY = zkr.Piece(zkr.SERVER, None, b"reply")
@@ -90,7 +90,7 @@ class Ends(PcapCase):
             gathered(*words)
         before = signal.signal(signal.SIGINT, signal.default_int_handler)
         self.addCleanup(signal.signal, signal.SIGINT, before)
-        with unittest.mock.patch("zkdump_tools.zkr.Writer.gathered", interrupted):
+        with unittest.mock.patch("tools.zkdump_tools.zkr.Writer.gathered", interrupted):
             status, told, made = self.convert(capture_of(opened()))
         self.assertEqual((status, [sides(each) for each in made]), (0, [(b"ask", b"reply")]))
         self.assertIn(" client=3 server=5 ", told[0])
@@ -290,8 +290,8 @@ class Many(PcapCase):
             known.append(len(capture.halves))
             over.append(len(capture.over))
             return half
-        with unittest.mock.patch.multiple("zkdump_tools.pcap2zkr", MOST_SILENT=8, MOST_LINGERING=4, MOST_OVER=10), \
-                unittest.mock.patch("zkdump_tools.pcap2zkr.Capture.half_of", watch):
+        with unittest.mock.patch.multiple("tools.zkdump_tools.pcap2zkr", MOST_SILENT=8, MOST_LINGERING=4, MOST_OVER=10), \
+                unittest.mock.patch("tools.zkdump_tools.pcap2zkr.Capture.half_of", watch):
             status, told, _ = self.convert(wire.pcap(packets))
         self.assertEqual((status, len(told)), (0, lines))
         return max(known), max(over)
@@ -342,8 +342,8 @@ class Many(PcapCase):
         def watch(capture, stream):
             watched(capture, stream)
             most.append(capture.budget.held)
-        with unittest.mock.patch("zkdump_tools.pcap2zkr.MOST_HELD", 40_000), \
-                unittest.mock.patch("zkdump_tools.pcap2zkr.Capture.look_after", watch):
+        with unittest.mock.patch("tools.zkdump_tools.pcap2zkr.MOST_HELD", 40_000), \
+                unittest.mock.patch("tools.zkdump_tools.pcap2zkr.Capture.look_after", watch):
             status, told, _ = self.convert(wire.pcap(packets))
         self.assertEqual((status, len(told)), (1, 20))
         self.assertTrue(all(" lost=C:600,S:0 " in line for line in told), told)

@@ -5,9 +5,9 @@ import re
 import struct
 import subprocess
 
-import wire
-from captured import SMALL, PcapCase, capture_of
-from support import PROGRAM, pieces, sides, zkr
+from . import wire
+from .captured import SMALL, PcapCase, capture_of
+from .support import PROGRAM, pieces, sides, zkr
 
 
 def frame(side, *numbers, more=b""):

@@ -1,7 +1,7 @@
 """What pcap2zkr.py keeps of made conversations where packets were not captured, and that no pair of it is wrong.
 
 The conversations are random by a seed, so it is known which reply is to which request: a message is found again by its
-payload, or where a packet has one message by its time. `python3 tools/tests/test_pcap_pairs.py [SEEDS]` prints which
+payload, or where a packet has one message by its time. `python3 -m tests.tools.test_pcap_pairs [SEEDS]` prints which
 share of the messages is kept.
 """
 
@@ -14,9 +14,9 @@ import sys
 import tempfile
 import unittest.mock
 
-import wire
-from support import ToolCase, zkr
-from zkdump_tools import pcap2zkr
+from . import wire
+from .support import ToolCase, zkr
+from tools.zkdump_tools import pcap2zkr
 
 PING, EVENT = b"\xff\xff\xff\xfe", b"\xff\xff\xff\xff"
 
@@ -114,7 +114,7 @@ class Kept:
 
 
 def zkr_made_up():
-    from zkdump_tools.conversation import MADE_UP
+    from tools.zkdump_tools.conversation import MADE_UP
     return MADE_UP[zkr.CLIENT][4:]
 
 

@@ -5,11 +5,9 @@ import shutil
 import subprocess
 import sys
 
-from support import PROGRAM, TOOLS, TOP, ToolCase
+from .support import PROGRAM, TOOLS, TOP, ToolCase
 
-sys.path.append(str(TOP / "packaging"))
-import debian  # noqa: E402
-import install  # noqa: E402
+from packaging import debian, install
 
 RUN = TOP / "crates" / "zkdump" / "stdin"
 # In place of a Python: it has numpy or not, as its status says, and prints how it is begun.

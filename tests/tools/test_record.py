@@ -13,7 +13,7 @@ import sys
 import threading
 import time
 
-from support import CAPTURES, TOOLS, ToolCase, pieces, receive, sides, zkr
+from .support import CAPTURES, TOOLS, ToolCase, pieces, receive, sides, zkr
 
 SECONDS = 20
 

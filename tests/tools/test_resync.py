@@ -4,9 +4,9 @@ import random
 import struct
 import unittest
 
-from support import CAPTURES, sides, zkr
-from invented import NUMBER
-from zkdump_tools import resync
+from .support import CAPTURES, sides, zkr
+from ..unknown_operations import NUMBER
+from tools.zkdump_tools import resync
 
 LIMIT = zkr.USUAL_LIMIT
 CLIENT, SERVER = zkr.CLIENT, zkr.SERVER

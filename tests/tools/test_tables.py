@@ -2,7 +2,7 @@
 
 import json
 
-from support import ToolCase
+from .support import ToolCase
 
 ASKED = 1_795_332_633_000
 

@@ -10,9 +10,9 @@ import threading
 import time
 import unittest.mock
 
-from proxied import NO_IPV6, SECONDS, TroubleCase
-from support import TOOLS, pieces, receive
-from zkdump_tools import addresses, proxy
+from .proxied import NO_IPV6, SECONDS, TroubleCase
+from .support import TOOLS, pieces, receive
+from tools.zkdump_tools import addresses, proxy
 
 
 class Descriptors(TroubleCase):
@@ -92,7 +92,7 @@ class Crowd(TroubleCase):
     def come(self, count):
         """As many clients, which all are passed on. A turn may take long here: it is the count that bounds it."""
         clients = [self.client(self.passing.listeners[0].getsockname()[1]) for _ in range(count)]
-        with unittest.mock.patch("zkdump_tools.proxy.MOMENT", SECONDS):
+        with unittest.mock.patch("tools.zkdump_tools.proxy.MOMENT", SECONDS):
             for turn in range(1, count // proxy.AT_ONCE + 3):
                 self.passing.turn(1)
                 self.assertLessEqual(len(self.passing.connections), proxy.AT_ONCE * turn)

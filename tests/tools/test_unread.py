@@ -7,9 +7,9 @@ import subprocess
 import sys
 import time
 
-from proxied import SECONDS, STAND_IN, TroubleCase
-from support import TOOLS
-from zkdump_tools import columns
+from .proxied import SECONDS, STAND_IN, TroubleCase
+from .support import TOOLS
+from tools.zkdump_tools import columns
 
 
 class Output(TroubleCase):

@@ -6,7 +6,7 @@ import struct
 import subprocess
 import sys
 
-from support import CAPTURES, TOOLS, ToolCase, zkr
+from .support import CAPTURES, TOOLS, ToolCase, zkr
 
 CONNECT = "C connect version=0 zxid=0 timeout=30000 session=0 passwd=#00000000000000000000000000000000 ro=0"
 CONNECTED = ("S connect version=0 timeout=30000 session=72057594037927937 passwd=#000102030405060708090a0b0c0d0e0f "

@@ -13,8 +13,8 @@ import sys
 import time
 import unittest.mock
 
-from support import CAPTURES, TOOLS, TOP, ToolCase, pieces, receive, sides, zkr
-from zkdump_tools import playing, zkplay
+from .support import CAPTURES, TOOLS, TOP, ToolCase, pieces, receive, sides, zkr
+from tools.zkdump_tools import playing, zkplay
 
 RUN = TOP / "crates" / "zkdump" / "stdin"       # connect, exists, and their replies: 68 and 61 bytes
 CONNECT, EXISTS = 49, 19                        # the bytes of the client's two frames

@@ -6,7 +6,7 @@ import subprocess
 import sys
 import time
 
-from support import PROGRAM, TOOLS, TOP, ToolCase, receive, sides, zkr
+from .support import PROGRAM, TOOLS, TOP, ToolCase, receive, sides, zkr
 
 RUN = TOP / "crates" / "zkdump" / "stdin"       # connect, exists, and their replies
 CLIENT_BYTES, SERVER_BYTES = sides(RUN.read_bytes())

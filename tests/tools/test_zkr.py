@@ -4,7 +4,7 @@ import io
 import stat
 import unittest.mock
 
-from support import CAPTURES, ToolCase, pieces, zkr
+from .support import CAPTURES, ToolCase, pieces, zkr
 
 TWO = bytes.fromhex("5a4b5232 00400000 00400000 00010000 00000022")
 

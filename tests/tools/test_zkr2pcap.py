@@ -4,9 +4,9 @@ import io
 import stat
 import struct
 
-from support import CAPTURES, ToolCase, pieces, sides, zkr
-import wire
-from zkdump_tools import zkr2pcap
+from .support import CAPTURES, ToolCase, pieces, sides, zkr
+from . import wire
+from tools.zkdump_tools import zkr2pcap
 
 CONNECT = CAPTURES[0]
 

@@ -4,10 +4,10 @@ import json
 import os
 import subprocess
 
-import report_lines
-from support import CAPTURES, PROGRAM, TOP, ToolCase
+from . import report_lines
+from .support import CAPTURES, PROGRAM, TOP, ToolCase
 
-from zkdump_tools import facts
+from tools.zkdump_tools import facts
 
 TABLES = r"""2 connections, 1 sessions, 20 messages, 10 requests, 3 failed, 1 unanswered, 1 events
 from 2023-11-14T22:13:20.000Z to 2023-11-14T22:13:25.201Z

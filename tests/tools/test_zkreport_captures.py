@@ -4,11 +4,11 @@ import re
 import subprocess
 import unittest.mock
 
-import wire
-from support import CAPTURES, PROGRAM, TOP, ToolCase, pieces
+from . import wire
+from .support import CAPTURES, PROGRAM, TOP, ToolCase, pieces
 
-from zkdump_tools import facts
-from zkdump_tools.report import gather, sources, summary
+from tools.zkdump_tools import facts
+from tools.zkdump_tools.report import gather, sources, summary
 
 LINES = """\
 /t/x-1.zkr 10.0.0.7:41822 > 10.0.0.9:2181 begun 2026-11-22T20:31:07.000Z ended 2026-11-22T20:31:08.000Z client=6 server=6 packets=1-88 resent=0 reset=S
@@ -107,7 +107,7 @@ class Captures(ToolCase):
         for said, connections in (("", 0), (LINES.splitlines()[3], 1)):
             killed.write_text(f"import os\nprint({said!r}, flush=True)\nos.kill(os.getpid(), 9)\n")
             found, warnings = [], []
-            with unittest.mock.patch("zkdump_tools.report.sources.TOOLS", self.folder):
+            with unittest.mock.patch("tools.zkdump_tools.report.sources.TOOLS", self.folder):
                 try:
                     found += sources.captured("x.pcap", "x.pcap", "/t/x", 2181, warnings)
                 except ValueError as error:

@@ -7,10 +7,10 @@ import subprocess
 import sys
 import unittest.mock
 
-import report_lines
-from support import PROGRAM, TOOLS, ToolCase, zkr
+from . import report_lines
+from .support import PROGRAM, TOOLS, ToolCase, zkr
 
-from zkdump_tools import facts
+from tools.zkdump_tools import facts
 
 CONNECTED = ["C connect version=0 zxid=0 timeout=9000 session=0 passwd=#00 ro=0",
              "S connect version=0 timeout=9000 session=72 passwd=#00 ro=0"]
@@ -360,7 +360,7 @@ class Counts(ToolCase):
         watches = [line for n, path in enumerate("aaabcdef", 1)
                    for line in (f'C {n} exists path="/{path}" watch=1', f"S {n} exists zxid=5 err=-101/NONODE")]
         fired = ['S event zxid=-1 kind=1/NodeCreated state=3 path="/b"'] * 3
-        with unittest.mock.patch("zkdump_tools.report.gather.MOST_WATCHES", 5):
+        with unittest.mock.patch("tools.zkdump_tools.report.gather.MOST_WATCHES", 5):
             found = self.report(self.listing("a.show", *CONNECTED, *watches[:8], *fired, *watches[8:], WHOLE))
         self.assertEqual([line.split() for line in self.table(found, "Watches")], [
             ["1", "0", "3", "NodeCreated=3", "#1", '"/b"'], ["3", "0", "0", "-", "#1", '"/a"'],
@@ -370,7 +370,7 @@ class Counts(ToolCase):
     def test_how_many_more_rows_there_are_at_least(self):
         """Of 60 paths 30 are kept, those after the thirty-first from which on the others are forgotten."""
         paths = [line for n in range(1, 61) for line in (f'C {n} sync path="/{n}"', f'S {n} sync zxid=5 path="/{n}"')]
-        with unittest.mock.patch("zkdump_tools.report.kept.Counted.__init__.__defaults__", (30,)):
+        with unittest.mock.patch("tools.zkdump_tools.report.kept.Counted.__init__.__defaults__", (30,)):
             found = self.report(self.listing("a.show", *CONNECTED, *paths, WHOLE))
         self.assertEqual(self.table(found, "Busiest paths")[20:], [
             "and at least 10 more",

@@ -11,9 +11,8 @@ import tempfile
 import unittest
 import zlib
 
-import browser
-import report_lines
-from support import TOOLS, ToolCase
+from . import browser, report_lines
+from .support import TOOLS, ToolCase
 
 MESSAGES = 30_000
 SECONDS = 300      # for a test, where many others use the machine

@@ -7,8 +7,8 @@ import shutil
 import subprocess
 import unittest.mock
 
-import report_lines
-from support import TOOLS, ToolCase
+from . import report_lines
+from .support import TOOLS, ToolCase
 
 SCRIPTS = TOOLS / "zkdump_tools" / "report"
 
@@ -126,7 +126,7 @@ class Scripts(ToolCase):
             lines.answer(None, n, zxid="0x1")
         path = lines.write(self.folder / "a.json", ending="whole", unanswered=0)
         code = self.script("latency.js") + "console.log(JSON.stringify([data.complete, latencyAxis(matching())]));"
-        with unittest.mock.patch("zkdump_tools.report.kept.SLOWEST", 2):
+        with unittest.mock.patch("tools.zkdump_tools.report.kept.SLOWEST", 2):
             self.assertEqual(self.of_page(code, path), [False, None])
 
     def test_how_requests_went_over_time(self):
@@ -148,8 +148,8 @@ class Scripts(ToolCase):
         began = asked[0][0]
         for most, complete in ((8_000, True), (2, False)):
             (self.folder / "a.html").unlink(missing_ok=True)
-            with unittest.mock.patch("zkdump_tools.report.kept.SLOWEST", most), \
-                    unittest.mock.patch("zkdump_tools.report.kept.OTHER_FAILED", most):
+            with unittest.mock.patch("tools.zkdump_tools.report.kept.SLOWEST", most), \
+                    unittest.mock.patch("tools.zkdump_tools.report.kept.OTHER_FAILED", most):
                 is_complete, count, failed, are_apart, steps = self.of_page(code, path)
             self.assertEqual((is_complete, count, failed, are_apart),
                              (complete, len(asked), sum(each[2] for each in asked), True))
@@ -215,8 +215,8 @@ class Scripts(ToolCase):
         code = ("const told = id => (filter.session = id,\n"
                 "  [rowsOf('operations', matching()).map(row => row.slice(0, 2)), / alone\\.$/.test(shortcoming())]);\n"
                 "console.log(JSON.stringify([told('0x7'), told('0x8')]));")
-        with unittest.mock.patch("zkdump_tools.report.kept.SLOWEST", 2), \
-                unittest.mock.patch("zkdump_tools.report.summary.MOST_SESSIONS", 1):
+        with unittest.mock.patch("tools.zkdump_tools.report.kept.SLOWEST", 2), \
+                unittest.mock.patch("tools.zkdump_tools.report.summary.MOST_SESSIONS", 1):
             busy, other = self.of_page(code, *paths)
         self.assertEqual(busy, [[[name, 1] for name in ("closeSession", "connect", "multi", "setData", "setWatches")],
                                 False])
@@ -231,7 +231,7 @@ class Scripts(ToolCase):
         code = ("const told = id => (filter.session = id, ['sessions', 'connections', 'operations'].map(name =>\n"
                 "  [rowsOf(name, matching()).length, rest(name)]));\n"
                 "console.log(JSON.stringify([told(''), told('0x8')]));")
-        with unittest.mock.patch("zkdump_tools.report.summary.MOST_CONNECTIONS", 1):
+        with unittest.mock.patch("tools.zkdump_tools.report.summary.MOST_CONNECTIONS", 1):
             every, other = self.of_page(code, *paths)
         self.assertEqual(every, [[1, "and 1 more"], [1, "and 1 more"], [5, ""]])
         filtered = "The filters go through the rows of this table, and not through 1 more."

@@ -4,9 +4,9 @@ import stat
 import struct
 import unittest.mock
 
-from support import CAPTURES, PROGRAM, ToolCase, pieces, sides, zkr
-from invented import LACKED, NAMED, NUMBER
-from zkdump_tools import facts, zkskip
+from .support import CAPTURES, PROGRAM, ToolCase, pieces, sides, zkr
+from ..unknown_operations import LACKED, NAMED, NUMBER
+from tools.zkdump_tools import facts, zkskip
 
 CONNECT = bytes.fromhex("00000000 0000000000000000 00007530 0000000000000000 00000010" + "00" * 17)
 CONNECTED = bytes.fromhex("00000000 00007530 0100000000000001 00000010 000102030405060708090a0b0c0d0e0f 00")
@@ -181,7 +181,7 @@ class Zkskip(ToolCase):
                 raise KeyboardInterrupt
             return take(skipping, piece)
         for name, taken, status, left in (("b", take, 0, True), ("c", interrupted, 130, False)):
-            with unittest.mock.patch("zkdump_tools.zkskip.Skipping.take", taken):
+            with unittest.mock.patch("tools.zkdump_tools.zkskip.Skipping.take", taken):
                 self.assertEqual(self.run_inside("zkskip.py", source, self.folder / f"{name}.zkr")[0], status)
             self.assertTrue((self.folder / f"{name}.zkr").exists())
             self.assertEqual((self.folder / f"{name}.facts.json").exists(), left)

@@ -4,7 +4,7 @@ import json
 import shutil
 import struct
 
-from support import CAPTURES, PROGRAM, TOP, ToolCase, zkr
+from .support import CAPTURES, PROGRAM, TOP, ToolCase, zkr
 
 LISTING = r"""C connect version=0 zxid=0 timeout=30000 session=0 passwd=#00 ro=0
 S connect version=0 timeout=30000 session=72057594037927937 passwd=#00 ro=0

@@ -11,10 +11,10 @@ import threading
 import time
 import unittest.mock
 
-from proxied import STAND_IN
-from support import PROGRAM, TOOLS, TOP, ToolCase, pieces, receive, sides, zkr
-from invented import NAMED
-from zkdump_tools import zkwatch
+from .proxied import STAND_IN, stand_in
+from .support import PROGRAM, TOOLS, TOP, ToolCase, pieces, receive, sides, zkr
+from ..unknown_operations import NAMED
+from tools.zkdump_tools import zkwatch
 
 RUN = TOP / "crates" / "zkdump" / "stdin"
 LISTING = """C connect version=0 zxid=0 timeout=30000 session=0 passwd=#00000000000000000000000000000000 ro=0
@@ -104,9 +104,7 @@ class Echo(threading.Thread):
 class Zkwatch(ToolCase):
     def setUp(self):
         super().setUp()
-        self.stand_in = self.folder / "show"
-        self.stand_in.write_text(STAND_IN)
-        self.stand_in.chmod(0o700)
+        self.stand_in = stand_in(self.folder)
 
     def watch(self, server, *words, listen="0", program=None):
         """Begins to watch: the process, and its address."""

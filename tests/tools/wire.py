@@ -2,10 +2,10 @@
 
 import struct
 
-from support import zkr
-from zkdump_tools.packets import ACK, FIN, RST, SYN  # noqa: F401
-from zkdump_tools.zkr2pcap import PUSH, Sent, tcp  # noqa: F401
-from zkdump_tools import zkr2pcap
+from .support import zkr
+from tools.zkdump_tools.packets import ACK, FIN, RST, SYN  # noqa: F401
+from tools.zkdump_tools.zkr2pcap import PUSH, Sent, tcp  # noqa: F401
+from tools.zkdump_tools import zkr2pcap
 
 BEGUN = 1_700_000_000_000
 

@@ -6,10 +6,10 @@ import random
 import re
 import subprocess
 
-import dissected
-from dissected import TOP, joined, lossy, pieces_of, wire, zkr
-from captured import disturbed
-from listed import listings_of
+from . import installed_plugin
+from .installed_plugin import TOP, joined, lossy, pieces_of, wire, zkr
+from ..tools.captured import disturbed
+from ..stored_listings import listings_of
 
 CAPTURES = sorted((TOP / "captures").glob("*.zkr"))
 REFUSED = [path for path in CAPTURES if path.stem.startswith("refused")]
@@ -83,7 +83,7 @@ class Connections:
         for share in (0.02, 0.1):
             for seed in range(self.words.seeds):
                 chance = random.Random(seed)
-                for profile in dissected.PROFILES:
+                for profile in installed_plugin.PROFILES:
                     capture = joined(lossy(list(wire.conversation(pieces_of(path))), chance, share)
                                      for path in REFUSED * 8)
                     text = self.plugin.read(capture, "-Y", "zookeeper.refused", "-T", "fields", "-e",
@@ -106,7 +106,7 @@ class Connections:
         for share in (3, 2):
             sent = [list(wire.conversation(pieces_of(path))) for path in WHOLE]
             yield from self.looked_over(joined(each[len(each) // share:] for each in sent), f"from 1/{share} on")
-        packets = [packet for at, each in enumerate(sent) for packet in dissected.packed(each, client=40_000 + at)]
+        packets = [packet for at, each in enumerate(sent) for packet in installed_plugin.packed(each, client=40_000 + at)]
         packets.sort(key=lambda each: each[0])
         yield from self.looked_over(wire.pcap(packets, snap=96), "96 bytes of each packet")
 
@@ -122,7 +122,7 @@ class Connections:
             ended = [len(list(cutters.take(zkr.Piece(each.side, None, each.data)))) for each in sent]
             long = next((at for at in range(1, len(sent)) if ended[at - 1] == 1 and not any(ended[at:at + 5])), 9)
             for first, version, port in itertools.product((0, 6, long), (4, 6), (9999, 41822)):
-                capture = wire.pcap(dissected.packed(sent[first:], server=9999, version=version))
+                capture = wire.pcap(installed_plugin.packed(sent[first:], server=9999, version=version))
                 found = self.plugin.frames(capture, "-d", f"tcp.port=={port},zookeeper")
                 shown = [(each["side"], each["xid"]) for each in found]
                 yield shown == said[sum(ended[:first]):], \
@@ -139,7 +139,7 @@ class Connections:
     def test_the_ports_are_used_again(self):
         first, second = (list(wire.conversation(pieces_of(path), 1448, (number, 2 * number)))
                          for path, number in zip(WHOLE[-2:], (1000, 700_000)))
-        capture = wire.pcap(dissected.packed(first) + dissected.packed(second))
+        capture = wire.pcap(installed_plugin.packed(first) + installed_plugin.packed(second))
         found = self.plugin.frames(capture)
         sessions = {each["session"][0] for each in found if each["kind"] == ["4"]}
         alone = [each["packet"] for each in found if each["kind"] == ["4"] and not each["response_to"]]

@@ -1,4 +1,3 @@
-#!/usr/bin/env python3
 """Tests of the plugin for Wireshark: what tshark shows with it.
 
     wireshark.py [--install] [--libzk PATH] [--mutants N] [--seeds N] [--golden] [WORD ..]
@@ -23,15 +22,15 @@ import sys
 import tempfile
 import textwrap
 
-from connections import WHOLE, Connections, listings, objects_of
-import dissected
-from dissected import SOURCES, TOP, capture_of, joined, mutated, pieces_of, wire, zkr
-import invented
-from listed import listings_of
-from odd import Odd
-import placed
-from zkdump_tools import resync
-import wanted
+from .connections import WHOLE, Connections, listings, objects_of
+from . import installed_plugin
+from .installed_plugin import SOURCES, TOP, capture_of, joined, mutated, pieces_of, wire, zkr
+from .. import unknown_operations
+from ..stored_listings import listings_of
+from .unusual_captures import Odd
+from . import marked_bytes
+from tools.zkdump_tools import resync
+from . import expectations
 
 PACKAGES = ("tshark", "wireshark-dev", "gcc", "pkg-config", "cmake")
 MUTANTS_A_RUN = 250
@@ -51,7 +50,7 @@ class Tests(Connections, Odd):
         """The page's lines build and install it, by the compiler and by CMake."""
         page = (SOURCES / "README.md").read_text()
         for tool, pattern, place in (("cc", r"cc .*|install .*", "wireshark"), ("cmake", r"cmake .*", ".")):
-            if lacking := dissected.missing_for_cmake() if tool == "cmake" else []:
+            if lacking := installed_plugin.missing_for_cmake() if tool == "cmake" else []:
                 print(f"left out: the build by CMake, as {', '.join(lacking)} is not here")
                 continue
             top = pathlib.Path(self.folder, f"by_{tool}")
@@ -71,7 +70,7 @@ class Tests(Connections, Odd):
             if line.startswith("V\tzookeeper."):
                 _, field, number, name = line.split("\t")
                 values[field.partition(".")[2]][(int(number, 0) + 2**31) % 2**32 - 2**31] = name
-        for field, names in wanted.names_of_the_header().items():
+        for field, names in expectations.names_of_the_header().items():
             yield names and names.items() <= values[field].items(), f"{field}: {values[field]}, not {names}"
 
     def test_preferences(self):
@@ -129,15 +128,15 @@ class Tests(Connections, Odd):
     def test_what_the_profile_lacks(self):
         """It is left out with its reply: their headers are shown, and the rest is judged, by the streams' numbers."""
         pieces = [zkr.Piece(side.encode(), 0, len(data := bytes.fromhex(digits)).to_bytes(4, "big") + data)
-                  for side, digits, *_ in (*wanted.CONNECTS, *wanted.NEWER)]
+                  for side, digits, *_ in (*expectations.CONNECTS, *expectations.NEWER)]
         found = self.plugin.frames(capture_of(pieces), "-2")
-        for (*_, fields), each in zip(wanted.NEWER, found[2:]):
+        for (*_, fields), each in zip(expectations.NEWER, found[2:]):
             shown = {name: each[name] for name in fields}
             yield shown == {name: [value] for name, value in fields.items()}, f"{shown}, not {fields}"
         yield len(found) == len(pieces), f"{len(found)} messages of {len(pieces)}"
         told = self.plugin.read(capture_of(pieces), "-2", "-O", "zookeeper", "-V")
-        yield set(re.findall(r"Refused: (side=.*?)\]", told)) == {wanted.REFUSED}, f"{re.findall('Refused.*', told)}"
-        note = f"{invented.NAMED.name} is not of the profile: its reply is not read"
+        yield set(re.findall(r"Refused: (side=.*?)\]", told)) == {expectations.REFUSED}, f"{re.findall('Refused.*', told)}"
+        note = f"{unknown_operations.NAMED.name} is not of the profile: its reply is not read"
         yield note in told, f"not said: {note}"
         java = self.plugin.frames_of(TOP / "captures" / "refused_java_ttl_node.zkr", "3.5")
         yield [each["verdict"] for each in java] == [[verdict] for verdict in "00333300"], "verdicts of Java's client"
@@ -146,7 +145,7 @@ class Tests(Connections, Odd):
 
     def test_stored_cases(self):
         """Every stored case of the program, whose recording is whole, is refused where its last line says so."""
-        for settings, cases in wanted.cases():
+        for settings, cases in expectations.cases():
             limit, profile = settings
             capture = joined(list(wire.conversation(pieces)) for _, pieces, _ in cases)
             told = collections.defaultdict(set)
@@ -163,13 +162,13 @@ class Tests(Connections, Odd):
         for path, profile, _ in listings():
             objects = objects_of(path, profile)
             found = self.plugin.frames_of(path, profile)[:len(objects)]
-            wrong = [(each, told) for each, shown in zip(objects, found) for told in wanted.differences(each, shown)]
+            wrong = [(each, told) for each, shown in zip(objects, found) for told in expectations.differences(each, shown)]
             yield (not wrong and len(found) == len(objects),
                    f"{path.stem} under {profile}: {len(found)} of {len(objects)}, {wrong[:2]}")
 
     def test_marked_bytes(self):
         """Each field marks its bytes, those before a fault, too; the bytes after these are not read."""
-        yield from placed.compare(self.plugin)
+        yield from marked_bytes.compare(self.plugin)
 
     def test_the_commands_of_the_page(self):
         """Each line of tshark ends well, and prints something where it has no filter."""
@@ -226,7 +225,7 @@ class Tests(Connections, Odd):
 
     def test_holes(self):
         """hole.c says where frames begin again as resync.py does."""
-        rule = wanted.hole_of(self.folder)
+        rule = expectations.hole_of(self.folder)
         texts = {side: b"".join(piece.data for path in WHOLE for piece in pieces_of(path) if piece.side == side)
                  for side in (zkr.CLIENT, zkr.SERVER)}
         chance, wrong = random.Random(1), []
@@ -245,7 +244,7 @@ class Tests(Connections, Odd):
         if self.plugin.release != "4.0":
             print(f"left out: the stored files are what Wireshark 4.0 shows, and this is {self.plugin.release}")
             return
-        for name, capture, words in wanted.golden():
+        for name, capture, words in expectations.golden():
             stored = SOURCES / "tests" / "golden" / f"{name}.txt"
             lines = self.plugin.read(capture, *words, profile="3.4", hide=True).splitlines()
             below = ("Frame ", "Ethernet", "Internet", "Transmission")
@@ -286,7 +285,7 @@ class Tests(Connections, Odd):
 
     def test_mutants(self):
         """Mutated connections, many in one capture, under the address sanitizer; and one that ends with empty texts."""
-        plugin = dissected.Plugin(self.folder, self.words.libzk, sanitized=True)
+        plugin = installed_plugin.Plugin(self.folder, self.words.libzk, sanitized=True)
         out = plugin.read(self.ending_with_empty_texts(), "-V", "-O", "zookeeper")
         yield not plugin.trouble(out) and out.count("Path: ") == 3, f"empty texts: {plugin.trouble(out)}"
         sent = [list(wire.conversation(pieces_of(path))) for path in WHOLE if path.stat().st_size < 60_000]
@@ -314,12 +313,12 @@ def main():
             parser.error(f"no test has this word: {word}")
     if words.install:
         subprocess.run(["apt-get", "install", "-y", "--no-install-recommends", *PACKAGES], check=True)
-    if missing := dissected.missing(words.libzk):
+    if missing := installed_plugin.missing(words.libzk):
         print(f"left out: the plugin for Wireshark, as {', '.join(missing)} is not here\n0 passed, 0 failed")
         return 0
     passed, failures = 0, []
     with tempfile.TemporaryDirectory() as folder:
-        tests = Tests(dissected.Plugin(folder, words.libzk), folder, words)
+        tests = Tests(installed_plugin.Plugin(folder, words.libzk), folder, words)
         for name in names:
             results = list(getattr(tests, name)())
             passed += sum(1 for good, _ in results if good)

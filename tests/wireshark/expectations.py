@@ -1,4 +1,4 @@
-"""What tests/wireshark.py expects: the fields of zkjson's objects, the plugin's sources as functions, and captures."""
+"""What dissection.py expects: the fields of zkjson's objects, the plugin's sources as functions, and captures."""
 
 import collections
 import contextlib
@@ -6,11 +6,11 @@ import ctypes
 import io
 import pathlib
 import re
-import runpy
 import subprocess
 
-from dissected import SOURCES, TOP, packed, pieces_of, wire, zkr
-import invented
+from .installed_plugin import SOURCES, TOP, packed, pieces_of, wire, zkr
+from .. import unknown_operations
+from ..program.harness import stored
 
 
 def hexadecimal(value):
@@ -49,12 +49,12 @@ CONNECTS = (("C", "00000000 0000000000000000 00007530 0000000000000000 00000010"
 # same under the xid of setWatches, and an exists with a wrong byte. Of each the fields that are shown; and what is said
 # of the refusal, which counts the client's frames of 49, 18, 19, 12, 40 and 19 bytes.
 LEFT_OUT = {"verdict": "3", "newer": ""}
-LATER, NONE = invented.NAMED.number, str(invented.NUMBER)
+LATER, NONE = unknown_operations.NAMED.number, str(unknown_operations.NUMBER)
 NEWER = (
     ("C", f"00000001 {LATER:08x} 00000002 2f61", {**LEFT_OUT, "xid": "1", "op": str(LATER)}),
     ("C", "00000002 00000003 00000002 2f61 01", {"verdict": "0", "line": 'C 2 exists path="/a" watch=1'}),
-    ("C", f"00000003 {invented.DIGITS}", {**LEFT_OUT, "xid": "3", "op": NONE}),
-    ("C", f"fffffff8 {invented.DIGITS} 0000000000000005 {'00000000' * 5}", {**LEFT_OUT, "xid": "-8", "op": NONE}),
+    ("C", f"00000003 {unknown_operations.DIGITS}", {**LEFT_OUT, "xid": "3", "op": NONE}),
+    ("C", f"fffffff8 {unknown_operations.DIGITS} 0000000000000005 {'00000000' * 5}", {**LEFT_OUT, "xid": "-8", "op": NONE}),
     ("S", "fffffff8 0000000000000005 00000000", {**LEFT_OUT, "xid": "-8", "op": NONE, "err": "0"}),
     ("S", "00000001 0000000000000005 00000000 00000000", {**LEFT_OUT, "xid": "1", "op": str(LATER), "err": "0"}),
     ("S", "00000002 0000000000000005 ffffff9b", {"verdict": "0", "line": "S 2 exists zxid=5 err=-101/NONODE"}),
@@ -107,7 +107,6 @@ def cases():
     name, its pieces, and what is said of its refusal, if it is refused. Words of four letters, and operations that the
     profile lacks, are not refused by the plugin; it takes no --waiting, and no limits of a ZKR2 head."""
     found = collections.defaultdict(list)
-    stored = runpy.run_path(str(TOP / "tests" / "program.py"))["stored"]  # the tools have a module of this name, too
     for name, words, recording, ending in stored():
         options = dict(zip(words[1::2], words[2::2]))
         if ending.startswith(b". recording") or "--waiting" in options or recording.startswith(b"ZKR2"):

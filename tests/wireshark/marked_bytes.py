@@ -1,15 +1,15 @@
 """Which bytes of a payload each field of the plugin for Wireshark marks, compared with the second reading of the
-formats in tests/fields.py: of the payloads of its table, whole and truncated at each byte. tests/wireshark.py calls
+formats in tests/library/fields.py: of the payloads of its table, whole and truncated at each byte. tests/wireshark calls
 it."""
 
 import collections
 import struct
 import xml.etree.ElementTree
 
-import fields  # which adds docs/ to the path
-import source
-from dissected import joined, wire, zkr
-from samples import PROFILE
+from ..library import fields
+from dev import source
+from .installed_plugin import joined, wire, zkr
+from ..library.operation_samples import PROFILE
 
 NAMES = {name.lower(): number for name, number in source.field_names().items()}
 WORDS = {number: name for name, number in NAMES.items()}

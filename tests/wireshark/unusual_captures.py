@@ -3,12 +3,12 @@
 import re
 import struct
 
-from dissected import capture_of, packed, wire, zkr
-import invented
-import wanted
+from .installed_plugin import capture_of, packed, wire, zkr
+from .. import unknown_operations
+from . import expectations
 
 HEADS = [zkr.Piece(side.encode(), 0, len(data := bytes.fromhex(digits)).to_bytes(4, "big") + data)
-         for side, digits in wanted.CONNECTS]
+         for side, digits in expectations.CONNECTS]
 
 
 def piece(side, digits, length=None):
@@ -200,7 +200,7 @@ class Odd:
     def test_times_of_operations_without_a_name(self):
         """Their response times are in the statistics, in a row of their own."""
         body = "00000002 2f61 01"
-        pieces = [piece(zkr.CLIENT, f"{xid:08x} {op} {body}") for xid, op in ((1, invented.DIGITS), (2, "00000003"),
+        pieces = [piece(zkr.CLIENT, f"{xid:08x} {op} {body}") for xid, op in ((1, unknown_operations.DIGITS), (2, "00000003"),
                                                                              (3, "000001f4"))]
         pieces += [piece(zkr.SERVER, f"{xid:08x} 0000000000000005 fffffffa") for xid in (1, 2, 3)]
         times = self.plugin.read(capture_of([*HEADS, *pieces]), "-q", "-z", "zookeeper,srt")

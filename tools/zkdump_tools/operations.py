@@ -27,7 +27,7 @@ CREATE, PATH = "path:text blob:data acl:acls flags:number", "path:text"
 WATCH, VERSION = "path:text watch:bit", "path:text version:number"
 WATCHES = "zxid:hexadecimal dataWatches:texts existWatches:texts childWatches:texts"
 ALL = (
-    # The lines from here on are written by docs/names.py; rows that the sources lack stay.
+    # The lines from here on are written by dev/names.py; rows that the sources lack stay.
     Operation(1, "create", "3.4", CREATE, PATH),
     Operation(2, "delete", "3.4", VERSION, ""),
     Operation(3, "exists", "3.4", WATCH, "stat:stat"),

@@ -1,7 +1,7 @@
 //! Which release this is.
 
 /// The number of the release: a million for each major one, a thousand for each minor one, and the rest. `VERSION` and
-/// include/zk.h have the same (tests/release.py).
+/// include/zk.h have the same (tests/release).
 #[unsafe(no_mangle)]
 pub extern "C" fn zk_version() -> u32
     // It is 0.10.0.

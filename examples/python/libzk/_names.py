@@ -1,4 +1,4 @@
-"""Names and constants of numbers (include/zk.h), and profiles, written by docs/names.py."""
+"""Names and constants of numbers (include/zk.h), and profiles, written by dev/names.py."""
 
 import enum
 from typing import Dict

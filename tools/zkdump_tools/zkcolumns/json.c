@@ -204,7 +204,7 @@ static void put_acl(struct walk *walk, int64_t count) {
 /* The name of a field in JSON, after a comma; and of a Stat's first field the beginning of that. */
 static const char *key_of(uint16_t name) {
     switch (name) {
-    /* The lines from here on are written by docs/names.py. */
+    /* The lines from here on are written by dev/names.py. */
     case ZK_NAME_PATH: return ", \"path\": ";
     case ZK_NAME_DATA: return ", \"blob\": ";
     case ZK_NAME_ACL: return ", \"acl\": ";

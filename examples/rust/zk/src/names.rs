@@ -1,4 +1,4 @@
-//! Names and constants of numbers, and profiles; written by docs/names.py.
+//! Names and constants of numbers, and profiles; written by dev/names.py.
 
 /// The operations of a release.
 #[derive(Clone, Copy, Debug, PartialEq, Eq)]

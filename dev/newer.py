@@ -1,15 +1,13 @@
 """Names of numbers for readers, beyond those that the crates have for lines: of operations, errors and events of later
-releases, of states, of the flags of a create request, and of permissions. docs/constants.py writes them where callers
+releases, of states, of the flags of a create request, and of permissions. dev/constants.py writes them where callers
 of the library take them from.
 
 The names are those of ZooKeeper's own sources (ZooDefs.OpCode, KeeperException.Code, Watcher.Event, CreateMode, ZooDefs.Perms).
 """
 
 import re
-import runpy
 
-import source
-from source import TOP
+from . import source
 
 ERRORS = {-12: "UNKNOWNSESSION", -13: "NEWCONFIGNOQUORUM", -14: "RECONFIGINPROGRESS", -120: "EPHEMERALONLOCALSESSION",
           -121: "NOWATCHER", -122: "REQUESTTIMEOUT", -123: "RECONFIGDISABLED", -124: "SESSIONCLOSEDREQUIRESASLAUTH",
@@ -30,7 +28,7 @@ Session Closed Require Sasl Auth, Quota Exceeded, Throttled Op, Ok"""
 
 def operations():
     """The operations of later releases that the tools know."""
-    known = runpy.run_path(str(TOP / "tools" / "zkdump_tools" / "operations.py"))
+    known = source.python_names("tools/zkdump_tools/operations.py")
     return {each.number: each.name for each in known["ALL"]}
 
 

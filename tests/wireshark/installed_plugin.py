@@ -1,4 +1,4 @@
-"""What tests/wireshark.py works with: the plugin, built and put into a home of its own, tshark as it runs there, and
+"""What dissection.py works with: the plugin, built and put into a home of its own, tshark as it runs there, and
 captures."""
 
 import collections
@@ -8,16 +8,16 @@ import random
 import re
 import shutil
 import subprocess
-import sys
 import xml.etree.ElementTree
 
-TOP = pathlib.Path(__file__).resolve().parent.parent
+from packaging import make_library
+from packaging.build_library import LIBRARY
+from tools.zkdump_tools import zkr
+from ..tools import wire
+
+TOP = pathlib.Path(__file__).resolve().parents[2]
 SOURCES = TOP / "wireshark"
-sys.path += [str(TOP / "packaging"), str(TOP / "tools" / "tests"), str(TOP / "tools")]
-import make_library  # noqa: E402
-import wire  # noqa: E402
-from build_library import PLAIN
-from zkdump_tools import zkr
+from packaging.build_library import PLAIN
 
 NOBODY = 65534
 PROFILES = dict(re.findall(r'\{"([\d.]+)", "([^"]*)", ZK_PROFILE', (SOURCES / "register.c").read_text()))

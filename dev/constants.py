@@ -1,10 +1,9 @@
-"""The constants and names of numbers that callers of the library have, for docs/names.py to write: in zk.h, and in the
+"""The constants and names of numbers that callers of the library have, for dev/names.py to write: in zk.h, and in the
 packages for Python, Rust and Go. Each function takes the lines that are there, and returns those that should be."""
 
 from typing import NamedTuple
 
-import newer
-import source
+from . import newer, source
 
 
 class Kind(NamedTuple):
@@ -75,7 +74,7 @@ def header_functions(_):
 
 
 def python_names(_):
-    found = ['"""Names and constants of numbers (include/zk.h), and profiles, written by docs/names.py."""', "", "import enum",
+    found = ['"""Names and constants of numbers (include/zk.h), and profiles, written by dev/names.py."""', "", "import enum",
              "from typing import Dict"]
     for kind in KINDS:
         words = [f'{number}: "{name}",' for number, name in rows(kind)]
@@ -91,7 +90,7 @@ def python_names(_):
 
 def rust_names(_):
     profiles = [f"    V{number} = {number}," for number in source.profiles().values()]
-    found = ['//! Names and constants of numbers, and profiles; written by docs/names.py.', "",
+    found = ['//! Names and constants of numbers, and profiles; written by dev/names.py.', "",
              "/// The operations of a release.", "#[derive(Clone, Copy, Debug, PartialEq, Eq)]", "pub enum Profile {",
              *profiles, "}"]
     for kind in KINDS:
@@ -114,7 +113,7 @@ def go_constants(of, names):
 
 
 def go_names(_):
-    found = ["package libzk", "", "// Constants of numbers, and their names; written by docs/names.py.", "", "// #include <zk.h>",
+    found = ["package libzk", "", "// Constants of numbers, and their names; written by dev/names.py.", "", "// #include <zk.h>",
              'import "C"']
     for kind in NUMBERED:
         spelled = newer.camel if kind.name in ("error", "status") else lambda _, name: name[0].upper() + name[1:]

@@ -7,11 +7,8 @@ import sys
 import unittest
 import unittest.mock
 
-from support import TOP, ToolCase
-
-sys.path.append(str(TOP / "packaging"))
-import freeze  # noqa: E402
-import make_library  # noqa: E402
+from packaging import freeze, make_library
+from tests.tools.support import ToolCase
 
 # What is changed in the header, and what is then said of it.
 CHANGES = (

@@ -1,0 +1,1 @@
+"""What makes the libraries, an installation and a release."""
