@@ -27,7 +27,7 @@ TOP = pathlib.Path(__file__).resolve().parents[2]
 CAPTURES, EXAMPLES = TOP / "captures", TOP / "examples"
 HERE = TOP / "tests" / "library"
 PROGRAMS = {path.stem: path for path in (*sorted(EXAMPLES.glob("*.c")),
-                                         *(HERE / f"{name}.c" for name in ("calls", "nulls", "threads")))}
+                                         *(HERE / f"{name}.c" for name in ("beside", "calls", "nulls", "threads")))}
 STRICT = ("-std=c11", "-Wall", "-Wextra", "-Wpedantic", "-Werror")
 SAID = """connected: time_out=10000
 create: OK path=/a
@@ -380,6 +380,7 @@ def check(folder, archive, shared, cc):
     yield ends_well("client frames", programs["client_frames"])
     yield from example_server.check(programs["server"], programs["client"])
     yield ends_well("null pointers", programs["nulls"])
+    yield ends_well("beside the proved calls", programs["beside"])
     yield ends_well("handles that go from thread to thread", programs["threads"])
     yield from measure_memory(folder, archive, cc)
 
