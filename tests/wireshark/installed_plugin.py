@@ -11,7 +11,7 @@ import subprocess
 import xml.etree.ElementTree
 
 from packaging import make_library
-from packaging.build_library import LIBRARY
+from packaging.build_library import PLAIN
 from tools.zkdump_tools import zkr
 from ..tools import wire
 
