@@ -17,7 +17,6 @@ from ..tools import wire
 
 TOP = pathlib.Path(__file__).resolve().parents[2]
 SOURCES = TOP / "wireshark"
-from packaging.build_library import PLAIN
 
 NOBODY = 65534
 PROFILES = dict(re.findall(r'\{"([\d.]+)", "([^"]*)", ZK_PROFILE', (SOURCES / "register.c").read_text()))
