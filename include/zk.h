@@ -905,10 +905,10 @@ static inline const void *zk_from(const void *at) {
     return at != NULL ? at : &none;
 }
 
-/* A pointer to write to, which isn't null, aligned likewise. */
+/* A pointer to write nothing to, which isn't null, aligned likewise. */
 static inline void *zk_into(void *at) {
-    static uint64_t none;
-    return at != NULL ? at : &none;
+    static const uint64_t none = 0;
+    return at != NULL ? at : (void *)(uintptr_t)&none;
 }
 
 /* The first of two statuses that isn't ZK_WELL. */
