@@ -80,17 +80,24 @@ static gboolean is_word(const struct way *way, const struct piece *piece) {
     return TRUE;
 }
 
+gboolean has_begun(const struct tcp_analysis *tcp, guint32 side) {
+    return (tcp->conversation_completeness & began[side]) != 0;
+}
+
+guint32 bytes_before(guint32 number, guint32 syn) {
+    /* TCP's numbers count from 0 where its preference has them so, and from the SYN's own else. */
+    return MIN(number - 1, number - (syn + 1));
+}
+
 /* A side's first bytes. */
 static void begin(struct connection *connection, packet_info *pinfo, struct way *way, const struct piece *piece) {
     const struct tcp_analysis *tcp = tcp_of(pinfo);
     way->begun = TRUE;
     way->first = piece->number;
     way->since = pinfo->num;
-    way->whole = tcp && (tcp->conversation_completeness & began[piece->side]);
+    way->whole = tcp && has_begun(tcp, piece->side);
     if (way->whole) {
-        /* TCP's numbers count from 0 where its preference has them so, and from the SYN's own else. */
-        way->first = MIN(piece->number - 1, piece->number - (tcp->fwd->base_seq + 1));
-        way->first = piece->number - way->first;
+        way->first = piece->number - bytes_before(piece->number, tcp->fwd->base_seq);
     }
     way->next = way->end = way->first;
     if (is_word(way, piece)) {

@@ -21,12 +21,23 @@ void be_late(struct connection *connection, packet_info *pinfo, const char *why)
     judge_no_more(connection, pinfo, why);
 }
 
+/* Whether an end acknowledges no byte of the other one, whose SYN was captured. */
+static gboolean acknowledges_nothing(packet_info *pinfo, const struct piece *piece) {
+    const struct tcp_analysis *tcp = tcp_of(pinfo);
+    guint32 other = piece->side == ZK_CLIENT ? ZK_SERVER : ZK_CLIENT, to = piece->tcp->lastackseq;
+    return tcp && has_begun(tcp, other) && bytes_before(to, tcp->rev->base_seq) == 0;
+}
+
 /* Whether who says this may have read more of the other side than is known here: it acknowledges bytes that make no
- * frame, and not the middle of the next one alone. What TCP put together has the acknowledgement of its last segment
- * alone. */
-static gboolean may_know_more(const struct way *other, const struct tcpinfo *tcp) {
+ * frame, and not the middle of the next one alone. TCP gives the acknowledgement of the packet that it is at; that of a
+ * frame beyond the packet's bytes, which TCP has held back till these came, isn't known. */
+static gboolean may_know_more(packet_info *pinfo, const struct way *other, const struct piece *piece) {
+    const struct tcpinfo *tcp = piece->tcp;
     gint32 acknowledged = (gint32)(tcp->lastackseq - other->next), next = (gint32)(other->end - other->next);
-    return !other->begun || tcp->is_reassembled || (acknowledged > 0 && acknowledged >= next);
+    if (tcp->is_reassembled && (gint32)(piece->number - tcp->nxtseq) >= 0) {
+        return TRUE;
+    }
+    return other->begun ? acknowledged > 0 && acknowledged >= next : !acknowledges_nothing(pinfo, piece);
 }
 
 /* Gives the frame to the judge, and keeps its line. */
@@ -41,12 +52,16 @@ static void judge(struct connection *connection, packet_info *pinfo, const struc
     /* The server's first bytes, which may answer four letters that were lost. */
     gboolean is_welcome = piece->side == ZK_SERVER && (frame->kind == ZK_CONNECTED || !frame->kind) &&
                           (!other->begun || other->next == other->first);
-    if ((is_welcome || frame->unasked || frame->disordered) && may_know_more(other, piece->tcp)) {
+    if ((is_welcome || frame->unasked || frame->disordered) && may_know_more(pinfo, other, piece)) {
         be_late(connection, pinfo, "lacks a request that was answered");
         return;
     }
     frame->verdict = judge_take(judge, piece->side, piece->bytes, size, &frame->fault);
-    if (frame->verdict == VERDICT_REFUSED) {
+    if (frame->verdict == VERDICT_REFUSED && frame->fault.reason == ZK_BAD_PART && is_asking(frame) &&
+        frame->call->later_part) {
+        frame->verdict = VERDICT_NONE;
+        judge_no_more(connection, pinfo, "has a multi with an operation of a later release");
+    } else if (frame->verdict == VERDICT_REFUSED) {
         connection->refused = pinfo->num;
     } else if (frame->verdict == VERDICT_WELL) {
         gsize length = judge_line_length(judge, piece->side);
@@ -97,10 +112,12 @@ struct frame *frame_new(struct connection *connection, packet_info *pinfo, const
             way->sure = TRUE;
             client->sure |= !client->sought && frame->call->asked >= client->since;
         }
-    } else if (frame->kind == ZK_CONNECT && there >= 24) {
-        connection->session = (guint64)long_at(payload + 16);
-    } else if (frame->kind == ZK_CONNECTED && there >= 16) {
-        connection->session = (guint64)long_at(payload + 8);
+    } else if (frame->kind == ZK_CONNECT || frame->kind == ZK_CONNECTED) {
+        guint32 place = frame->kind == ZK_CONNECT ? 16 : 8;
+        call_connect(connection, pinfo, frame);
+        if (there >= place + 8) {
+            connection->session = (guint64)long_at(payload + place);
+        }
     }
     frame->session = connection->session;
     if (piece->there < size) {

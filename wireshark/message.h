@@ -14,7 +14,8 @@
 
 /* Operations that this plugin has to know by their numbers. */
 enum {
-    OP_PING = 11, OP_MULTI = 14, OP_AUTH = 100, OP_SET_WATCHES = 101, OP_SASL = 102, OP_CLOSE = -11, OP_FAILED = -1
+    OP_PING = 11, OP_MULTI = 14, OP_AUTH = 100, OP_SET_WATCHES = 101, OP_SASL = 102, OP_CLOSE = -11, OP_FAILED = -1,
+    OP_CONNECT = -10 /* which a server calls createSession; no message has it */
 };
 
 /* The profile that has the most operations. */

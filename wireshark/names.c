@@ -55,6 +55,12 @@ const value_string kind_names[] = {
     {ZK_EVENT, "event"}, {0, NULL},
 };
 
+/* What a create request makes of a node: CreateMode.java. */
+const value_string mode_names[] = {
+    {0, "PERSISTENT"}, {1, "EPHEMERAL"}, {2, "PERSISTENT_SEQUENTIAL"}, {3, "EPHEMERAL_SEQUENTIAL"}, {4, "CONTAINER"},
+    {5, "PERSISTENT_WITH_TTL"}, {6, "PERSISTENT_SEQUENTIAL_WITH_TTL"}, {0, NULL},
+};
+
 const value_string event_state_names[] = {
     {NUMBER(-112), "Expired"}, {NUMBER(-1), "Unknown"}, {0, "Disconnected"}, {1, "NoSyncConnected"},
     {3, "SyncConnected"}, {4, "AuthFailed"}, {5, "ConnectedReadOnly"}, {6, "SaslAuthenticated"}, {7, "Closed"},

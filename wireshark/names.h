@@ -11,6 +11,7 @@
 extern const value_string op_names[];
 extern const value_string error_names[];
 extern const value_string kind_names[];
+extern const value_string mode_names[];
 extern const value_string event_kind_names[];
 extern const value_string event_state_names[];
 extern const value_string reason_names[];

@@ -5,6 +5,8 @@
  */
 #include "zookeeper.h"
 
+#include "names.h"
+
 /* A reply that was captured before its request was captured within this number of messages of it. */
 enum { MOST_EARLY = 64 };
 
@@ -58,6 +60,14 @@ static void note_parts(struct call *call, const guint8 *payload, guint32 length,
     wmem_free(NULL, fields);
 }
 
+/* Whether a multi isn't read to its end since a part of it is an operation of a later release. */
+static gboolean has_later_part(const guint8 *payload, guint32 length) {
+    struct message message = message_read(ZK_REQUEST, (guint32)pref_profile, NULL, payload, length, NULL, 0);
+    guint32 place = message.read.place;
+    gboolean is_part = message.read.status == ZK_BAD_PART && length >= 4 && place <= length - 4;
+    return is_part && op_is_newer(int_at(payload + place));
+}
+
 /* What a request asks: its path, and of a multi the operations of its parts. */
 static void note_asked(struct call *call, const guint8 *payload, guint32 length) {
     enum { FIRST = 8 }; /* a path is among the first fields */
@@ -68,6 +78,7 @@ static void note_asked(struct call *call, const guint8 *payload, guint32 length)
     if (path && !path->null) {
         call->path = text_of(wmem_file_scope(), payload + path->place, path->length);
     }
+    call->later_part = call->op == OP_MULTI && has_later_part(payload, length);
     if (call->op == OP_MULTI && call->is_known) {
         note_parts(call, payload, length, message.read.count);
     }
@@ -92,6 +103,20 @@ struct call *call_new(struct connection *connection, packet_info *pinfo, struct 
         wait_for_reply(connection, call);
     }
     return call;
+}
+
+void call_connect(struct connection *connection, packet_info *pinfo, struct frame *frame) {
+    if (!connection->connect) {
+        connection->connect = wmem_new0(wmem_file_scope(), struct call);
+        connection->connect->op = OP_CONNECT;
+    }
+    frame->call = connection->connect;
+    if (frame->kind == ZK_CONNECT) {
+        frame->call->asked = pinfo->num;
+        frame->call->when = pinfo->abs_ts;
+    } else {
+        frame->call->answered = pinfo->num;
+    }
 }
 
 /* The waiting request that a reply with this xid answers. */

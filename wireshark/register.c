@@ -16,7 +16,7 @@ int hf_field[FIELD_NAMES];
 int hf_length = -1, hf_side = -1, hf_kind = -1, hf_frame = -1, hf_unread = -1, hf_no_frame = -1, hf_words = -1;
 int hf_response_in = -1, hf_response_to = -1, hf_response_time = -1, hf_expected_xid = -1;
 int hf_verdict = -1, hf_reason = -1, hf_place = -1, hf_line = -1;
-gint ett_message = -1, ett_list = -1, ett_stat = -1, ett_part = -1, ett_acl = -1;
+gint ett_message = -1, ett_list = -1, ett_stat = -1, ett_part = -1, ett_acl = -1, ett_bits = -1;
 expert_field ei_refused = EI_INIT, ei_unread = EI_INIT, ei_newer = EI_INIT, ei_order = EI_INIT, ei_unasked = EI_INIT,
              ei_error = EI_INIT, ei_no_frame = EI_INIT, ei_again = EI_INIT, ei_cut = EI_INIT, ei_many = EI_INIT;
 
@@ -38,6 +38,8 @@ static const enum_val_t profiles[] = {
 #define INT(name, text, abbreviation) PLAIN(name, text, abbreviation, FT_INT32, BASE_DEC)
 #define HEX(name, text, abbreviation) PLAIN(name, text, abbreviation, FT_UINT64, BASE_HEX)
 #define BOOL(name, text, abbreviation) PLAIN(name, text, abbreviation, FT_BOOLEAN, BASE_NONE)
+#define BIT(name, text, abbreviation, mask) \
+    {&(hf_field[name]), {text, "zookeeper." abbreviation, FT_BOOLEAN, 8, NULL, mask, NULL, HFILL}}
 #define TEXT(name, text, abbreviation) PLAIN(name, text, abbreviation, FT_STRING, BASE_NONE)
 #define BLOB(name, text, abbreviation) PLAIN(name, text, abbreviation, FT_BYTES, BASE_NONE)
 #define TIME(name, text, abbreviation) PLAIN(name, text, abbreviation, FT_ABSOLUTE_TIME, ABSOLUTE_TIME_UTC)
@@ -67,12 +69,20 @@ static hf_register_info fields[] = {
     NAMED(FIELD_ERR, "Error", "err", error_names),
     TEXT(FIELD_PATH, "Path", "path"),
     BLOB(FIELD_DATA, "Data", "data"),
+    TEXT(FIELD_DATA_TEXT, "Text", "data.text"),
     INT(FIELD_VERSION, "Version", "version"),
-    INT(FIELD_FLAGS, "Flags", "flags"),
+    NAMED(FIELD_FLAGS, "Flags", "flags", mode_names),
+    BIT(FIELD_EPHEMERAL, "Ephemeral", "flags.ephemeral", 1),
+    BIT(FIELD_SEQUENTIAL, "Sequential", "flags.sequential", 2),
     BOOL(FIELD_WATCH, "Watch", "watch"),
     INT(FIELD_ACL, "Access list", "acl"),
     HF(hf_field[FIELD_PERMS], "Permissions", "acl.perms", FT_INT32, BASE_DEC, NULL,
        "READ 1, WRITE 2, CREATE 4, DELETE 8, ADMIN 16"),
+    BIT(FIELD_PERM_READ, "READ", "acl.perms.read", 1),
+    BIT(FIELD_PERM_WRITE, "WRITE", "acl.perms.write", 2),
+    BIT(FIELD_PERM_CREATE, "CREATE", "acl.perms.create", 4),
+    BIT(FIELD_PERM_DELETE, "DELETE", "acl.perms.delete", 8),
+    BIT(FIELD_PERM_ADMIN, "ADMIN", "acl.perms.admin", 16),
     TEXT(FIELD_SCHEME, "Scheme", "scheme"),
     TEXT(FIELD_ID, "Id", "acl.id"),
     INT(FIELD_AUTH_TYPE, "Type", "auth.type"),
@@ -128,7 +138,7 @@ void proto_register_zookeeper(void);
 void proto_reg_handoff_zookeeper(void);
 
 void proto_register_zookeeper(void) {
-    static gint *subtrees[] = {&ett_message, &ett_list, &ett_stat, &ett_part, &ett_acl};
+    static gint *subtrees[] = {&ett_message, &ett_list, &ett_stat, &ett_part, &ett_acl, &ett_bits};
     for (int name = 0; name < FIELD_NAMES; name++) {
         hf_field[name] = -1; /* 4.0 stops every user's program where one is registered as another number */
     }

@@ -160,6 +160,8 @@ static void show_verdict(const struct shown *shown) {
     if (status == ZK_UNKNOWN_OP && (said == VERDICT_LEFT_OUT || op_is_newer(shown->op))) {
         expert_add_info_format(pinfo, verdict, &ei_newer, "%s is not of the profile: its request is not read",
                                op_text(pinfo, shown->op));
+    } else if (status == ZK_BAD_PART && shown->frame->call && shown->frame->call->later_part) {
+        expert_add_info(pinfo, verdict, &ei_newer);
     } else if (said == VERDICT_NONE && status != ZK_WELL && (status != ZK_SHORT || shown->there == shown->size)) {
         expert_add_info(pinfo, show_fault(shown, status, shown->message.read.place), &ei_unread);
     }
@@ -171,7 +173,9 @@ static void show_request(const struct shown *shown, const struct call *call) {
     proto_tree *tree = shown->tree;
     tvbuff_t *tvb = shown->tvb;
     guint32 asked = call->later && PINFO_FD_VISITED(pinfo) ? call->later : call->asked;
-    generated(proto_tree_add_int(tree, hf_field[FIELD_OP], tvb, 0, 0, call->op));
+    if (call->op != OP_CONNECT) {
+        generated(proto_tree_add_int(tree, hf_field[FIELD_OP], tvb, 0, 0, call->op));
+    }
     if (call->path && !shown_field(shown, ZK_NAME_PATH)) {
         generated(proto_tree_add_string(tree, hf_field[FIELD_PATH], tvb, 0, 0, call->path));
     }
@@ -181,7 +185,9 @@ static void show_request(const struct shown *shown, const struct call *call) {
         nstime_delta(&took, &pinfo->abs_ts, &call->when);
         generated(proto_tree_add_time(tree, hf_response_time, tvb, 0, 0, &took));
     }
-    if (!message_knows_reply(call->op)) {
+    if (call->later_part && !call->is_known) {
+        expert_add_info(pinfo, shown->item, &ei_newer);
+    } else if (call->op != OP_CONNECT && !message_knows_reply(call->op)) {
         expert_add_info_format(pinfo, shown->item, &ei_newer, "%s is not of the profile: its reply is not read",
                                op_text(pinfo, call->op));
     }
@@ -194,10 +200,10 @@ static void show_pair(const struct shown *shown) {
     if (frame->session && !shown_field(shown, ZK_NAME_SESSION_ID)) {
         generated(proto_tree_add_uint64(shown->tree, hf_field[FIELD_SESSION], shown->tvb, 0, 0, frame->session));
     }
-    if (call && frame->kind == ZK_REQUEST && call->answered) {
+    if (is_asking(frame) && call->answered) {
         generated(proto_tree_add_uint(shown->tree, hf_response_in, shown->tvb, 0, 0, call->answered));
     }
-    if (call && frame->kind == ZK_REPLY) {
+    if (is_answer(frame)) {
         show_request(shown, call);
     }
     if (frame->disordered) {
@@ -218,7 +224,7 @@ static void tell(const struct shown *shown) {
     told->err = shown->message.read.err;
     told->event = event ? (gint32)event->number : 0;
     told->is_known = told->kind == ZK_EVENT ? event != NULL : has_head(shown);
-    told->call = told->kind == ZK_REPLY ? shown->frame->call : NULL;
+    told->call = is_answer(shown->frame) ? shown->frame->call : NULL;
     tap_queue_packet(tap_zookeeper, shown->pinfo, told);
 }
 
@@ -313,7 +319,7 @@ static void show_more(const struct shown *shown) {
     const struct frame *frame = shown->frame;
     gint32 err = shown->message.read.err;
     proto_item_append_text(shown->item, ", %s", val_to_str_const(frame->kind, kind_names, "no message"));
-    if (frame->call) {
+    if (frame->call && frame->call->op != OP_CONNECT) {
         proto_item_append_text(shown->item, ", %s", op_text(shown->pinfo, shown->op));
     }
     show_info(shown, path_of(shown));

@@ -21,7 +21,7 @@ static void times_init(struct register_srt *srt _U_, GArray *tables) {
     /* The sixth word would be a filter of the row's number, which is no field. */
     srt_stat_table *table = init_srt_table("ZooKeeper", NULL, tables, op_rows() + 1, "Operation", NULL, NULL);
     for (int row = 0; row < op_rows(); row++) {
-        init_srt_table_row(table, row, op_names[row].strptr);
+        init_srt_table_row(table, row, row == op_row(OP_CONNECT) ? "connect" : op_names[row].strptr);
     }
     init_srt_table_row(table, op_rows(), "others");
 }

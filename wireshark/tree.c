@@ -224,7 +224,11 @@ void tree_fields(tvbuff_t *tvb, packet_info *pinfo, proto_tree *tree, guint32 ki
             append_to_part(&in, tvb, pinfo, field, at);
         }
         proto_tree *place = place_of(&in, tvb, in.part.tree ? in.part.tree : tree, field, at);
-        proto_item *item = add_field(place, tvb, field, name_in(&in, kind, field), at);
+        enum name name = name_in(&in, kind, field);
+        proto_item *item = add_field(place, tvb, field, name, at);
+        if (item) {
+            show_value(item, tvb, pinfo, name, field, at);
+        }
         if (field->kind == ZK_KIND_LIST) {
             in.list = (struct branch){proto_item_add_subtree(item, ett_list), item};
             in.listed = field->name;

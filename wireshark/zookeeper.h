@@ -29,7 +29,7 @@ typedef gboolean wmem_flag;
 
 /* ---- Connections (connection.c) */
 
-/* A request, and what is known of its reply. */
+/* A request, or the connect request, and what is known of its reply. */
 struct call {
     gint32 xid, op;
     guint32 asked, answered; /* packets; 0: none */
@@ -39,6 +39,7 @@ struct call {
     guint32 count;           /* of parts */
     gint32 *parts;
     gboolean is_known;       /* all of it was read */
+    gboolean later_part;     /* of a multi: a part is an operation that the profile lacks */
     gboolean passed;         /* a later one was answered before it */
     struct call *same;       /* the next that waits with this xid */
     struct call *before, *behind;
@@ -120,6 +121,7 @@ struct connection {
     guint64 session;
     struct judge judge;
     guint32 refused;         /* in this packet; 0: nowhere */
+    struct call *connect;    /* the connect request, or that which its response answers */
     wmem_map_t *waiting;     /* by xid, a queue */
     struct calls calls, passed; /* that wait, with xids of their own: those that weren't passed, and those that were */
     wmem_map_t *early;       /* by xid, a reply that was captured before its request */
@@ -138,6 +140,11 @@ struct piece {
     guint32 there, size;     /* the bytes that were captured, and all */
     gboolean may_wait;       /* for more after them */
 };
+
+/* Whether the SYN of a side was captured; and how many of the bytes of a side whose SYN has this number are before
+ * another number of TCP's. */
+gboolean has_begun(const struct tcp_analysis *tcp, guint32 side);
+guint32 bytes_before(guint32 number, guint32 syn);
 
 /* What these bytes begin with: on the first pass found out, later looked up; NULL: it isn't known. */
 const struct kept *kept_of(struct connection *connection, packet_info *pinfo, const struct piece *piece);
@@ -177,15 +184,28 @@ struct call *call_new(struct connection *connection, packet_info *pinfo, struct 
                       guint32 length);
 void call_answer(struct connection *connection, packet_info *pinfo, struct frame *frame);
 
-/* ---- Fields (tree.c, register.c) */
+/* Takes one of the connect messages, which are a pair. */
+void call_connect(struct connection *connection, packet_info *pinfo, struct frame *frame);
+
+/* Whether a frame is a request, or the connect request; and whether it is the reply to one that is known. */
+static inline gboolean is_asking(const struct frame *frame) {
+    return frame->call && (frame->kind == ZK_REQUEST || frame->kind == ZK_CONNECT);
+}
+
+static inline gboolean is_answer(const struct frame *frame) {
+    return frame->call && (frame->kind == ZK_REPLY || frame->kind == ZK_CONNECTED) && frame->call->asked;
+}
+
+/* ---- Fields (tree.c, values.c, register.c) */
 
 enum { MOST_FIELDS = 4096 };
 
 /* The filterable fields of messages. */
 enum name {
     FIELD_XID, FIELD_OP, FIELD_ZXID, FIELD_ERR,
-    FIELD_PATH, FIELD_DATA, FIELD_VERSION, FIELD_FLAGS, FIELD_WATCH,
-    FIELD_ACL, FIELD_PERMS, FIELD_SCHEME, FIELD_ID, FIELD_AUTH_TYPE, FIELD_AUTH,
+    FIELD_PATH, FIELD_DATA, FIELD_DATA_TEXT, FIELD_VERSION, FIELD_FLAGS, FIELD_EPHEMERAL, FIELD_SEQUENTIAL, FIELD_WATCH,
+    FIELD_ACL, FIELD_PERMS, FIELD_PERM_READ, FIELD_PERM_WRITE, FIELD_PERM_CREATE, FIELD_PERM_DELETE, FIELD_PERM_ADMIN,
+    FIELD_SCHEME, FIELD_ID, FIELD_AUTH_TYPE, FIELD_AUTH,
     FIELD_CHILDREN, FIELD_CHILD,
     FIELD_RELATIVE_ZXID, FIELD_DATA_WATCHES, FIELD_EXIST_WATCHES, FIELD_CHILD_WATCHES, FIELD_WATCHED,
     FIELD_EVENT_KIND, FIELD_EVENT_STATE,
@@ -202,7 +222,7 @@ extern int hf_field[FIELD_NAMES];
 extern int hf_length, hf_side, hf_kind, hf_frame, hf_unread, hf_no_frame, hf_words;
 extern int hf_response_in, hf_response_to, hf_response_time, hf_expected_xid;
 extern int hf_verdict, hf_reason, hf_place, hf_line;
-extern gint ett_message, ett_list, ett_stat, ett_part, ett_acl;
+extern gint ett_message, ett_list, ett_stat, ett_part, ett_acl, ett_bits;
 extern expert_field ei_refused, ei_unread, ei_newer, ei_order, ei_unasked, ei_error, ei_no_frame, ei_again, ei_cut,
     ei_many;
 
@@ -217,6 +237,10 @@ void tree_head(tvbuff_t *tvb, proto_tree *tree, guint32 kind, guint32 length);
 /* Adds these fields of a payload. */
 void tree_fields(tvbuff_t *tvb, packet_info *pinfo, proto_tree *tree, guint32 kind, const struct zk_field *fields,
                  size_t count);
+
+/* Shows what the value of this field means, of which this is the item. */
+void show_value(proto_item *item, tvbuff_t *tvb, packet_info *pinfo, enum name name, const struct zk_field *field,
+                int at);
 
 /* Adds the header by which a multi, or its results, end. */
 void tree_last_header(tvbuff_t *tvb, proto_tree *tree, guint32 place);

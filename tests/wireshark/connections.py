@@ -45,7 +45,7 @@ class Connections:
             objects = objects_of(path, profile)
             found = self.plugin.frames_of(path, profile)[:len(objects)]
             packets = {each["n"]: shown["packet"] for each, shown in zip(objects, found)}
-            replies = [each for each in objects if each["side"] == "S" and "xid" in each]
+            replies = [each for each in objects if "of" in each]
             asked = {each["n"]: packets[each["of"]] for each in replies}
             answered = {each["of"]: packets[each["n"]] for each in replies}
             wrong = []

@@ -22,21 +22,20 @@ import sys
 import tempfile
 import textwrap
 
-from .connections import WHOLE, Connections, listings, objects_of
-from . import installed_plugin
-from .installed_plugin import SOURCES, TOP, capture_of, joined, mutated, pieces_of, wire, zkr
+from tools.zkdump_tools import resync
+from . import expectations, installed_plugin, marked_bytes
 from .. import unknown_operations
 from ..stored_listings import listings_of
+from .connections import WHOLE, Connections, listings, objects_of
+from .installed_plugin import SOURCES, TOP, capture_of, joined, mutated, pieces_of, wire, zkr
+from .shown_messages import Shown
 from .unusual_captures import Odd
-from . import marked_bytes
-from tools.zkdump_tools import resync
-from . import expectations
 
 PACKAGES = ("tshark", "wireshark-dev", "gcc", "pkg-config", "cmake")
 MUTANTS_A_RUN = 250
 
 
-class Tests(Connections, Odd):
+class Tests(Connections, Odd, Shown):
     """Each test_ gives pairs: whether it is as it should be, and what to print otherwise."""
 
     def __init__(self, plugin, folder, words):
@@ -258,9 +257,10 @@ class Tests(Connections, Odd):
         path = TOP / "captures" / "kazoo_basic.zkr"
         asked = collections.Counter(line.split()[2] for line in path.with_suffix(".show").read_text().splitlines()
                                     if re.match(r"C -?\d", line))
+        answered = {**asked, "connect": 1}
         times = self.plugin.read(capture_of(pieces_of(path)), "-q", "-z", "zookeeper,srt")
         found = {name: int(calls) for name, calls in re.findall(r"^ +-?\d+ +(\w+) +(\d+) ", times, re.M)}
-        yield found == dict(asked), f"srt: {found}, not {dict(asked)}"
+        yield found == answered, f"srt: {found}, not {answered}"
         counts = self.plugin.read(capture_of(pieces_of(path)), "-q", "-z", "zookeeper,tree")
         found = {name: int(count) for name, count in re.findall(r"^ +(\w+) +(\d+) ", counts, re.M)}
         yield all(found.get(name) == count for name, count in asked.items()), f"tree: {found}"

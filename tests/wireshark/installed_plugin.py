@@ -23,7 +23,9 @@ PROFILES = dict(re.findall(r'\{"([\d.]+)", "([^"]*)", ZK_PROFILE', (SOURCES / "r
 FLAGS = ("-std=gnu11", "-fPIC", "-shared", "-fvisibility=hidden", "-Wall", "-Wextra", "-Werror",
          f"-I{TOP / 'include'}", f"-I{SOURCES}")
 SANITIZED = ("-O1", "-g", "-fsanitize=address,undefined", "-fno-sanitize=alignment")
-BOOLEANS = ("zookeeper.watch", "zookeeper.read_only", "zookeeper.part.done")
+BOOLEANS = ("zookeeper.watch", "zookeeper.read_only", "zookeeper.part.done", "zookeeper.flags.ephemeral",
+            "zookeeper.flags.sequential", *(f"zookeeper.acl.perms.{each}" for each in
+                                            ("read", "write", "create", "delete", "admin")))
 # What no run may say.
 BAD = ("AddressSanitizer", "runtime error", "Dissector bug", "Fatal", "ASSERT")
 

@@ -20,6 +20,8 @@ OTHERWISE = {"perms": "acl.perms", "id": "acl.id", "type": "auth.type", "state":
              "last_zxid_seen": "last_zxid", "time_out": "timeout", "session_id": "session", "err": "part.err"}
 HEADS = {"request": (("xid", 4), ("op", 4)), "reply": (("xid", 4), ("zxid", 8), ("err", 4)),
          "event": (("xid", 4), ("zxid", 8), ("err", 4))}
+# What is shown below a number: its bits.
+BITS = {"flags": ("ephemeral", "sequential"), "acl.perms": ("read", "write", "create", "delete", "admin")}
 PART = (("part.op", 0, 4), ("part.done", 4, 1), ("part.header_err", 5, 4))
 MORE = (("request 34", fields.MULTI + "00", f"TRAILING {len(bytes.fromhex(fields.MULTI))}", ""),)
 BODIES = {1: b"\0\0\0\x02/a" + b"\xff" * 8 + bytes(4), 2: b"\0\0\0\x02/a" + bytes(4),
@@ -59,6 +61,16 @@ def plugins(field, before, kind):
     return OTHERWISE.get(name, name), place, length
 
 
+def meaning(name, place, length, payload):
+    """A field, and what is below it: bits, or the text that data is."""
+    content, found = payload[place:place + length], [(name, place, length)]
+    if name == "data" and length and all(32 <= byte < 127 or byte in b"\t\r\n" for byte in content):
+        return [*found, ("data.text", place, length)]
+    if name == "flags" and not 0 <= int.from_bytes(content, "big", signed=True) <= 3:
+        return found
+    return found + [(f"{name}.{each}", place + 3, 1) for each in BITS.get(name, ())]
+
+
 def wanted(call, payload, place, trails, whole):
     """What is marked of a payload: names, places and lengths."""
     kind, operation = (call.split() + ["0"])[:2]
@@ -75,6 +87,8 @@ def wanted(call, payload, place, trails, whole):
         name, sort, end = WORDS[field[3]], NUMBERS[field[4]], field[0] + field[1]
         if sort == "part":
             found += [(name, field[0] + at, size) for name, at, size in PART]
+        elif sort != "list" and not field[5]:
+            found += meaning(*plugins(field, before, kind), payload)
         else:
             found.append(plugins(field, before, kind))
         if sort == "list":
