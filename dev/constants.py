@@ -73,6 +73,19 @@ def header_functions(_):
     return found[:-1]
 
 
+def columns_names(_):
+    """The names of zkcolumns: those that lines have."""
+    found = ["/* Names that lines have, which are fewer than those of zk.h; written by dev/names.py. */", "#ifndef NAMES_H",
+             "#define NAMES_H", "", '#include "zk.h"']
+    for kind in KINDS[:3]:
+        newer_numbers = sorted(newer.names()[kind.name].keys() - source.names()[kind.name].keys())
+        words = [f"case {number}:" for number in newer_numbers]
+        lacks = ["    switch (number) {", *wrapped(words, 118), '        return "";', "    }"] if words else []
+        found += ["", f"/* Of {kind.of}. */", f"static inline const char *line_{kind.name}_name({kind.in_c} number) {{",
+                  *lacks, f"    return zk_{kind.name}_name(number);", "}"]
+    return [*found, "", "#endif"]
+
+
 def python_names(_):
     found = ['"""Names and constants of numbers (include/zk.h), and profiles, written by dev/names.py."""', "", "import enum",
              "from typing import Dict"]

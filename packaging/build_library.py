@@ -57,12 +57,18 @@ def built():
     own, every, others = below("zk_c")
     if not all(path.is_dir() for path in every.values()):
         subprocess.run(["rt", "lib"], cwd=CRATE, check=True, stdout=subprocess.DEVNULL)
-    command = list(words(own, every, others))
-    with tempfile.TemporaryDirectory() as kept:  # the second build proves nothing again
-        for path, level in LEVELS.items():
-            path.parent.mkdir(parents=True, exist_ok=True)
-            subprocess.run([*command, *level, "--incremental", kept, "-o", path], cwd=CRATE, check=True,
-                           stdout=subprocess.DEVNULL)
+        build(list(words(own, every, others)), CRATE / "out" / "incremental")
+        return
+    with tempfile.TemporaryDirectory() as kept:
+        build(list(words(own, every, others)), kept)
+
+
+def build(command, kept):
+    """Builds both libraries over one folder of kept work: the second build proves nothing again."""
+    for path, level in LEVELS.items():
+        path.parent.mkdir(parents=True, exist_ok=True)
+        subprocess.run([*command, *level, "--incremental", kept, "-o", path], cwd=CRATE, check=True,
+                       stdout=subprocess.DEVNULL)
 
 
 if __name__ == "__main__":

@@ -19,7 +19,7 @@ FILES = (*lists.PARTS, *lists.WHOLE, "dev/__init__.py", "dev/names.py", "dev/lis
          "crates/talk_tests/src/tests/earliest/bodies.rt", "wireshark/tree.c", "wireshark/message.h",
          "tools/zkdump_tools/forms.py",
          "bench/make_recording.py")
-ALL_PASSED = (0, ["33 passed, 0 failed"])
+ALL_PASSED = (0, ["34 passed, 0 failed"])
 # A file, what is replaced in it and by what, and what is then said: `{line}` is the line of the change.
 WRITTEN = (
     ("include/zk.h", '    case 8: return "getChildren";\n', "", 'lacks case 8: return "getChildren"'),

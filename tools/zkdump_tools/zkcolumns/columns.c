@@ -49,11 +49,11 @@ static void put_name(struct bytes *out, const char *before, int32_t number, cons
 static void write_names(struct state *state) {
     struct bytes *out = &state->text;
     put_text(out, "{\"operations\":{\"1000\":\"connect\",\"1001\":\"event\"");
-    for (int32_t number = -200; number <= 200; number++) put_name(out, ",", number, zk_operation_name(number));
+    for (int32_t number = -200; number <= 200; number++) put_name(out, ",", number, line_operation_name(number));
     put_text(out, "},\"errors\":{\"\":\"\"");
-    for (int32_t number = -200; number <= 200; number++) put_name(out, ",", number, zk_error_name(number));
+    for (int32_t number = -200; number <= 200; number++) put_name(out, ",", number, line_error_name(number));
     put_text(out, "},\"events\":{\"\":\"\"");
-    for (int32_t number = -200; number <= 200; number++) put_name(out, ",", number, zk_event_name(number));
+    for (int32_t number = -200; number <= 200; number++) put_name(out, ",", number, line_event_name(number));
     put_text(out, "}}");
     write_block(state, BLOCK_NAMES);
 }

@@ -251,7 +251,7 @@ static void put_field(struct walk *walk) {
     const uint8_t *content = message->payload + field->place;
     struct bytes *out = walk->out;
     if (field->name == ZK_NAME_TYPE && message->view.kind == ZK_EVENT) {
-        put_code(out, "kind", field->number, zk_event_name(field->number));
+        put_code(out, "kind", field->number, line_event_name(field->number));
         return;
     }
     put_text(out, key_of(field->name));
@@ -285,11 +285,11 @@ static void put_parts(struct walk *walk) {
         int32_t length = -1;
         const uint8_t *path = left > 0 ? next_path(&paths, &length) : NULL;
         put_text(walk->out, first ? "{\"op\": \"" : ", {\"op\": \"");
-        put_text(walk->out, part->number == -1 ? "fail" : zk_operation_name((int32_t)part->number));
+        put_text(walk->out, part->number == -1 ? "fail" : line_operation_name((int32_t)part->number));
         put_text(walk->out, "\"");
         if (part->number == -1) {
             int64_t err = message->fields[walk->next++].number;
-            put_code(walk->out, "err", err, zk_error_name((int32_t)err));
+            put_code(walk->out, "err", err, line_error_name((int32_t)err));
             if (left > 0) {
                 put_text(walk->out, ", \"asked\": ");
                 put_string(walk->out, walk->patches, path, length, PATCH_WHOLE_TEXT);
@@ -305,7 +305,7 @@ static void put_parts(struct walk *walk) {
 /* The name of an operation, of a connect message or of an event. */
 static const char *name_of(const struct zk_message *view) {
     if (view->kind == ZK_EVENT) return "event";
-    return view->kind == ZK_CONNECT || view->kind == ZK_CONNECTED ? "connect" : zk_operation_name(view->operation);
+    return view->kind == ZK_CONNECT || view->kind == ZK_CONNECTED ? "connect" : line_operation_name(view->operation);
 }
 
 /* How long a reply took, the number of its request, and the path of that. */
@@ -343,7 +343,7 @@ void put_json(struct bytes *out, struct bytes *patches, const char *head, const 
         put_text(out, ", \"zxid\": ");
         put_hexadecimal(out, view->zxid);
     }
-    if (view->kind == ZK_REPLY && view->err != 0) put_code(out, "err", view->err, zk_error_name(view->err));
+    if (view->kind == ZK_REPLY && view->err != 0) put_code(out, "err", view->err, line_error_name(view->err));
     else if (ordinary && view->operation == MULTI) put_parts(&walk);
     bool has_ro = message->count > 0 && message->fields[message->count - 1].name == ZK_NAME_READ_ONLY;
     while (walk.next < message->count) put_field(&walk);
