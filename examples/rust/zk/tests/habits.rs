@@ -85,7 +85,7 @@ fn lines_are_str() {
     let line = looked.line_str(Side::Client, &mut text).expect("a line");
     assert_eq!(
         line,
-        "C connect version=0 zxid=0 timeout=1 session=0 passwd=~"
+        "C connect version=0 zxid=0 timeout=1 session=0 passwd=~ ro=-"
     );
     let ending = looked.ending_line_str(&mut text).expect("a line");
     assert_eq!(ending, ". whole unanswered=1");
