@@ -28,8 +28,9 @@ import sys
 import tempfile
 from typing import NamedTuple, Optional
 
-from . import costs_inputs, measure_library
 from packaging.build_library import kit
+from tests import left_out
+from . import costs_inputs, measure_library
 
 TOP = pathlib.Path(__file__).resolve().parent.parent
 KEPT = TOP / "bench" / "costs.txt"
@@ -313,7 +314,8 @@ def main():
     if words.install:
         subprocess.run(["apt-get", "install", "-y", "--no-install-recommends", *PACKAGES], check=True)
     if not shutil.which("valgrind"):
-        print("left out: the instructions of the programs, as valgrind is not here\n0 passed, 0 failed")
+        left_out.say("the instructions of small inputs", "valgrind is not here", len(rows))
+        print("0 passed, 0 failed")
         return 0
     kept, used, sums = Kept(KEPT), tools(), digest()
     if words.update and words.words and kept.tools != used:

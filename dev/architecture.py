@@ -1,13 +1,13 @@
-"""Lists the crates in docs/ARCHITECTURE.md, and the files of each in crates/README.md.
+"""Draws the layers of the crates in docs/ARCHITECTURE.md, and says there what each crate has.
 
     python3 -m dev.architecture [--check]
 
 A crate or a file is described by its own text: the first paragraph of the `//!` comment of lib.rt or main.rt, and of
 the other src/*.rt, or the comment that a file of specs/ begins with. What a crate uses is in crates.txt. The lines are
-written between two marks of each page. With --check nothing is written, and it fails where a page isn't current,
+written between two marks of the page. With --check nothing is written, and it fails where the page isn't current,
 where a file has no such comment, or where crates.txt lacks a crate.
 
-The status is 0 if the pages are current or were written, 1 if something is wrong, 2 for invalid arguments.
+The status is 0 if the page is current or was written, 1 if something is wrong, 2 for invalid arguments.
 """
 
 import pathlib
@@ -48,21 +48,23 @@ def files(crate):
     return [*sources, *sorted(path for path in folder.glob("specs/**/*.antt") if path.stem != "Lib")]
 
 
+def layers():
+    """The crates in rows, as a block of text: each uses crates of the rows below it alone, and one of the next."""
+    height = {}
+    for crate, used in crates():
+        height[crate] = 1 + max((height[name] for name in used if name in height), default=0)
+    rows = [[crate for crate in height if height[crate] == row] for row in range(max(height.values()), 0, -1)]
+    return "\n".join(f"    {'  '.join(row)}" for row in rows)
+
+
 def crate_table():
-    rows = [f"| `{crate}` | {head(root(crate))} | {', '.join(f'`{name}`' for name in used) or 'nothing'} |"
-            for crate, used in crates()]
+    """What each crate has, and what it uses."""
+    rows = [f"| [{crate}](../{root(crate).relative_to(TOP)}) | {head(root(crate))} "
+            f"| {', '.join(f'`{name}`' for name in used) or 'nothing'} |" for crate, used in crates()]
     return "\n".join(["| Crate | What it has | Uses |", "|---|---|---|", *rows])
 
 
-def file_tables():
-    parts = []
-    for crate, _ in crates():
-        rows = [f"| `{path.relative_to(TOP / 'crates' / crate)}` | {head(path)} |" for path in files(crate)]
-        parts.append("\n".join([f"### {crate}\n", "| File | What it has |", "|---|---|", *rows]) if rows else "")
-    return "\n\n".join(filter(None, parts))
-
-
-PAGES = ((TOP / "docs" / "ARCHITECTURE.md", crate_table), (TOP / "crates" / "README.md", file_tables))
+PAGE = TOP / "docs" / "ARCHITECTURE.md"
 
 
 def main():
@@ -73,15 +75,14 @@ def main():
     wrong = [f"{path.relative_to(TOP)} doesn't say what it has" for path in every if not head(path)]
     wrong += [f"crates/{name} is not in crates.txt" for name in sorted(
         {path.parent.name for path in TOP.glob("crates/*/src")} - {crate for crate, _ in crates()})]
-    for path, written in PAGES:
-        page = path.read_text()
-        before, _, rest = page.partition(BEGIN)
-        current = f"{before}{BEGIN}\n\n{written()}\n\n{END}{rest.partition(END)[2]}"
-        if "--check" not in sys.argv:
-            path.write_text(current)
-        elif page != current:
-            wrong.append(f"{path.relative_to(TOP)} isn't current: run dev/architecture.py")
-    print("\n".join([*wrong, f"{0 if wrong else len(PAGES)} passed, {len(wrong)} failed"]))
+    page = PAGE.read_text()
+    before, _, rest = page.partition(BEGIN)
+    current = f"{before}{BEGIN}\n\n{layers()}\n\n{crate_table()}\n\n{END}{rest.partition(END)[2]}"
+    if "--check" not in sys.argv:
+        PAGE.write_text(current)
+    elif page != current:
+        wrong.append(f"{PAGE.relative_to(TOP)} isn't current: run python3 -m dev.architecture")
+    print("\n".join([*wrong, f"{0 if wrong else len(every)} passed, {len(wrong)} failed"]))
     return 1 if wrong else 0
 
 

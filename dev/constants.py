@@ -75,8 +75,8 @@ def header_functions(_):
 
 def columns_names(_):
     """The names of zkcolumns: those that lines have."""
-    found = ["/* Names that lines have, which are fewer than those of zk.h; written by dev/names.py. */", "#ifndef NAMES_H",
-             "#define NAMES_H", "", '#include "zk.h"']
+    found = ["/* Names that lines have, which are fewer than those of zk.h; written by dev/names.py. */", "#ifndef IN_LINES_H",
+             "#define IN_LINES_H", "", '#include "zk.h"']
     for kind in KINDS[:3]:
         newer_numbers = sorted(newer.names()[kind.name].keys() - source.names()[kind.name].keys())
         words = [f"case {number}:" for number in newer_numbers]

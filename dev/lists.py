@@ -220,7 +220,7 @@ def json_keys(_):
 
 # By file, what writes all of it, or each of its marked parts.
 WHOLE = {"examples/python/libzk/_names.py": constants.python_names, "examples/rust/zk/src/names.rs": constants.rust_names,
-         "examples/go/names.go": constants.go_names, "tools/zkdump_tools/zkcolumns/names.h": constants.columns_names}
+         "examples/go/names.go": constants.go_names, "tools/zkdump_tools/zkcolumns/in_lines.h": constants.columns_names}
 PARTS = {"include/zk.h": (header_profiles, header_enum, constants.header_constants, constants.header_functions),
          "tools/zkdump_tools/operations.py": (operation_rows,),
          "wireshark/names.c": (plugin_names, newer_ranges), "wireshark/hole.c": (hole_shapes,),

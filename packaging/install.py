@@ -16,7 +16,7 @@ import sys
 import tempfile
 from typing import NamedTuple, Union
 
-from . import make_columns, make_library, make_manual
+from . import make_columns, make_completion, make_library, make_manual, pages, tool_words
 from .build_library import LIBRARY, PLAIN, TOP
 
 PROGRAM = TOP / "crates" / "zkdump" / "out" / "zkdump"
@@ -70,11 +70,16 @@ def layout(libdir="lib"):
     files.update((f"{libdir}/{name}", Made(name)) for name in libraries)
     files.update((f"{libdir}/{folder}/{name}", Made(name)) for name, folder in TEMPLATES.items())
     files.update((f"share/man/man{page[-1]}/{page}", Made(page)) for page in make_manual.PAGES)
+    completions = "share/bash-completion/completions"
+    files[f"{completions}/{make_completion.NAME}"] = Made(make_completion.NAME)
     for name, script in commands():
         files[f"bin/{name}"] = Link(f"../{OWN}/tools/{script.name}")
-        files[f"share/man/man1/{name}.1"] = Link("zkdump.1")
-    files.update((f"{OWN}/{name}", TOP / name) for name in ("README.md", "CHANGELOG.md", "SECURITY.md", "LICENSE"))
-    for folder, pattern in (("docs", "*.md"), ("tools", "*"), ("examples", "*"), ("wireshark", "*")):
+        files[f"share/man/man1/{name}.1"] = Made(f"{name}.1")
+        files[f"{completions}/{name}"] = Link(make_completion.NAME)
+    files[f"{OWN}/{pages.RUN}"] = TOP / "crates" / "zkdump" / "stdin"
+    files.update((f"{OWN}/{name}", TOP / name)
+                 for name in ("README.md", "CHANGELOG.md", "SECURITY.md", "LICENSE", "VERSION"))
+    for folder, pattern in (("docs", "*.md"), ("tools", "*"), ("examples", "*"), ("wireshark", "*"), ("captures", "*")):
         files.update((f"{OWN}/{path.relative_to(TOP)}", path) for path in folder_files(folder, pattern))
     return dict(sorted(files.items()))
 
@@ -105,7 +110,9 @@ def make(folder, libdir, gate):
     if make_manual.missing():
         yield f"the manual pages, since {make_manual.missing()[0]} is missing"
     else:
-        make_manual.make(folder, VERSION, commands())
+        make_manual.make(folder, VERSION, [*commands()])
+    tools = [tool_words.tool_of(*each) for each in commands()]
+    (folder / make_completion.NAME).write_text(make_completion.text(tools))
     (folder / "BUILD").write_text(f"zkdump {VERSION}\ntoolchain: {toolchain()}\n{gate}")
 
 
@@ -130,9 +137,19 @@ def install(top, libdir="lib", gate=""):
             to.unlink(missing_ok=True)
             if isinstance(what, Link):
                 to.symlink_to(what.to)
+                continue
+            if where.startswith(f"{OWN}/") and where.endswith(".md"):
+                to.write_text(page(where, source, files))
             else:
                 shutil.copyfile(source, to)
-                to.chmod(0o755 if os.access(source, os.X_OK) else 0o644)
+            to.chmod(0o755 if os.access(source, os.X_OK) else 0o644)
+
+
+def page(where, source, files):
+    """The text of a page as it is installed at this place."""
+    there = [name[len(OWN) + 1:] for name in files if name.startswith(f"{OWN}/")]
+    called = {script.stem: name for name, script in commands()}
+    return pages.installed(source.read_text(), where[len(OWN) + 1:], there, called)
 
 
 def remove(top, libdir="lib"):

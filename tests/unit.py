@@ -1,11 +1,15 @@
 """Runs the tests in a folder's files test_*.py, and counts them.
 
-A test that can't run here is reported with its reason. The last line is `N passed, M failed`; the status is 1 if one
-failed or none was found, and 2 if no name has a word.
+What can't run here is reported with its reason, as left_out.py says it. The last line is `N passed, M failed`; the
+status is 1 if one failed or none was found, and 2 if no name has a word.
 """
 
+import collections
+import re
 import sys
 import unittest
+
+from . import left_out
 
 
 class Result(unittest.TextTestResult):
@@ -37,6 +41,22 @@ class Result(unittest.TextTestResult):
         super().addSubTest(test, subtest, err)
 
 
+def names_of(tests):
+    """The names of all tests of a suite, which forgets them as they run."""
+    return [name for each in tests for name in (names_of(each) if isinstance(each, unittest.TestSuite) else [each.id()])]
+
+
+def skipped(result, names):
+    """How many tests were skipped, by their module and the reason. A class that is skipped as a whole is one entry."""
+    found = collections.Counter()
+    for test, reason in result.skipped:
+        whole = re.fullmatch(r"setUpClass \((.*)\)", test.id())
+        count = sum(name.startswith(f"{whole[1]}.") for name in names) if whole else 1
+        module = (whole[1] if whole else test.id().rpartition(".")[0]).rpartition(".")[0]
+        found[module, reason] += count
+    return found
+
+
 def main(folder, package):
     """Runs the tests of a folder of this package whose files have one of the words that the command has."""
     words, names = sys.argv[1:] or [""], [path.stem for path in sorted(folder.glob("test_*.py"))]
@@ -46,8 +66,9 @@ def main(folder, package):
             return 2
     files = [name for name in names if any(word in name for word in words)]
     tests = unittest.TestSuite(unittest.defaultTestLoader.loadTestsFromName(f"{package}.{name}") for name in files)
+    every = names_of(tests)
     result = unittest.TextTestRunner(stream=sys.stdout, resultclass=Result, verbosity=2).run(tests)
-    for test, reason in result.skipped:
-        print(f"not run: {test.id()}: {reason}")
+    for (name, reason), checks in skipped(result, every).items():
+        left_out.say(name, reason, checks)
     print(f"{result.passed} passed, {len(result.failed)} failed")
     return 1 if result.failed or not result.testsRun else 0

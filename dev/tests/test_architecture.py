@@ -23,11 +23,12 @@ class Crates(ToolCase):
             (self.folder / name).mkdir()
         for name in ("__init__.py", "architecture.py"):
             shutil.copy(TOP / "dev" / name, self.folder / "dev")
-        for page in ("docs/ARCHITECTURE.md", "crates/README.md"):
-            (self.folder / page).write_text(MARKS)
+        page = self.folder / "docs" / "ARCHITECTURE.md"
+        page.write_text(MARKS)
         (self.folder / "crates.txt").write_text("low:\nleft: low\n")
         self.run_script()
         self.assertEqual(self.run_script("--check"), (0, "2 passed, 0 failed\n", ""))
+        self.assertIn("\n\n    left\n    low\n\n", page.read_text())
         (self.folder / "crates.txt").write_text("low:\n")
         self.run_script()
         self.assertEqual(self.run_script("--check"),

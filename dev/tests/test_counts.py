@@ -23,10 +23,17 @@ class Some(unittest.TestCase):
     def test_better_than_expected(self):
         pass
 
+class Broken(unittest.TestCase):
+    @classmethod
+    def setUpClass(cls):
+        raise OSError("it fails")
+    def test_one(self):
+        pass
+
 class Never(unittest.TestCase):
     @classmethod
     def setUpClass(cls):
-        raise OSError("nothing is here")
+        raise unittest.SkipTest("nothing is here")
     def test_one(self):
         pass
     def test_other(self):
@@ -37,13 +44,14 @@ class Never(unittest.TestCase):
 class Counts(ToolCase):
     def test_counts(self):
         (self.folder / "tests" / "tools").mkdir(parents=True)
-        for name in ("tests/__init__.py", "tests/unit.py", "tests/tools/__main__.py"):
+        for name in ("tests/__init__.py", "tests/left_out.py", "tests/unit.py", "tests/tools/__main__.py"):
             shutil.copy(TOP / name, self.folder / name)
         (self.folder / "tests" / "tools" / "test_some.py").write_text(TESTS)
         done = subprocess.run([sys.executable, "-m", "tests.tools"], cwd=self.folder, capture_output=True, text=True,
                               check=False)
-        self.assertEqual((done.returncode, done.stdout.splitlines()[-2:]),
-                         (1, ["not run: tests.tools.test_some.Some.test_left_out: it is not here", "1 passed, 3 failed"]))
+        self.assertEqual((done.returncode, done.stdout.splitlines()[-3:]),
+                         (1, ["left out: 2 checks of tests.tools.test_some, since nothing is here",
+                              "left out: 1 check of tests.tools.test_some, since it is not here", "1 passed, 3 failed"]))
 
     def test_words_that_nothing_has(self):
         program = ("--program", "/bin/true")

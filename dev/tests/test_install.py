@@ -252,3 +252,10 @@ class Release(ToolCase):
         status, said = self.made(lambda *_: [])
         self.assertEqual((status, said.count("\n")), (1, 1), said)
         self.assertRegex(said, "^release: .*File exists: '.*/dist'$")
+
+    def test_what_it_says_of_its_gate(self):
+        """The toolchain and what was left out, however much that is, and not what came before."""
+        said = [*(f"left out: 1 check of part {number}, since a tool is not here" for number in range(99)),
+                "== python3 -m dev.gate 0123 (after 9 s)", "commit: 0123"]
+        log = "\n".join(["== rt ci", "9 passed, 0 failed", "== toolchain: kit 1", "== left out: 99 checks", *said, ""])
+        self.assertEqual(self.release.end_of(log), ["== toolchain: kit 1", "== left out: 99 checks", *said])

@@ -35,7 +35,7 @@ class Pages(ToolCase):
         hints = "#[inline(always)]\n    #[inline(always)]\n// #[inline]\n#[inline]\n"
         for name, text in (("crates/low/src/lib.rt", hints), ("crates/high/src/tests/more.rt", "#[inline(never)]\n"),
                            ("crates/low/must-fail/some.edit", "file: a\nold: b\nnew: c\n"),
-                           ("docs/PERF.md", "There are 2; at the start there were 0.\n"),
+                           ("docs/PERF.md", "the 2 must-fail edits\n"),
                            ("bench/HINTS.md", "It has 4 lines with a hint: 3 with `#[inline(always)]`, 1 with "
                                               "`#[inline(never)]`.\n")):
             (self.folder / name).parent.mkdir(parents=True, exist_ok=True)
@@ -44,7 +44,7 @@ class Pages(ToolCase):
             self.assertEqual([*words.counted()], [
                 "bench/HINTS.md: 3 with `#[inline(always)]`, and the crates have 2",
                 r"bench/HINTS.md: nothing is (\d+) with `#\[inline\]`, and the crates have 1",
-                "docs/PERF.md: There are 2; at the start there were, and the crates have 1"])
+                "docs/PERF.md: the 2 must-fail edits, and the crates have 1"])
 
 
 class Scripts(ToolCase):

@@ -20,6 +20,7 @@ import threading
 
 from examples import talk
 from . import example_proxy, example_server, small_server
+from .. import left_out
 from ..stored_listings import listings_of
 from .example_proxy import came, pieces, undelayed
 
@@ -55,7 +56,7 @@ def compiled(folder, archive, cc):
         words = [cc, "-O2", "-g", *STRICT, f"-I{TOP / 'include'}", "-o", os.path.join(folder, name), source, archive]
         if subprocess.run([*words, *flags], stderr=subprocess.DEVNULL).returncode != 0:
             flags = ["-pthread"]
-            print(f"skipped: {source.name} is not looked at by the address sanitizer")
+            left_out.say(f"{source.name} by the address sanitizer", "the compiler has none here", 1)
             subprocess.run([*words, *flags], check=True)
     return {name: os.path.join(folder, name) for name in PROGRAMS}
 
@@ -320,7 +321,7 @@ def listers(folder, programs, archive, shared):
     yield "listing.c", programs["listing"]
     yield "talk.py", sys.executable, EXAMPLES / "talk.py", str(shared)
     if not shutil.which("rustc"):
-        print("skipped: there is no rustc for examples/listing.rs")
+        left_out.say("examples/listing.rs", "rustc is not here")
         return
     listing = os.path.join(folder, "listing_rs")
     subprocess.run(["rustc", "-O", "--edition", "2024", "-o", listing, EXAMPLES / "listing.rs",
@@ -343,7 +344,7 @@ STAYS = (
 def measure_memory(folder, archive, cc):
     """Whether no more memory stays after the last close than the table says."""
     if platform.libc_ver()[0] != "glibc":
-        print("skipped: what stays of closed talks is known of glibc alone")
+        left_out.say("the memory that stays of closed talks", "this is not glibc", len(STAYS))
         return
     program = os.path.join(folder, "memory")
     words = [cc, "-O2", *STRICT, f"-I{TOP / 'include'}", "-o", program, HERE / "memory.c", archive]

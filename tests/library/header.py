@@ -27,6 +27,7 @@ from dev import newer, source
 from examples import talk
 from packaging import freeze, make_library
 from packaging.build_library import CRATE, built
+from .. import left_out
 from . import examples, fields, messages, packages, passages, reused_handles, verdicts, written_frames
 
 TOP = pathlib.Path(__file__).resolve().parents[2]
@@ -45,6 +46,7 @@ INSIDE = {"TalkBox", "PassageBox", "VoiceBox"}
 OWN = {"struct zk_builder", "struct zk_entry", "struct zk_block"}  # of the header's functions, and of no call
 NAMED = {"uint32_t", "int32_t", "int64_t"}  # parameters of these types have the crate's names
 FIELDS = TOP / "crates" / "zk_fields" / "src"
+LINKED = "what is linked with libzk"        # in CHECKS of left_out.py
 
 
 def c_words(name, word):
@@ -165,7 +167,7 @@ def check(folder, options):
     lacking = make_library.missing()
     cc = examples.compiler()
     if lacking or not cc:
-        print(f"skipped: the library is not linked, as {', '.join(lacking) or 'a compiler of C'} is missing")
+        left_out.say(LINKED, left_out.lacking(lacking or ["a compiler for C"]))
         return
     yield from frozen()
     archive, shared = make_library.make(folder, options.library)
@@ -187,7 +189,8 @@ def main():
         built()
     results = list(compare_header())
     with tempfile.TemporaryDirectory() as folder:
-        results += check(pathlib.Path(folder), options)
+        linked = list(check(pathlib.Path(folder), options))
+    results += [*linked, left_out.compared(LINKED, len(linked))] if linked else []
     failures = [told for _, good, told in results if not good]
     print("\n".join(failures[:50]), end="\n" if failures else "")
     print(f"{len(results) - len(failures)} passed, {len(failures)} failed")

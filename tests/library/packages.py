@@ -12,6 +12,8 @@ import shutil
 import subprocess
 import sys
 
+from .. import left_out
+
 TOP = pathlib.Path(__file__).resolve().parents[2]
 HEADER, EXAMPLES = TOP / "include" / "zk.h", TOP / "examples"
 PYTHON, RUST, GO = (EXAMPLES / name for name in ("python", "rust", "go"))
@@ -48,7 +50,7 @@ def check_python(folder, shared):
     """The wheel is made and installed in a folder, and the tests run over it."""
     python = next(pythons("pip", "setuptools", "wheel"), None)
     if python is None:
-        print("skipped: no Python here has pip, setuptools and wheel for examples/python")
+        left_out.say("examples/python", "no Python here has pip, setuptools and wheel", 6)
         return
     source, into = folder / "python", folder / "site"
     shutil.copytree(PYTHON, source)
@@ -66,14 +68,14 @@ def check_python(folder, shared):
     tested = {"folder": folder, "PYTHONPATH": str(into), "LIBZK": str(shared)}
     with_kazoo = next(pythons("kazoo"), None)
     if with_kazoo is None:
-        print("skipped: kazoo is not installed, whose serializers examples/python/tests judges")
+        left_out.say("examples/python/tests over the serializers of kazoo", "kazoo is not here", 2)
     for each in sorted({python, with_kazoo or python}):
         words = (each, "-m", "unittest", "discover", PYTHON / "tests")
         result, said = run(f"tests of examples/python by {each}", *words, **tested)
         yield result
         yield "some", "Ran 0 tests" not in said, "examples/python has no tests"
     if not shutil.which("mypy"):
-        print("skipped: there is no mypy for the types of examples/python")
+        left_out.say("the types of examples/python", "mypy is not here", 1)
         return
     result, _ = run("types of examples/python", "mypy", "--strict", "--cache-dir", folder / "mypy", source / "libzk",
                     folder=folder)
@@ -92,7 +94,7 @@ def described(folder, archive):
 def check_rust(folder, archive):
     """Both crates are built, and the tests and the examples of their documentation run."""
     if not shutil.which("cargo"):
-        print("skipped: there is no cargo for examples/rust")
+        left_out.say("examples/rust", "cargo is not here", 6)
         return
     made = {"CARGO_TARGET_DIR": str(folder / "target"), "LIBZK_DIR": str(archive.parent), "CARGO_NET_OFFLINE": "true",
             "RUSTFLAGS": "-D warnings"}
@@ -104,7 +106,7 @@ def check_rust(folder, archive):
         result, _ = run("clippy of examples/rust", "cargo", "clippy", *words, "--all-targets", folder=RUST, **made)
         yield result
     else:
-        print("skipped: there is no clippy for examples/rust")
+        left_out.say("examples/rust by clippy", "clippy is not here", 1)
     if shutil.which("pkg-config"):
         del made["LIBZK_DIR"]
         result, _ = run("examples/rust by pkg-config", "cargo", "test", *words, "--tests", folder=RUST, **made,
@@ -123,7 +125,7 @@ def check_rust(folder, archive):
 def check_go(folder, archive):
     """The package is built and vetted, and its tests run."""
     if not shutil.which("go"):
-        print("skipped: there is no go for examples/go")
+        left_out.say("examples/go", "go is not here", 4)
         return
     made = {"GOFLAGS": "-mod=mod", "GOPROXY": "off", "GOCACHE": str(folder / "cache"), "GODEBUG": "cgocheck=1",
             "LD_LIBRARY_PATH": str(archive.parent)}

@@ -7,7 +7,8 @@ a trait or type as `Type` (call, ..). Each such word must be the name of a claus
 crates/*/src, or of a call of that type; and what a table's last column names under one of the heads CARRYING a function
 or type. What any code of a page spells as `Type::call` or `crate::call` must be a function there, a variant, or spelled
 so by a source in Rattle or Rust, and a name of small letters with an underscore a word of some source, or a file's.
-Without arguments it reads the pages of words.py.
+What MUST_FAIL.md spells as `crate/edit` must be a must-fail edit there. Without arguments it reads the pages of
+words.py.
 
 It prints what is wrong and one last line. The status is 0 if nothing is, and something was there to be checked.
 """
@@ -18,7 +19,9 @@ import re
 import sys
 
 from dev import words
-from dev.calls import BOUNDS, CLAUSE, TAIL, TOP, balanced, blocks, generics
+from dev.contracts import BOUNDS, CLAUSE, TAIL, balanced, blocks, generics
+
+TOP = words.TOP
 
 FUNCTION = re.compile(r"\bfn (\w+)")
 WORDS = r"[a-z]\w*(?:, [a-z]\w*)*"
@@ -115,6 +118,12 @@ def spelled(page):
     return {"::".join(name.split("::")[-2:]) for name in SPELLED.findall(prose) if not name.startswith("_")}
 
 
+def edits(path, page):
+    """What the page of edits names that is none."""
+    return [f"there is no edit {crate}/{edit}" for crate, edit in re.findall(r"`(zk\w*)/(\w+)`", page)
+            if path.name == "MUST_FAIL.md" and not (TOP / "crates" / crate / "must-fail" / f"{edit}.edit").exists()]
+
+
 def main():
     pages = [pathlib.Path(word) for word in sys.argv[1:]] or words.pages()
     clauses, members = known()
@@ -124,6 +133,7 @@ def main():
         names = spelled(page)
         right += len(names & there)
         wrong += (f"{where}: no source has {name}" for name in sorted(names - there))
+        wrong += (f"{where}: {told}" for told in edits(path, page))
         for name in carried(page):
             if name in clauses or name in members:
                 right += 1

@@ -26,9 +26,11 @@ import subprocess
 import sys
 import tempfile
 
+from .. import left_out
 from .harness import BUILT, TOP, Program
 
 CASES = TOP / "crates" / "zkdump" / "cases"
+PART = "standard input and output that fail"
 READ_FAILED, WRITE_FAILED = b"zkdump: read failed\n", b"zkdump: write failed\n"
 TRIES = 8  # prefixes of a case that are tried
 ERRORS = (errno.EIO, errno.EINTR)
@@ -120,7 +122,8 @@ def main():
     with tempfile.TemporaryDirectory() as folder:
         library = compiled(folder)
         if library is None:
-            print("skipped: there is no C compiler for tests/program/device.c\n0 passed, 0 failed")
+            left_out.say(PART, "a compiler for C is not here")
+            print("0 passed, 0 failed")
             return 0
         devices = Devices(options.program, library)
         for args in cases:
@@ -131,6 +134,9 @@ def main():
             if status != 2:
                 for look in (devices.steps, devices.reads, devices.writes):
                     look(name, words, data, ample)
+    name, good, told = left_out.compared(PART, devices.passed + len(devices.failures))
+    if not options.only:
+        devices.hold(name, told, good)
     print("\n".join(devices.failures[:30]), end="\n" if devices.failures else "")
     print(f"{devices.passed} passed, {len(devices.failures)} failed")
     return 1 if devices.failures else 0

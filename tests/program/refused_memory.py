@@ -34,11 +34,12 @@ import sys
 import tempfile
 import time
 
+from bench import costs_inputs
+from .. import left_out
 from .harness import BUILT, HEAD, TOP, Program
 
-from bench import costs_inputs
-
 CASES = TOP / "crates" / "zkdump" / "cases"
+PART = "memory that is refused"
 TESTS = TOP / "crates" / "talk_tests" / "out" / "talk_tests_tests"
 CALLS = "tests::growth::asked_again"
 KINDS = ("show", "check", "build", "migrate", "calls", "few")
@@ -172,7 +173,7 @@ def growths(library, grow, programs):
     """A line, or none, for each of what memory could grow by unrefused: an import of a program; and a function of the
     library that doesn't refuse its call, or gives no memory."""
     if not shutil.which("nm"):
-        print("skipped: by what the programs grow: nm is missing")
+        left_out.say("what the programs grow by", "nm is not here", len(programs) + 1 + len(GROWING))
         return
     refused = symbols(library, "defined") & GROWING
     for path in programs:
@@ -203,7 +204,8 @@ def main():
     with tempfile.TemporaryDirectory() as folder, concurrent.futures.ProcessPoolExecutor(options.jobs) as pool:
         made = compiled(folder)
         if made is None:
-            print("skipped: there is no C compiler for tests/program/refuse.c\n0 passed, 0 failed")
+            left_out.say(PART, "a compiler for C is not here")
+            print("0 passed, 0 failed")
             return 0
         library, grow = made
         found = list(growths(library, grow, [path for path, _ in programs]))
@@ -214,6 +216,9 @@ def main():
         counted = [(options.program, library, *one) for one in LINES if options.only in (None, "few")]
         for good, bad in pool.map(few, counted):
             passed, failures = passed + good, failures + bad
+    if options.only is None:
+        _, good, told = left_out.compared(PART, passed + len(failures))
+        passed, failures = passed + good, failures + ([] if good else [told])
     print("\n".join(failures[:50]), end="\n" if failures else "")
     print(f"{passed + len(failures)} runs in {time.monotonic() - begin:.0f} s")
     print(f"{passed} passed, {len(failures)} failed")

@@ -24,6 +24,7 @@ import tempfile
 
 from dev import gate, source
 from packaging import debian, distribution, install, make_library
+from .. import left_out
 
 TOP = pathlib.Path(__file__).resolve().parents[2]
 
@@ -36,6 +37,8 @@ KEPT = {"nothing"}
 # Instructions of x86-64-v2, as a compiler uses them.
 LATER = re.compile(r"\t(pshufb|palignr|ptest|popcnt|pmul[hl][dr]\w*|pmin[su][bdw]|pmax[su][bdw]|pblend\w+|p(?:insr|extr)[bdq]|"
                    r"pmov[sz]x\w+|pabs[bdw]|phadd\w+|round[sp][sd]|crc32\w*|pcmpgtq|pcmpeqq|packusdw)\b")
+# How many checks these have.
+PACKAGES, LIBRARIES = 6, 19
 # A program that takes each kind of answer, in C and in C++.
 USES = """#include <zk.h>
 int main(void) {
@@ -85,11 +88,11 @@ def run(*words, **options):
         return subprocess.CompletedProcess(words, None, b"", b"it did not end")
 
 
-def skip(what, *tools):
+def skip(what, *tools, checks=1):
     """Whether a tool is missing; if one is, that is reported."""
     lacking = [tool for tool in tools if not shutil.which(tool)]
     if lacking:
-        print(f"skipped: {what}: {', '.join(lacking)} is missing")
+        left_out.say(f"a release: {what}", left_out.lacking(lacking), checks)
     return bool(lacking)
 
 
@@ -163,7 +166,7 @@ def commands(top):
            f"commands that tools/README.md lacks, or that are not installed: {sorted(found ^ named)}")
     page = top / "share" / "man" / "man1" / "zkdump.1"
     if page.exists():
-        said = re.findall(r"^\\fB(\w+)\\fR\n\.RS 4\n(.*\.)(?:\\&)?$", page.read_text(), re.M)
+        said = re.findall(r"^\\fB(\w+)\\fR\(1\)\n\.RS 4\n(.*\.)(?:\\&)?$", page.read_text(), re.M)
         yield "manual", named <= {name for name, _ in said}, f"zkdump(1) has whole sentences of {said} alone"
     none = top / "none"
     none.mkdir()
@@ -251,13 +254,13 @@ def libraries(top, work):
     yield ends_well("cc with libzk.a", "cc", *STRICT, f"-I{top / 'include'}", "-o", work / "listing", example, archive)
     yield lists("listing.c over libzk.a", work / "listing", RECORDING)
     yield from levels(top, work)
-    if not skip("zk.pc", "pkg-config"):
+    if not skip("zk.pc", "pkg-config", checks=2):
         found = run("pkg-config", "--cflags", "--libs", "zk",
                     env={**os.environ, "PKG_CONFIG_PATH": str(top / "lib/pkgconfig")})
         words = found.stdout.decode().split()
         yield ends_well("cc with zk.pc", "cc", *STRICT, "-o", work / "listing", example, *words)
         yield lists(f"listing.c over {shared.name}", work / "listing", RECORDING, **loaded)
-    if not skip("the CMake files", "cmake"):
+    if not skip("the CMake files", "cmake", checks=4):
         (work / "CMakeLists.txt").write_text(CMAKE.replace("@VERSION@", install.VERSION))
         yield ends_well("cmake", "cmake", "-S", work, "-B", work / "made", f"-DCMAKE_PREFIX_PATH={top}")
         yield ends_well("cmake --build", "cmake", "--build", work / "made")
@@ -272,10 +275,10 @@ def files(top):
 
 def packages(dist, root):
     """The Debian packages: installed below a folder, used, and removed."""
-    if skip("the Debian packages", "dpkg", "dpkg-deb"):
+    if skip("the Debian packages", "dpkg", "dpkg-deb", checks=PACKAGES):
         return
     if os.geteuid() != 0:
-        print("skipped: the Debian packages are not installed: that needs root")
+        left_out.say("a release: the Debian packages", "only root may install them", PACKAGES)
         return
     state = root / "var" / "lib" / "dpkg"
     for folder in ("info", "updates"):
@@ -296,7 +299,7 @@ def packages(dist, root):
 
 def installed(work):
     """What `make install` puts below a folder, and `make uninstall` takes away."""
-    if skip("make install", "make"):
+    if skip("make install", "make", checks=8):
         return
     place, words = work / "place", (f"DESTDIR={work / 'place'}", "PREFIX=/opt/zk")
     yield ends_well("make install", "make", "-C", TOP, "install", *words)
@@ -322,7 +325,8 @@ def main():
         for made in (work, dist, again):
             made.mkdir()
         for line in distribution.make(dist):
-            print(f"skipped: {line}")
+            what, _, why = line.partition(", since ")
+            left_out.say(f"a release: {what}", why, 1)
         os.umask(0o077)
         list(distribution.make(again))
         os.umask(0o022)
@@ -334,7 +338,7 @@ def main():
         top = work / distribution.NAME
         results.append(lists("the archive's program", top / "bin" / "zkdump", "show"))
         results += commands(top)
-        if not skip("the libraries", *make_library.TOOLS):
+        if not skip("the libraries", *make_library.TOOLS, checks=LIBRARIES):
             results += [*header(top, work), *libraries(top, work)]
             found = run(top / "lib" / "zkdump" / "zkcolumns", "--json", "{", RECORDING)
             good = found.returncode == 0 and found.stdout.endswith(LISTING.splitlines()[-1])

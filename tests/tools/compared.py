@@ -8,6 +8,7 @@ be read by ZKCOLUMNS itself: what it leaves to the lines is no comparison. It pr
 different`.
 """
 
+import collections
 import io
 import itertools
 import os
@@ -25,8 +26,11 @@ CHOICES = ((), ("--path", "/"), ("--path", "/a", "--path", "/kazoo"),
            ("--op", "event", "--op", "multi", "--op", "create"), ("--slower", "0.5"),
            ("--from", "1763843467121", "--to", "1763843467190"),
            ("--session", "0x100003780a60004"),
-           ("--op", "connect", "--path", "/", "--slower", "0"))
+           ("--op", "connect", "--path", "/", "--slower", "0"), ("--profile", "3.4"))
 FEW = CHOICES[:2]
+OLDER = ("--profile", "3.4")
+OF_NEWER = ((), OLDER, (*OLDER, "--path", "/a"), (*OLDER, "--op", "21", "--op", "whoAmI"), (*OLDER, "--slower", "30"),
+            (*OLDER, "--limit", "64"))
 LONG = 70_000
 SMALL, E_ACUTE, BLANK = "612020", "c3a9", "e2808b"     # U+200B can't be printed
 TEXTS = ('~', '""', '"/a"', '"/\\c3\\a9"', '"/\\22\\5c"', '"/\\0a\\7f"', '"/\\e2\\80\\8b\\c3\\a9"', f'"/{"x" * LONG}"',
@@ -116,6 +120,41 @@ def long_latencies(folder, data):
     return made
 
 
+def newer_recordings(folder, chance):
+    """Recordings of requests that profiles lack among others, with their replies: in their turn, seldom out of it, with
+    other xids, errors and bodies, and with frames that are refused."""
+    numbers = (3, 3, 14, 15, 19, 21, 101, 105, 107, 4242, -77, 2**31 - 1)
+    body = b"\0\0\0\2/a"
+    bodies = {3: body + b"\0", 101: bytes(20), 14: struct.pack(">iBi", 13, 0, -1) + body + bytes(4)
+              + struct.pack(">iBi", -1, 1, -1)}
+    for number in range(24):
+        head, made, waiting, at = random_head(chance), bytearray(), collections.defaultdict(list), 0
+        frames = [(b"C", bytes(24) + b"\0\0\0\x10" + bytes(17)), (b"S", bytes(20) + b"\0")]
+        for xid in range(1, 60):
+            if chance.random() < 0.55:
+                kind = chance.choice(numbers)
+                own = chance.choice((xid, xid, xid, xid, -8 if kind in (101, 105) else xid, -2, 1))
+                if chance.random() > 0.03 and (own == -2 or kind == 11):
+                    own, kind = -2, 11
+                asked = bodies.get(kind, b"" if kind == 11 else body)
+                waiting[own if own in (-2, -8) else None].append((own, kind))
+                frames.append((b"C", struct.pack(">ii", own, kind) + asked + b"!" * (chance.random() < 0.004)))
+            elif lanes := [lane for lane in waiting.values() if lane]:
+                own, kind = chance.choice(lanes).pop(0 if chance.random() > 0.01 else -1)
+                err = chance.choice((-101, -110, -121, -4242)) if kind not in (11, 101) else 0
+                frames.append((b"S", struct.pack(">iqi", own, xid, err)))
+        for side, payload in frames:
+            at += chance.choice((0, 1, 7, 30))
+            whole, cut = struct.pack(">i", len(payload)) + payload, chance.choice((1, 5, 20, 999))
+            for begin in range(0, len(whole), cut):
+                made += head.piece(side, 1763843467120 + at, whole[begin:begin + cut])
+        if chance.random() < 0.3:
+            del made[chance.randrange(len(made)):]
+        path = folder / f"newer{number}.zkr"
+        path.write_bytes(head.to_bytes() + made)
+        yield path
+
+
 def lossy_recordings(folder, paths):
     """Recordings with their facts and times, of captures of these, from which packets are missing."""
     chance = random.Random(3)
@@ -147,7 +186,7 @@ def random_head(chance):
 
 
 def recordings(zkdump, folder, paths):
-    """The recordings that are compared, each with whether it was changed by chance."""
+    """The recordings that are compared, each with whether it was changed by chance, or is None for newer ones."""
     made = folder / "values.zkr"
     made.write_bytes(subprocess.run([zkdump, "build"], input="\n".join(values()).encode(), stdout=subprocess.PIPE,
                                     check=True).stdout)
@@ -157,6 +196,7 @@ def recordings(zkdump, folder, paths):
     long = long_latencies(folder, made.read_bytes())
     yield from ((path, False) for path in (*paths, made, late, long, *lossy))
     chance = random.Random(17)
+    yield from ((path, None) for path in newer_recordings(folder, chance))
     for number, path in enumerate(chance.choices([path for path in paths if path.stat().st_size < 100_000], k=40)):
         path, (data, times) = folder / f"{number}.zkr", cut(path.read_bytes(), chance)
         path.write_bytes(data)
@@ -204,7 +244,8 @@ def main():
     paths = [pathlib.Path(path) for path in paths]
     for path, is_changed in recordings(zkdump, pathlib.Path(folder), paths):
         is_small = path.stat().st_size < 20_000 and path in paths
-        found = compare(zkcolumns, path, CHOICES if is_small or path.name == "values.zkr" else FEW, is_changed)
+        choices = OF_NEWER if is_changed is None else CHOICES if is_small or path.name == "values.zkr" else FEW
+        found = compare(zkcolumns, path, choices, is_changed)
         runs, different = runs + found[0], different + found[1]
     print(f"{runs} runs, {different} different")
 

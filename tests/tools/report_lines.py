@@ -49,7 +49,7 @@ class Lines:
 
 
 def first(path):
-    """A connection that breaks with a request unanswered, 5 s before the second one."""
+    """A connection that ends with a request unanswered, 5 s before the second one."""
     lines = Lines()
     lines.connect(0, 2)
     lines.ask(10, "exists", 1, path="/a", watch=True)
@@ -60,7 +60,7 @@ def first(path):
     lines.ask(60, "getData", 3, path="/a", watch=True)
     lines.answer(61, 3, zxid="0x6", blob="hello", stat={"czxid": "0x6", "version": 0})
     lines.ask(70, "setData", 4, path="/b/\x1b[2J", blob={"hex": "00ff"}, version=-1)
-    return lines.write(path, ending="cut", side="S", frame=4, got=3, waiting=[10])
+    return lines.write(path, ending="whole", unanswered=1, waiting=[10])
 
 
 def second(path):

@@ -45,7 +45,8 @@ class BadInput(ToolCase):
 
     def test_folders(self):
         for tool in READERS:
-            self.assert_ends(f"TOOLS/{tool} {self.folder}", 3, f"{tool}: {self.folder}: Is a directory\n")
+            self.assert_ends(f"TOOLS/{tool} {self.folder}", 1,
+                             f"{tool}: {self.folder} has no recordings: NAME.zkr in it or in folders below\n")
             self.assert_ends(f"TOOLS/{tool} --recording {self.folder} {LISTING}", 3,
                              f"{tool}: {self.folder}: Is a directory\n")
             self.assert_ends(f"TOOLS/{tool} --recording {RECORDING} --times {self.folder} {LISTING}", 3,

@@ -129,7 +129,7 @@ class Joined(ToolCase):
             with self.subTest(made=made):
                 status, out, err = self.run_tool("zkstat.py", stdin=json.dumps(made).encode())
                 self.assertEqual((status, err), (1, "zkstat.py: line 1: this is not an ending of zkjson\n")
-                                 if shown is None else (int(made["ending"] == "unread"), ""))
+                                 if shown is None else (1, ""))
                 self.assertTrue(shown is None or f"  {shown}\n" in out, out)
 
     def test_a_recording_that_could_not_be_read(self):

@@ -64,3 +64,28 @@ class Extensions(PcapCase):
         for place in (b"\0\1", b"\0\x08", b"\x80\0"):
             status, told, _ = self.convert(self.segments((44, b"\0" + place + b"abcd")))
             self.assertEqual((status, told), (1, []))
+
+
+class Interfaces(PcapCase):
+    """A pcapng with an interface of a link type that isn't read."""
+
+    def block(self, kind, body):
+        body += bytes(-len(body) % 4)
+        return struct.pack("<II", kind, 12 + len(body)) + body + struct.pack("<I", 12 + len(body))
+
+    def test_what_is_not_read_is_passed_over_and_named_once(self):
+        """Its packets count, as in Wireshark, and the connection is whole."""
+        packets = packed(wire.conversation([ASK, REPLY]))
+        other = self.block(1, struct.pack("<HHI", 249, 0, 0)) + 2 * self.block(6, struct.pack(
+            "<IIIII", 2, 0, 0, 9, 9) + b"\0\1\2\3\4\5\6\7\x08")
+        status, told, made = self.convert(wire.pcapng(packets[:5]) + other + wire.pcapng(packets[5:]))
+        self.assertEqual((status, sides(made[0])), (1, (b"ask", LONG)))
+        self.assertRegex(told[0], rf" packets=1-{len(packets) + 2} resent=0 closed=C$")
+        self.assertEqual(self.complaint, "pcap2zkr.py: packets of link type 249, as those of interface 2, can't be read "
+                         "and are passed over: capture at another interface, such as any or eth0\n")
+
+    def test_one_without_packets_is_no_matter(self):
+        packets = packed(wire.conversation([ASK, REPLY]))
+        other = self.block(1, struct.pack("<HHI", 249, 0, 0))
+        status, told, _ = self.convert(wire.pcapng(packets[:5]) + other + wire.pcapng(packets[5:]))
+        self.assertEqual((status, len(told), self.complaint), (0, 1, ""))

@@ -275,7 +275,7 @@ class Others(PcapCase):
         """Of captures in their order: where packets were captured out of order, tshark 4.0 itself says that some are
         missing."""
         if not shutil.which("tshark"):
-            self.skipTest("no tshark here")
+            self.skipTest("tshark is not here")
         for path in SMALL[:8]:
             source = path.read_bytes()
             capture = self.folder / "follow.pcap"
@@ -294,7 +294,7 @@ class Others(PcapCase):
             tap = socket.socket(socket.AF_PACKET, socket.SOCK_RAW, socket.htons(3))
             tap.bind(("lo", 0))
         except (OSError, AttributeError) as error:
-            self.skipTest(f"no capture here: {error}")
+            self.skipTest(f"no packets can be captured here: {error}")
         self.addCleanup(tap.close)
         tap.setsockopt(socket.SOL_SOCKET, socket.SO_RCVBUF, 1 << 24)
         tap.settimeout(1)

@@ -11,7 +11,7 @@ import unittest.mock
 from . import wire
 from .captured import SMALL, PcapCase, capture_of, packed
 from .support import TOOLS, pieces, sides, zkr
-from tools.zkdump_tools import pcap2zkr
+from tools.zkdump_tools import facts, pcap2zkr
 
 ASK = zkr.Piece(zkr.CLIENT, None, b"ask")
 REPLY = zkr.Piece(zkr.SERVER, None, b"reply")
@@ -95,17 +95,27 @@ class Ends(PcapCase):
         self.assertEqual((status, [sides(each) for each in made]), (0, [(b"ask", b"reply")]))
         self.assertIn(" client=3 server=5 ", told[0])
 
-    def test_ctrl_c_where_it_waits_for_packets(self):
-        command = [sys.executable, TOOLS / "pcap2zkr.py", "-", self.folder / "r"]
-        with subprocess.Popen(command, stdin=subprocess.PIPE, stdout=subprocess.PIPE, text=False,
-                              preexec_fn=lambda: signal.signal(signal.SIGINT, signal.default_int_handler)) as tool:
-            tool.stdin.write(capture_of(opened()))
-            tool.stdin.flush()
-            while not list(self.folder.glob("r-1.zkr")):
-                time.sleep(0.01)
-            tool.send_signal(signal.SIGINT)
-            self.assertRegex(tool.stdout.read(), rb" client=3 server=5 packets=1-5 resent=0 open\n$")
-        self.assertEqual(tool.returncode, 0)
+    def test_a_signal_where_it_waits_for_packets(self):
+        """A connection that is still open has its line, its recording and its facts. So it is where SIGHUP is ignored,
+        as nohup has it, until the capture ends."""
+        for at, (number, handler) in enumerate(((signal.SIGINT, signal.default_int_handler),
+                                                (signal.SIGTERM, signal.SIG_DFL), (signal.SIGHUP, signal.SIG_DFL),
+                                                (signal.SIGHUP, signal.SIG_IGN))):
+            command = [sys.executable, TOOLS / "pcap2zkr.py", "-", self.folder / f"{at}"]
+            with self.subTest(number=number, handler=handler), subprocess.Popen(
+                    command, stdin=subprocess.PIPE, stdout=subprocess.PIPE, text=False,
+                    preexec_fn=lambda number=number, handler=handler: signal.signal(number, handler)) as tool:
+                tool.stdin.write(capture_of(opened()))
+                tool.stdin.flush()
+                while not list(self.folder.glob(f"{at}-1.zkr")):
+                    time.sleep(0.01)
+                tool.send_signal(number)
+                if handler is signal.SIG_IGN:
+                    tool.stdin.close()
+                self.assertRegex(tool.stdout.read(), rb" client=3 server=5 packets=1-5 resent=0 open\n$")
+                self.assertEqual(tool.wait(), 0)
+                path = self.folder / f"{at}-1.zkr"
+                self.assertEqual((sides(path.read_bytes()), facts.facts_of(path).open), ((b"ask", b"reply"), True))
 
     def test_segments_that_were_captured_again(self):
         sent = opened([ASK, REPLY, ASK])

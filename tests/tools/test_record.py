@@ -297,7 +297,7 @@ class Addresses(RecordCase):
         try:
             server = self.server(host="::1")
         except OSError as error:
-            self.skipTest(f"no IPv6 here: {error}")
+            self.skipTest(f"this machine has no IPv6: {error}")
         client = self.client(self.record(f"[::1]:{server}", listen="[::1]:0"), "::1")
         client.sendall(b"six")
         self.assertEqual(receive(client, 3), b"six")

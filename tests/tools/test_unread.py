@@ -7,9 +7,9 @@ import subprocess
 import sys
 import time
 
+from tools.zkdump_tools import columns, zkr
 from .proxied import SECONDS, STAND_IN, TroubleCase
 from .support import TOOLS
-from tools.zkdump_tools import columns
 
 
 class Output(TroubleCase):
@@ -101,8 +101,7 @@ class Programs(TroubleCase):
         self.tool.terminate()
         self.assertEqual(self.tool.wait(SECONDS), 0)
         self.assertEqual([line.partition(" ")[2] for line in self.watched(4)[1:]],
-                         ["C 0 2", "S 0 2", ". whole show --profile "
-                                                                                    "3.4 --limit 4194304"])
+                         ["C 0 2", "S 0 2", f". whole show --profile {zkr.NEWEST} --limit 16777216"])
 
     def test_a_program_that_does_not_read(self):
         program = self.folder / "sleeper"

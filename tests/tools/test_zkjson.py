@@ -84,10 +84,10 @@ ENDINGS = {
 class Zkjson(ToolCase):
     run_tool = ToolCase.run_inside
 
-    def json_of(self, lines, *words):
+    def json_of(self, lines, *words, wanted=0):
         """The objects that zkjson makes of these lines, without their connection, which is the same for all."""
         status, out, err = self.run_tool("zkjson.py", *words, stdin="".join(f"{line}\n" for line in lines).encode())
-        self.assertEqual((status, err), (0, ""))
+        self.assertEqual((status, err), (wanted, ""))
         found = [json.loads(line) for line in out.splitlines()]
         self.assertEqual(len({made.pop("connection") for made in found}), 1)
         return found
@@ -113,8 +113,10 @@ class Zkjson(ToolCase):
     def test_endings_list_the_waiting_requests(self):
         for line, expected in ENDINGS.items():
             with self.subTest(line=line):
-                found = self.json_of(['C 7 getData path="/a" watch=0', "C -2 ping", line])
-                self.assertEqual(found[2:], [{**expected, "waiting": [1, 2]}])
+                is_whole = line.startswith(". whole")
+                found = self.json_of(['C 7 getData path="/a" watch=0', "C -2 ping", line], wanted=0 if is_whole else 1)
+                left = {"waiting": [1, 2]} if is_whole else {"messages": 2, "waiting": [], "notKnown": [1, 2]}
+                self.assertEqual(found[2:], [{**expected, **left}])
 
     def test_a_ping_overtakes_and_xids_come_twice(self):
         found = self.json_of(['C 7 exists path="/a" watch=1', 'C 7 delete path="/b" version=-1', "C -2 ping",
@@ -210,7 +212,7 @@ class Zkjson(ToolCase):
     def test_every_capture(self):
         listings = [capture.with_suffix(".show") for capture in CAPTURES]
         status, out, err = self.run_tool("zkjson.py", *listings)
-        self.assertEqual((status, err), (0, ""))
+        self.assertEqual((status, err), (1, ""))        # some end with a refusal
         found = {path: [] for path in listings}
         for line in out.splitlines():
             made = json.loads(line)
@@ -221,7 +223,8 @@ class Zkjson(ToolCase):
                 self.assertEqual(len(objects), len(lines))
                 waiting = set(range(1, len(lines))) - {made.get("of") for made in objects}
                 waiting = [n for n in sorted(waiting) if lines[n - 1].startswith("C")]
-                self.assertEqual(objects[-1]["waiting"], waiting)
+                fate = "waiting" if lines[-1].startswith(". whole") else "notKnown"
+                self.assertEqual(objects[-1][fate], waiting)
                 self.assertEqual(objects[-1].get("unanswered", len(waiting)), len(waiting))
 
     def test_the_times_of_every_capture(self):
@@ -229,7 +232,8 @@ class Zkjson(ToolCase):
             with self.subTest(capture=capture.name):
                 words = ["--recording", self.with_times(capture), capture.with_suffix(".show")]
                 status, out, err = self.run_tool("zkjson.py", *words)
-                self.assertEqual((status, err), (0, ""))
+                is_whole = ". whole" in capture.with_suffix(".show").read_text("ascii")
+                self.assertEqual((status, err), (0 if is_whole else 1, ""))
                 *messages, ending = map(json.loads, out.splitlines())
                 self.assertTrue(all("at" in made for made in messages))
                 self.assertIn("ending", ending)
@@ -359,10 +363,10 @@ class Times(ToolCase):
         path = self.recording(zkr.Head("zkr2"), range(8))
         path.write_bytes(path.read_bytes()[:-1])
         lines = self.LISTING.rpartition("S 1")[0]
-        for ending, status in (("recording offset=182 reason=Short", 0), ("whole unanswered=1", 1),
-                               ("recording offset=181 reason=Short", 1), ("cut side=S frame=1 got=19", 1)):
+        for ending, fits in (("recording offset=182 reason=Short", True), ("whole unanswered=1", False),
+                             ("recording offset=181 reason=Short", False), ("cut side=S frame=1 got=19", False)):
             found = self.run_tool("zkjson.py", "--recording", path, stdin=f"{lines}. {ending}\n".encode())
-            self.assertEqual(found[0], status, found)
+            self.assertEqual((found[0], not found[2]), (1, fits), found)
         self.assertEqual(self.run_tool("zkjson.py", "--recording", path, stdin=self.LISTING.encode())[::2],
                          (1, "zkjson.py: the listing has 4 messages, and the recording 3: name the recording that the "
                              "listing is of\n"))

@@ -320,11 +320,12 @@ class Counts(ToolCase):
         for here, there, wanted in ((whole, cut, ("whole", "cut side=S")), (cut, later, None), (whole, none, None),
                                     (refused, whole, ("refused side=S reason=Unasked", "whole"))):
             with self.subTest(here=here, there=there):
-                found = self.report(here, "--against", there, status=1 if wanted else 0)
+                stopped = {here, there} & {cut, later, refused}
+                found = self.report(here, "--against", there, status=1 if wanted or stopped else 0)
                 self.assertIn("\nthe first difference is an ending of connection #1, after 1 exchanges and events that "
                               f"are the same:\n    here: {wanted[0]}\n    there: {wanted[1]}\n" if wanted else
                               "\nno difference: 1 exchanges and events are the same\n", found)
-                self.report("--op", "connect", here, "--against", there)
+                self.report("--op", "connect", here, "--against", there, status=1 if stopped else 0)
 
     def test_watches_that_could_not_be_set(self):
         """A request that failed or has no reply has set none: one that asks for a watch, and setWatches."""

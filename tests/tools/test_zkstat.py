@@ -39,10 +39,11 @@ COUNTED = {
     "events": {"NodeDataChanged": 2, "9": 1},
     "connections": [{"connection": "-", "session": "0x100000000000001", "gap": None, "begun": None, "ended": None,
                      "asked": 9, "answered": 6, "failed": 3, **NO_TIMES, "backwards": 0,
-                     "ending": {"ending": "cut", "side": "S", "frame": 8, "got": 3}}],
-    "unanswered": [{"connection": "-", "n": 16, "xid": 6, "op": "getData", "path": r'"/\c3\a9"'},
-                   {"connection": "-", "n": 17, "xid": -2, "op": "ping"},
-                   {"connection": "-", "n": 18, "xid": 7, "op": "multi"}],
+                     "ending": {"ending": "cut", "side": "S", "frame": 8, "got": 3, "messages": 18}}],
+    "unanswered": [],
+    "notKnown": [{"connection": "-", "n": 16, "xid": 6, "op": "getData", "path": r'"/\c3\a9"'},
+                 {"connection": "-", "n": 17, "xid": -2, "op": "ping"},
+                 {"connection": "-", "n": 18, "xid": 7, "op": "multi"}],
     "slowest": [],
 }
 
@@ -58,13 +59,15 @@ ping           1         0       0       -       -       -       -
        2 events: NodeDataChanged
        1 events: 9
        0 of 6 replies timed
-       3 requests unanswered
-    line 16: 6 getData "/\c3\a9"
-    line 17: -2 ping
-    line 18: 7 multi
+       0 requests unanswered
+       3 requests of which it isn't known whether they were answered: the reading stopped
+    message 16: 6 getData "/\c3\a9"
+    message 17: -2 ping
+    message 18: 7 multi
+       1 of 1 connections not read to the end
 
 connection  session            begun  ended  asked  answered  failed  p50 ms  p95 ms  p99 ms  max ms  ending
--           0x100000000000001  -      -          9         6       3       -       -       -       -  cut side=S frame=8 got=3
+-           0x100000000000001  -      -          9         6       3       -       -       -       -  cut side=S frame=8 got=3 messages=18
 """
 
 # Times of day in milliseconds since 1970, and the frames that came then: of two connections of a session, each a
@@ -85,18 +88,18 @@ LINES = ["C connect version=0 zxid=0 timeout=30000 session=0 passwd=# ro=-",
 class Zkstat(ToolCase):
     run_tool = ToolCase.run_inside
 
-    def stat(self, *words, stdin=b""):
+    def stat(self, *words, stdin=b"", wanted=0):
         status, out, err = self.run_tool("zkstat.py", *words, stdin=stdin)
-        self.assertEqual((status, err), (0, ""))
+        self.assertEqual((status, err), (wanted, ""))
         return out
 
     def test_counts(self):
-        self.assertEqual(json.loads(self.stat("--json", stdin=LISTING.encode())), COUNTED)
-        self.assertEqual(self.stat(stdin=LISTING.encode()), TABLE)
+        self.assertEqual(json.loads(self.stat("--json", stdin=LISTING.encode(), wanted=1)), COUNTED)
+        self.assertEqual(self.stat(stdin=LISTING.encode(), wanted=1), TABLE)
 
     def test_the_lines_of_zkjson(self):
         _, out, _ = self.run_tool("zkjson.py", stdin=LISTING.encode())
-        self.assertEqual(self.stat(stdin=out.encode()), TABLE)
+        self.assertEqual(self.stat(stdin=out.encode(), wanted=1), TABLE)
 
     def test_what_is_no_object_of_zkjson(self):
         ping = {"n": 2, "side": "C", "op": "ping", "xid": -2}
@@ -125,7 +128,7 @@ class Zkstat(ToolCase):
         listing = "".join(f'C {n} getData path="/a" watch=0\n' for n in range(1, 13)).encode()
         found = self.stat(stdin=listing).splitlines()
         self.assertEqual(found[3:15], ["      12 requests unanswered",
-                                       *(f'    line {n}: {n} getData "/a"' for n in range(1, 11)), "    and 2 more"])
+                                       *(f'    message {n}: {n} getData "/a"' for n in range(1, 11)), "    and 2 more"])
         self.assertEqual(found[-1].split()[-3:], ["no", "ending", "line"])
 
     def test_no_character_that_a_terminal_obeys(self):
@@ -172,7 +175,7 @@ class Zkstat(ToolCase):
             "       1 errors: exists NONODE",
             "       3 of 3 replies timed",
             "       1 requests unanswered",
-            '    second.zkr line 3: 1 exists "/a"',
+            '    second.zkr message 3: 1 exists "/a"',
             "",
             wide.format("connection", "session", "begun", "ended") + f"  {counts}  ending",
             wide.format("first.zkr", SESSION, "2026-11-22T07:30:33.000Z", "2026-11-22T07:30:34.001Z")
@@ -181,21 +184,21 @@ class Zkstat(ToolCase):
             wide.format("second.zkr", SESSION, "2026-11-22T07:30:38.000Z", "2026-11-22T07:30:38.010Z")
             + "      2         1       0       2       2       2       2  whole unanswered=1",
             "",
-            "slowest: asked at           ms  connection  line  operation  error   zxid  path",
-            "2026-11-22T07:30:33.000Z   4.5  first.zkr      1  connect    -       -     -",
-            "2026-11-22T07:30:38.000Z     2  second.zkr     1  connect    -       -     -",
-            '2026-11-22T07:30:34.000Z  1.25  first.zkr      3  exists     NONODE  0x5   "/a"',
+            "slowest: asked at           ms  connection  message  operation  error   zxid  path",
+            "2026-11-22T07:30:33.000Z   4.5  first.zkr         1  connect    -       -     -",
+            "2026-11-22T07:30:38.000Z     2  second.zkr        1  connect    -       -     -",
+            '2026-11-22T07:30:34.000Z  1.25  first.zkr         3  exists     NONODE  0x5   "/a"',
         ])
 
     def test_recordings_by_their_names(self):
         self.recordings()
         program = self.folder / "zkdump"
-        program.write_text("#!/bin/sh\ntest \"$*\" = 'show --profile 3.5' || exit 2\n"
+        program.write_text("#!/bin/sh\ntest \"$*\" = 'show --profile 3.5 --limit 1000 --waiting 1048576' || exit 2\n"
                            f"if [ $(wc -c) -gt 100 ]; then cat {self.folder}/first.show; exit 0; fi\n"
                            f"cat {self.folder}/second.show; exit 1\n")
         program.chmod(0o700)
         names = [self.folder / f"{name}.zkr" for name in FRAMES]
-        words = ["--zkdump", program, "--profile", "3.5"]
+        words = ["--zkdump", program, "--profile", "3.5", "--limit", "1000"]
         found = self.stat(*words, *names).replace(f"{self.folder}/", "")
         self.assertEqual(sorted(" ".join(line.split()) for line in found.splitlines()),
                          sorted(" ".join(line.split()) for line in self.stat(stdin=self.joined()).splitlines()))
@@ -237,10 +240,11 @@ class Zkstat(ToolCase):
     def test_the_paths_of_events(self):
         for path, count in (("/a", 2), ("/", 3), ("/ err=-101", 1), ("/ err", 0)):
             for stdin in (LISTING, self.run_tool("zkjson.py", stdin=LISTING.encode())[1]):
-                found = json.loads(self.stat("--json", "--path", path, stdin=stdin.encode()))
+                found = json.loads(self.stat("--json", "--path", path, stdin=stdin.encode(), wanted=1))
                 self.assertEqual(sum(found["events"].values()), count, path)
             _, chosen, _ = self.run_tool("zkjson.py", "--path", path, stdin=LISTING.encode())
-            self.assertEqual(json.loads(self.stat("--json", stdin=chosen.encode()))["events"], found["events"])
+            self.assertEqual(json.loads(self.stat("--json", stdin=chosen.encode(), wanted=1))["events"],
+                             found["events"])
             listing = self.folder / "events.show"
             listing.write_text(LISTING, "ascii")
             report = self.run_tool("zkreport.py", "--text", "--path", path, listing)[1]
@@ -313,7 +317,9 @@ class Zkstat(ToolCase):
 
     def test_every_capture(self):
         listings = [capture.with_suffix(".show") for capture in CAPTURES]
-        found = {each["connection"]: each for each in json.loads(self.stat("--json", *listings))["connections"]}
+        # Some of these end with a refusal.
+        found = self.stat("--json", *listings, wanted=1)
+        found = {each["connection"]: each for each in json.loads(found)["connections"]}
         for path in listings:
             with self.subTest(capture=path.name):
                 lines, each = path.read_text(encoding="ascii").splitlines(), found[str(path)]
@@ -321,6 +327,8 @@ class Zkstat(ToolCase):
                 self.assertEqual(each["answered"], sum(line[0] == "S" and line[:7] != "S event" for line in lines))
                 self.assertEqual(each["ending"].get("unanswered", each["asked"] - each["answered"]),
                                  each["asked"] - each["answered"])
+                is_whole = lines[-1].startswith(". whole")
+                self.assertEqual(each["ending"].get("messages"), None if is_whole else len(lines) - 1)
 
     def test_words(self):
         link = self.folder / "link"

@@ -67,7 +67,7 @@ ENDINGS = (
      ['C 1 exists path="/a" watch=0', f"left out: C frame=2 xid=2 {NAME}, 18 bytes",
       'C 3 exists path="/a" watch=0', ". whole unanswered=3"]),
 )
-WHOLE = ". whole show --profile 3.4 --limit 4194304"       # the last line of STAND_IN
+WHOLE = f". whole show --profile {zkr.NEWEST} --limit 16777216"       # the last line of STAND_IN
 LINE = re.compile(r"\d{4}-\d\d-\d\dT\d\d:\d\d:\d\d\.\d{3}Z (#\d+) (.*)")
 UNREAD = "what follows is passed on, and not read"         # unless the connection is over first
 SECONDS = 20
@@ -246,10 +246,10 @@ class Zkwatch(ToolCase):
             self.assertEqual(welcome + receive(client, 20), server_bytes)
         self.assertEqual([line for _, line in self.lines(watcher)[1:]], LISTING.splitlines())
 
-    def watched(self, said):
+    def watched(self, said, *words):
         """The lines of a connection in which these pieces come."""
         with socket.create_server(("127.0.0.1", 0)) as listener:
-            watcher, address = self.watch(f"127.0.0.1:{listener.getsockname()[1]}", "--once", program=PROGRAM)
+            watcher, address = self.watch(f"127.0.0.1:{listener.getsockname()[1]}", "--once", *words, program=PROGRAM)
             with socket.create_connection(address, SECONDS) as client, listener.accept()[0] as server:
                 for side, data in said:
                     end, other = (client, server) if side == zkr.CLIENT else (server, client)
@@ -313,7 +313,8 @@ class Zkwatch(ToolCase):
                                   f"xid={found[2]} create2, {sizes[found[1], int(found[2])]} bytes", line)
                            for line in listing]
             with self.subTest(path.stem):
-                self.assertEqual(self.watched((piece.side, piece.data) for piece in pieces(path.read_bytes())), listing)
+                said = ((piece.side, piece.data) for piece in pieces(path.read_bytes()))
+                self.assertEqual(self.watched(said, "--profile", "3.4"), listing)
 
     def sizes(self, path):
         """The sizes of the payloads of a recording, by side and number."""

@@ -63,7 +63,8 @@ class Connections:
         found = self.plugin.frames(capture, *words)
         asked = {(each["packet"], xid) for each in found if each["kind"] == ["2"] for xid in each["xid"]}
         refused = [each["line"] or each["xid"] for each in found if each["refused"] or each["malformed"]]
-        wrong = [each["packet"] for each in found if each["response_to"] and
+        # (a connect response has no xid)
+        wrong = [each["packet"] for each in found if each["response_to"] and each["xid"] and
                  (int(each["response_to"][0]), each["xid"][0]) not in asked]
         pairs = sum(1 for each in found if each["response_to"])
         yield not self.plugin.trouble(), f"{name}: {self.plugin.trouble()}"

@@ -24,7 +24,7 @@ import textwrap
 
 from tools.zkdump_tools import resync
 from . import expectations, installed_plugin, marked_bytes
-from .. import unknown_operations
+from .. import left_out, unknown_operations
 from ..stored_listings import listings_of
 from .connections import WHOLE, Connections, listings, objects_of
 from .installed_plugin import SOURCES, TOP, capture_of, joined, mutated, pieces_of, wire, zkr
@@ -33,6 +33,7 @@ from .unusual_captures import Odd
 
 PACKAGES = ("tshark", "wireshark-dev", "gcc", "pkg-config", "cmake")
 MUTANTS_A_RUN = 250
+PLUGIN = "the plugin for Wireshark"         # in CHECKS of left_out.py
 
 
 class Tests(Connections, Odd, Shown):
@@ -50,7 +51,7 @@ class Tests(Connections, Odd, Shown):
         page = (SOURCES / "README.md").read_text()
         for tool, pattern, place in (("cc", r"cc .*|install .*", "wireshark"), ("cmake", r"cmake .*", ".")):
             if lacking := installed_plugin.missing_for_cmake() if tool == "cmake" else []:
-                print(f"left out: the build by CMake, as {', '.join(lacking)} is not here")
+                left_out.say("the plugin as CMake builds it", left_out.lacking(lacking), 1)
                 continue
             top = pathlib.Path(self.folder, f"by_{tool}")
             for folder in (SOURCES, TOP / "include"):
@@ -241,7 +242,7 @@ class Tests(Connections, Odd, Shown):
 
     def test_golden(self):
         if self.plugin.release != "4.0":
-            print(f"left out: the stored files are what Wireshark 4.0 shows, and this is {self.plugin.release}")
+            left_out.say("what Wireshark 4.0 shows", f"this is {self.plugin.release}", len(list(expectations.golden())))
             return
         for name, capture, words in expectations.golden():
             stored = SOURCES / "tests" / "golden" / f"{name}.txt"
@@ -314,7 +315,8 @@ def main():
     if words.install:
         subprocess.run(["apt-get", "install", "-y", "--no-install-recommends", *PACKAGES], check=True)
     if missing := installed_plugin.missing(words.libzk):
-        print(f"left out: the plugin for Wireshark, as {', '.join(missing)} is not here\n0 passed, 0 failed")
+        left_out.say(PLUGIN, left_out.lacking(missing))
+        print("0 passed, 0 failed")
         return 0
     passed, failures = 0, []
     with tempfile.TemporaryDirectory() as folder:
@@ -323,6 +325,9 @@ def main():
             results = list(getattr(tests, name)())
             passed += sum(1 for good, _ in results if good)
             failures += [f"{name}: {told}" for good, told in results if not good]
+    if not words.words:
+        _, good, told = left_out.compared(PLUGIN, passed + len(failures))
+        passed, failures = passed + good, failures + ([] if good else [told])
     print("\n".join(failures[:50]), end="\n" if failures else "")
     print(f"{passed} passed, {len(failures)} failed")
     return 1 if failures else 0

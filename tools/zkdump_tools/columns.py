@@ -12,7 +12,7 @@ import pathlib
 import struct
 import subprocess
 
-from . import facts, forms, listing, program, zkr
+from . import errors, facts, forms, listing, operations, passages, program, zkr
 
 numpy = None        # loaded where something is counted: it takes longer than most listings, and 15 MB
 
@@ -21,9 +21,9 @@ PLACES = (HERE / "zkcolumns" / "out" / "zkcolumns", HERE.parents[3] / "lib" / "z
 HEAD, PATCH = struct.Struct("=IIIIQQQQddqq"), struct.Struct("=QII")
 NAMES, MESSAGES, END = range(3)
 NOT_READ = 4                    # the status of a recording whose trouble the plain form reports
-ERROR, XID, PATH, NULL_PATH, CHOSEN, WATCH, MADE_UP = (1 << bit for bit in range(7))
+ERROR, XID, PATH, NULL_PATH, CHOSEN, WATCH, MADE_UP, BY_NUMBER = (1 << bit for bit in range(8))
 CLIENT = ord("C")
-CONNECT, EVENT = 1000, 1001     # in place of an operation's number
+CONNECT, EVENT = -1 << 31, (-1 << 31) + 1      # in place of an operation's number
 # The fields of a record, as zkcolumns/state.h has them.
 FIELDS = (("n", "u8"), ("of", "u8"), ("moment", "f8"), ("asked_moment", "f8"), ("microseconds", "f8"), ("zxid", "i8"),
           ("text", "u8"), ("text_length", "u4"), ("at_length", "u4"), ("path", "u4"), ("path_length", "u4"),
@@ -34,6 +34,9 @@ Record = collections.namedtuple("Record", [name for name, _ in FIELDS])
 TEXT, WHOLE_TEXT, DATA = 1, 2, 3
 MOST_EXACT = 2 ** 52            # microseconds that counted.py counts in arrays
 MOST_WHOLE = 2 ** 53            # microseconds of which a double has each; longer ones have no fractions (recording.c)
+# The names that the library may lack, for texts; what isn't in its list of names is in these.
+NAMES_OPTIONS = ("--operations", ",".join(f"{each.number}={each.name}" for each in operations.ALL),
+                 "--errors", ",".join(f"{number}={name}" for number, name in errors.NAMES.items()))
 PIPE_SIZE, F_SETPIPE_SZ = 1 << 20, 1031
 WORTH_A_LINE = 1 << 23          # the size of a recording of which a line says what would be faster
 said = False
@@ -133,15 +136,21 @@ PATCHES = {TEXT: lambda found: text_of(listing.spelled(found.decode())).encode()
            DATA: lambda found: forms.data("#" + found.hex()).encode()}
 
 
+class Operations(dict):
+    """The names of operations; one that has none is called by its number."""
+
+    def __missing__(self, number):
+        return passages.name_of(number)
+
+
 class Columns(listing.Listing):
     """The messages of a recording, in blocks; or one by one, as those of a Listing are, where `lines` was asked for."""
 
     def __init__(self, path, words, known, progress, options):
         super().__init__(path, (), None, progress, True, known)
         self.file, self.waiting, self.usual = path, [], (self.connection.known, self.connection.session)
-        limit = ["--limit", str(words.limit)] if getattr(words, "limit", None) else []
-        self.program = subprocess.Popen([found_program(), *limit, *options, path], stdout=subprocess.PIPE,
-                                        stderr=subprocess.PIPE)
+        self.program = subprocess.Popen([found_program(), *passages.Bounds.of(words).options(), *NAMES_OPTIONS,
+                                         *options, path], stdout=subprocess.PIPE, stderr=subprocess.PIPE)
         try:
             import fcntl
             fcntl.fcntl(self.program.stdout, F_SETPIPE_SZ, PIPE_SIZE)
@@ -150,9 +159,10 @@ class Columns(listing.Listing):
         first = self.next_block()
         if first:
             names = json.loads(first[1].text)
-            self.operations, self.errors, self.kinds = (
-                {int(number): name for number, name in names[each].items() if number}
-                for each in ("operations", "errors", "events"))
+            self.operations, self.kinds = (
+                kind((int(number), name) for number, name in names[each].items() if number)
+                for each, kind in (("operations", Operations), ("events", dict)))
+            self.errors = errors.NAMES
 
     def exactly(self, size):
         found = self.program.stdout.read(size)
@@ -195,12 +205,12 @@ class Columns(listing.Listing):
         try:
             while found := self.next_block():
                 kind, block = found
-                n += len(block.records) // RECORD.size
                 if kind == END:
                     self.end(block.text.decode(), n + 1)
                     self.waiting = [self.message(block, record) for record in block.tuples()]
                     self.progress.end()
                     break
+                n += len(block.records) // RECORD.size
                 yield block
                 self.progress.show(f"{n:,} lines")
             if self.status:
@@ -223,6 +233,7 @@ class Columns(listing.Listing):
         made = listing.Message(self.connection, record.n, chr(record.side),
                                str(record.xid) if record.flags & XID else None, self.operations[record.operation],
                                None if record.of else block.path(record), self.error(record))
+        made.decoded = not record.flags & BY_NUMBER
         if record.moment == record.moment:
             made.moment = exact(record.moment, block.text[record.text:record.text + record.at_length] or record.moment)
         if record.microseconds == record.microseconds:
@@ -237,9 +248,8 @@ class Columns(listing.Listing):
 
     def left(self):
         """The requests that still wait, in the order in which they came."""
-        if self.connection.loses_replies():
-            for made in self.waiting:
-                made.captured = False
+        for made in self.waiting:
+            made.fate = self.connection.fate()
         return self.waiting
 
     def __iter__(self):
@@ -255,6 +265,9 @@ class Columns(listing.Listing):
                 made = listing.Message(connection, n, letters[side == CLIENT], xid, name, path,
                                        self.error(Record._make(record)) if flags & ERROR else nothing,
                                        len(name) + (len(xid) + 3 if xid else 2))
+                if flags & BY_NUMBER:
+                    made.decoded = False
+                    made.end += 1       # a question mark is before the operation
                 middle = begin + at_length
                 if moment == moment:
                     made.at = text[begin:middle]

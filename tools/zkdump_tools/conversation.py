@@ -5,42 +5,41 @@ such loss, PREFIX-1.2.zkr and so on, as far as that can be known (stretches.py).
 connect request and connect response, with -1 for every number.
 """
 
-import math
 import struct
 
 from . import contents, facts, frames, resync, zkr
 from .streams import SIDES
-from .stretches import EVENT, Message, Stretch
+from .stretches import EVENT, Message, Part, Stretches
 
 # A connect request and a connect response that no peer sends: every number is -1, and the password is null.
 MADE_UP = {zkr.CLIENT: struct.pack(">iiqiqi", 28, -1, -1, -1, -1, -1),
            zkr.SERVER: struct.pack(">iiiqi", 20, -1, -1, -1, -1)}
-MOST_STRETCHES, LEAST_REQUEST = 256, 12
 
 
 class Conversation:
     """The sink of a connection's stream."""
 
-    __slots__ = ("series", "client", "server", "late", "first", "began", "stream", "cutter", "stretches", "connected",
-                 "sought", "trusted", "unfinished", "holes", "number", "part", "resent", "left_out", "session")
+    __slots__ = ("series", "client", "server", "late", "first", "began", "stream", "cutter", "stretches", "direct",
+                 "connected", "sought", "trusted", "unfinished", "holes", "number", "part", "resent", "left_out",
+                 "session", "reported")
 
     def __init__(self, series, client, server, late, number, milliseconds):
         self.series, self.late, self.first, self.began = series, late, number, milliseconds
         self.client, self.server, self.session = client, server, None
-        self.stream = self.cutter = self.number = self.holes = None
-        self.part, self.resent, self.unfinished, self.left_out = 1, 0, 0, False
-        self.stretches = ()
+        self.stream = self.cutter = self.number = self.holes = self.stretches = self.direct = None
+        self.part, self.resent, self.unfinished, self.left_out, self.reported = 1, 0, 0, False, False
 
     def begin(self):
-        """Begins the first stretch. The client continues with the last one; those before it wait for replies."""
+        """Begins the first stretch. As long as nothing was lost it is `direct`: its bytes are written as they come."""
         self.cutter = zkr.Cutter(self.series.head)
-        self.stretches = [Stretch(self.put, self.first, self.began, not self.late)]
-        self.stretches[0].owed = math.inf if self.late else 0
+        self.stretches = Stretches(self.put, self.report_part, self.series.budget, self.first, self.began, self.late)
         # The sides whose connect message has passed; the sides whose frames were not found yet, with the bytes in which
         # they may be; and those whose frames were certainly found.
         self.connected, self.sought, self.trusted = set(), {}, set(SIDES)
         if self.late:
             self.connected, self.sought, self.trusted = set(SIDES), dict.fromkeys(SIDES, b""), set()
+        else:
+            self.direct = self.stretches.list[0]
 
     def piece(self, side, number, milliseconds, data):
         """Takes the next bytes of a side."""
@@ -50,57 +49,67 @@ class Conversation:
             self.begin()
         if self.holes:
             self.go_on(number, milliseconds)
-        stretch = self.stretches[0]
-        if not (self.sought or self.unfinished or self.cutter.held[side]) and side in self.connected \
-                and stretch is self.stretches[-1] and frames.is_one(data) and len(data) > 8 \
-                and stretch.passes(side, number, milliseconds, data):
-            stretch.recording.take(side, number, milliseconds, data)  # it is just one frame, as nearly always
-            return
-        if not stretch.whole or stretch.holes:
+        if self.direct:
+            self.write(side, number, milliseconds, data)
+        elif not (self.sought or self.unfinished or self.cutter.held[side]) and side in self.connected \
+                and side in self.trusted and len(data) > 8 and frames.is_one(data, self.cutter.limits[side]):
+            self.hear(side, number, milliseconds, data)     # it is just one frame, as nearly always
+        else:
             self.take(side, number, milliseconds, data)
+
+    def write(self, side, number, milliseconds, data):
+        """Takes the next bytes of a side where nothing was lost."""
+        direct, is_usual = self.direct, side in self.connected and not self.cutter.held[side] and frames.is_one(data)
+        if is_usual and len(data) > 8:
+            recording = direct.part.recording
+            direct.note(side, data[4:8], recording.count[side], len(data), number, milliseconds)
+            recording.take(side, number, milliseconds, data)
             return
-        self.record(stretch, side, number, milliseconds, data)
+        self.record(direct.part, side, number, milliseconds, data)
         whole = self.cutter.take(zkr.Piece(side, milliseconds, data))
         sizes = [4 + len(frame.payload) for frame in whole]
-        place = stretch.recording.count[side] - len(self.cutter.held[side]) - sum(sizes)
+        place = direct.part.recording.count[side] - len(self.cutter.held[side]) - sum(sizes)
         for frame, size in zip(whole, sizes):
             if side in self.connected:
-                stretch.note(side, frame.payload[:4], place, size, number, milliseconds)
-            elif side == zkr.SERVER:
-                self.session = contents.session_in(frame.payload)
+                direct.note(side, frame.payload[:4], place, size, number, milliseconds)
+            elif side == zkr.CLIENT:
+                direct.connecting = zkr.SERVER not in self.connected
+            else:
+                self.session, direct.connecting = contents.session_in(frame.payload), False
             self.connected.add(side)
             place += size
         if side in self.cutter.broken:
             self.cutter.held[side].clear()
 
     def take(self, side, number, milliseconds, data):
-        """Takes the next bytes of a side where a stretch lacks some of them."""
+        """Takes the next bytes of a side after a loss."""
         if side in self.sought:
             data = self.found(side, data)
             if not data:
                 return
         found = self.cutter.take(zkr.Piece(side, milliseconds, data))
         for at, frame in enumerate(found):
-            message = Message(side, number, milliseconds, frame.payload)
+            payload = frame.payload
+            whole = len(payload).to_bytes(4, "big") + payload
             if side not in self.connected:
-                self.connected.add(side)
-                if side == zkr.SERVER:
-                    self.session = contents.session_in(frame.payload)
-                self.skip(side, message.size())
+                self.connect(side, number, milliseconds, whole)
             elif side == zkr.SERVER and self.unfinished:
-                self.complete(message)
-            elif side in self.trusted or resync.is_plausible(side, frame.payload, len(frame.payload)):
-                self.hear(message)
+                self.complete(number, milliseconds, whole)
+            elif side in self.trusted or resync.is_plausible(side, payload, len(payload)):
+                self.hear(side, number, milliseconds, whole)
             else:
                 # These are no frames after all.
                 self.skip(side, sum([4 + len(frame.payload) for frame in found[at:]]))
                 self.seek(side)
+                if side == zkr.CLIENT:
+                    self.stretches.lose_requests(0, number, milliseconds)
                 return
         if side in self.cutter.broken:
-            stretch = self.stretches[-1 if side == zkr.CLIENT else 0]
+            stretch = self.stretches.list[-1 if side == zkr.CLIENT else 0]
             if side in self.trusted and stretch.anchored:
                 begun = self.unfinished if side == zkr.SERVER else 0    # which was written before
-                self.record(stretch, side, number, milliseconds, bytes(self.cutter.held[side][begun:]))
+                if data := bytes(self.cutter.held[side][begun:]):
+                    stretch.keep(Message(self.stretches.next(), side, number, milliseconds, data))
                 self.unfinished -= begun
                 self.cutter.held[side].clear()
             else:
@@ -125,6 +134,8 @@ class Conversation:
         """Looks for the frames of this side from here on. The beginning of a frame is left out, and counts."""
         if count:
             self.skip(side, self.waits(side))
+        if side == zkr.SERVER:
+            self.unfinished = 0
         self.cutter.held[side].clear()
         self.cutter.broken.discard(side)
         self.trusted.discard(side)
@@ -132,69 +143,65 @@ class Conversation:
         self.sought[side] = b""
 
     def waits(self, side):
-        """How many bytes of a side wait for what completes them."""
-        return len(self.cutter.held[side]) + len(self.sought.get(side, b""))
+        """How many bytes of a side wait for what completes them, and are not written."""
+        return len(self.cutter.held[side]) + len(self.sought.get(side, b"")) - self.unfinished * (side == zkr.SERVER)
 
     def skip(self, side, size):
-        self.stretches[-1].skipped[side] += size
+        """Leaves bytes out."""
+        self.stretches.skip(side, size)
 
-    def hear(self, message):
-        """Takes a frame."""
-        stretches, last = self.stretches, self.stretches[-1]
-        if message.side == zkr.CLIENT:
-            last.ask(message)
-        elif message.payload[:4] == EVENT:
-            stretches[stretches[0].is_suspended()].take_event(message)
-        else:
-            if stretches[0].is_suspended():
-                self.resume(message)
-            taker = next((stretch for stretch in stretches if stretch.answer(message, stretch is last)), None)
-            if taker:
-                self.trusted.add(zkr.SERVER)
-                if taker is last:
-                    self.trusted.add(zkr.CLIENT)
-                while stretches[0] is not taker:
-                    self.end_first()
-            else:
-                last.unasked += 1
-            self.end_settled()
-
-    def resume(self, reply):
-        """Where a reply is to a request from before the loss of the server's bytes that follows the first stretch: what
-        was asked from that request on becomes the beginning of what follows the loss."""
-        first, *others = self.stretches
-        if any(reply.payload[:4] in other.asked for other in others):
+    def connect(self, side, number, milliseconds, frame):
+        """Takes a connect message after a loss: the response to a request that was captured whole is kept."""
+        self.connected.add(side)
+        if side == zkr.CLIENT:
+            self.skip(side, len(frame))     # its beginning is in the recording before the loss
             return
-        asked = first.take_back(reply)
-        if asked and zkr.CLIENT in first.holes:
-            made = Stretch(self.put, *asked[0][1:3], False)
-            made.holes.add(zkr.CLIENT)
-            losing = next(other for other in others if other.lost[zkr.SERVER])
-            made.lost[zkr.SERVER], losing.lost[zkr.SERVER] = losing.lost[zkr.SERVER], 0
-            self.stretches.insert(1, made)
-        self.stretches[1].hold(asked)
-
-    def complete(self, message):
-        """Takes a frame of the server whose beginning is in the first stretch already."""
-        data = len(message.payload).to_bytes(4, "big") + message.payload
-        self.record(self.stretches[0], *message[:3], data[self.unfinished:])
-        self.stretches[0].note(zkr.SERVER, message.payload[:4])
+        first = self.stretches.list[0]
+        if not self.reported:
+            self.session = contents.session_in(frame[4:])
+        if first.connecting:
+            self.record(first.part, side, number, milliseconds, frame[self.unfinished:])
+            first.connecting = False
+        else:
+            self.skip(side, len(frame) - self.unfinished)
         self.unfinished = 0
         self.end_settled()
 
-    def put(self, stretch, message):
-        """Writes a frame."""
-        self.record(stretch, *message[:3], len(message.payload).to_bytes(4, "big") + message.payload)
+    def complete(self, number, milliseconds, frame):
+        """Takes a frame of the server whose beginning is in the first part already."""
+        first = self.stretches.list[0]
+        self.record(first.part, zkr.SERVER, number, milliseconds, frame[self.unfinished:])
+        first.note(zkr.SERVER, frame[4:8])
+        self.unfinished = 0
+        self.end_settled()
 
-    def record(self, stretch, side, number, milliseconds, data):
-        """Writes bytes."""
-        if not stretch.recording:
-            stretch.recording, self.number, self.part = self.series.next(self.number, self.part)
-            stretch.part = self.part
-            if not stretch.whole:
+    def hear(self, side, number, milliseconds, frame):
+        """Takes a frame after a loss."""
+        message = Message(self.stretches.next(), side, number, milliseconds, frame)
+        if side == zkr.CLIENT:
+            self.stretches.ask(message)
+        elif frame[4:8] == EVENT:
+            self.stretches.take_event(message)
+        else:
+            self.trusted.update(self.stretches.answer(message))
+            self.end_settled()
+
+    def put(self, part, message):
+        """Writes a message of a part, or bytes that had been written before."""
+        if message.number is None:
+            part.recording.piece(*message[1:2], *message[3:])
+        else:
+            self.record(part, *message[1:])
+
+    def record(self, part, side, number, milliseconds, data):
+        """Writes bytes of a part."""
+        if not part.recording:
+            part.recording, self.number, self.part = self.series.next(self.number, self.part)
+            part.part = self.part
+            if not part.whole:
                 for each in SIDES:
-                    stretch.recording.take(each, number, milliseconds, MADE_UP[each])
-        stretch.recording.take(side, number, milliseconds, data)
+                    part.recording.take(each, number, milliseconds, MADE_UP[each])
+        part.recording.take(side, number, milliseconds, data)
 
     def hole(self, side, size):
         """`size` bytes of this side were not captured."""
@@ -209,48 +216,27 @@ class Conversation:
     def go_on(self, number, milliseconds):
         """Continues after holes."""
         holes, self.holes = self.holes, None
-        first, last = self.stretches[0], self.stretches[-1]
-        lost, whole = {side for side in SIDES if holes[side]}, last.whole
+        direct, self.direct = self.direct, None
+        lost, held, is_connected = {side for side in SIDES if holes[side]}, self.cutter.held, self.connected.copy()
+        if direct:
+            self.unfinished = len(held[zkr.SERVER])
         for side in lost | self.cutter.broken:
-            self.seek(side, not whole)
+            self.seek(side, not direct)
+        begun = len(held[zkr.CLIENT]) if direct else 0      # its end follows, if that isn't lost
+        if zkr.CLIENT in lost:
+            self.stretches.lose_requests(holes[zkr.CLIENT], number, milliseconds)
         if zkr.SERVER in lost:
-            self.unfinished = 0
-            for stretch in self.stretches:
-                stretch.lose_replies()
-            if whole and zkr.CLIENT in self.connected and (begun := len(self.cutter.held[zkr.CLIENT])):
-                # The client's frame continues after the loss, and is whole there.
-                last.recording.take_back([(last.recording.count[zkr.CLIENT] - begun, begun)])
-        elif whole:
-            self.unfinished = len(self.cutter.held[zkr.SERVER])
-        if last.anchored or zkr.CLIENT in lost and (last.back or first.is_suspended()):
-            if zkr.CLIENT in lost:
-                last.holes.add(zkr.CLIENT)
-            self.stretches.append(Stretch(self.put, number, milliseconds, False))
-            self.stretches[-1].owed = last.due()
-            if whole and zkr.CLIENT not in self.connected:
+            self.stretches.lose_replies(holes[zkr.SERVER], number, milliseconds,
+                                        begun if zkr.CLIENT in is_connected else 0)
+            if zkr.CLIENT not in is_connected:
                 # The beginning of its connect request, which is left out, is in the recording before.
-                self.skip(zkr.CLIENT, -self.waits(zkr.CLIENT))
-        self.stretches[-1].owed += holes[zkr.CLIENT] // LEAST_REQUEST
-        self.stretches[-1].lose(holes)
-        if first.is_suspended() and not first.ordinary or len(self.stretches) > MOST_STRETCHES:
-            self.end_first()
+                self.skip(zkr.CLIENT, -begun)
         self.end_settled()
 
     def end_settled(self):
         """Ends the stretches that no longer wait for a reply."""
-        while len(self.stretches) > 1 and not self.stretches[0].waits() and not self.unfinished:
-            self.end_first()
-
-    def end_first(self):
-        """Ends the first stretch, which has another after it."""
-        stretch = self.stretches.pop(0)
-        stretch.end(False)
-        if stretch.whole:
-            self.unfinished = 0
-        if stretch.recording:
-            self.report(stretch, *stretch.recording.last())
-        else:
-            self.stretches[0].join(stretch)
+        if not self.unfinished and zkr.SERVER in self.connected:
+            self.stretches.end_settled()
 
     def finish(self):
         """Ends all stretches: the connection is over."""
@@ -259,38 +245,37 @@ class Conversation:
             how, ended = {"reset": stream.reset.decode()}, stream.reset_time
         if closer := stream.closer():
             how, ended = {"closed": closer[0].decode(), **how}, closer[1]
-        *others, last = self.stretches or [Stretch(self.put, self.first, self.began, not self.late)]
-        for stretch, after in zip(others, [*others[1:], last]):
-            stretch.end(True)
-            if stretch.recording:
-                self.report(stretch, *stretch.recording.last())
-            else:
-                after.join(stretch)
-        last.end(True)
-        for side in SIDES if self.stretches else ():
-            last.skipped[side] += self.waits(side)
-        holes = self.holes or {half.side: half.lacks() for half in stream.halves}
-        last.holes |= {side for side in SIDES if holes[side]}
+        lacking = {half.side for half in stream.halves if half.lacks() or self.holes and self.holes[half.side]}
+        last = Part(self.first, self.began, not self.late)
+        last.holes = lacking
+        if self.stretches:
+            for side in SIDES if not self.direct else ():
+                self.skip(side, self.waits(side))
+            last = self.stretches.finish(lacking)
         self.report(last, stream.last, ended, how or {"open": True})
-        self.stretches = ()
+        self.stretches = self.direct = None
 
-    def report(self, stretch, last, ended, how=None):
-        """Ends the recording of a stretch, where there is one; writes its facts, and prints its line. `how` has the
+    def report_part(self, part):
+        """Ends the recording of a part, which others follow."""
+        self.report(part, *part.recording.last())
+
+    def report(self, part, last, ended, how=None):
+        """Ends the recording of a part, where there is one; writes its facts, and prints its line. `how` has the
         facts of the connection's end, where it ends here."""
-        recording, lost, whole = stretch.recording, any(stretch.lost.values()), self.series.join or not self.late
+        recording, lost, whole = part.recording, any(part.lost.values()), self.series.join or not self.late
         path, count = "-", dict.fromkeys(SIDES, 0)
         if recording:
             recording.close()
             self.series.open.discard(recording)
             path, count = recording.path, recording.count
-        first, began = (recording.first, recording.began) if lost and recording else (stretch.first, stretch.began)
+        first, began = (recording.first, recording.began) if lost and recording else (part.first, part.began)
         known = facts.Facts(
             tool="pcap2zkr", client=self.client, server=self.server, connected=self.began, begun=began, ended=ended,
-            part=stretch.part, session=self.session, profile=self.series.profile(), late=self.late and not lost,
-            snapped=self.stream.snapped, lost=by_letter(stretch.lost), unasked=stretch.unasked,
-            overlooked=not stretch.anchored and stretch.skipped[zkr.SERVER] > 0,
-            skipped=by_letter(stretch.skipped) if whole and not stretch.whole else None,
-            hole=tuple(side.decode() for side in SIDES if side in stretch.holes and whole), **how or {})
+            part=part.part, session=self.session, profile=self.series.profile(), late=self.late and not lost,
+            snapped=self.stream.snapped, lost=by_letter(part.lost), unasked=part.unasked,
+            overlooked=part.overlooked,
+            skipped=by_letter(part.skipped) if whole and not part.whole else None,
+            hole=tuple(side.decode() for side in SIDES if side in part.holes and whole), **how or {})
         if recording:
             recording.write_facts(known)
         words = known.words()
@@ -299,7 +284,7 @@ class Conversation:
             path, f"{self.client} > {self.server}", "begun", zkr.clock(began), "ended", zkr.clock(ended),
             f"client={count[zkr.CLIENT]}", f"server={count[zkr.SERVER]}", f"packets={first}-{last}",
             f"resent={self.stream.resent - self.resent}", *words]))
-        self.resent = self.stream.resent
+        self.resent, self.reported = self.stream.resent, True
 
 
 def by_letter(found):

@@ -9,6 +9,8 @@ import collections
 from . import columns, listing
 from .histogram import Histogram
 
+LEAST = -1 << 31        # the least number of an operation or an error
+
 
 def grouped(numpy, keys):
     """The different keys in the order in which each comes first, and how often each comes."""
@@ -77,11 +79,13 @@ def add_block(found, talk, block, array, latencies):
         for each in (found.operations[talk.operations[number]], counts):
             each.asked += count
             each.answered += count
+    by_number = replies[replies["flags"] & columns.BY_NUMBER > 0]
+    for number, count in grouped(numpy, by_number["operation"]):
+        found.by_number[talk.operations[number]] += count
     failed = replies[replies["flags"] & columns.ERROR > 0]
-    keys = (failed["operation"].astype("i8") << 33) + failed["error"]
+    keys = (failed["operation"].astype("i8") << 32) + (failed["error"].astype("i8") - LEAST)
     for key, count in grouped(numpy, keys):
-        number = key + (1 << 32) >> 33
-        error = key - (number << 33)
+        number, error = key >> 32, (key & (1 << 32) - 1) + LEAST
         name = talk.errors.get(error) or str(error)
         for each in (found.operations[talk.operations[number]], counts):
             each.errors[name] += count

@@ -37,15 +37,19 @@ class Died(Exception):
 
 def add_words(parser):
     """Adds the arguments that say who does the work."""
-    parser.add_number("--jobs", range(1, 1025), help="read recordings at once, by N processes; an input may then be "
-                      "a folder, or @LIST: a file with a path on each line. What can't be read becomes a row")
+    parser.add_number("--jobs", range(1, 1025), help="read recordings at once, by N processes")
     parser.add_argument("--scheduler", metavar="ADDRESS", help="the same by the workers of this Dask scheduler, which "
                         "have to see the recordings and these tools by the same paths")
 
 
 def is_asked(words):
-    """Whether these arguments ask for it."""
-    return bool(words.jobs or words.scheduler)
+    """Whether these arguments ask for it, or name a folder or a list, whose recordings are read one by one."""
+    return bool(words.jobs or words.scheduler or any(map(names_several, words.inputs)))
+
+
+def names_several(path):
+    """Whether an input is a folder, or @LIST."""
+    return path.startswith("@") or os.path.isdir(path)
 
 
 def expanded(inputs):
@@ -162,6 +166,28 @@ class Processes:
             process.shutdown(cancel_futures=True)
 
 
+class Here:
+    """This process: what it is given is done at once."""
+
+    tries = count = most = 1
+
+    def __init__(self):
+        self.number, self.task = 0, None
+
+    def submit(self, *task):
+        self.number, self.task = self.number + 1, task
+        return self.number
+
+    def wait(self):
+        return [self.number]
+
+    def result(self, _):
+        return work(*self.task)
+
+    def close(self):
+        pass
+
+
 class Dask:
     """The workers of a Dask scheduler, which does a dead worker's tasks again by itself, three times."""
 
@@ -206,7 +232,8 @@ class Dask:
 def of_inputs(parser, words, tool, *more, together=False):
     """The partial results of the inputs of a tool, whose workers get its arguments and `more`."""
     if getattr(words, "recording", None) or getattr(words, "times", None):
-        parser.error("--jobs and --scheduler take the times beside each recording: leave out --recording and --times")
+        parser.error("--jobs, --scheduler and folders take the times beside each recording: leave out --recording and "
+                     "--times-file")
     if not words.inputs:
         parser.error("--jobs and --scheduler need files: name them, or their folder")
     return results(words, tool, [*sys.argv[1:], *more], expanded(words.inputs), together)
@@ -272,7 +299,7 @@ def results(words, tool, options, paths, together=True):
     shown = Shown(tool.rpartition(".")[2], paths)
     parts = chunks(paths, shown.sizes) if together else [[path] for path in paths]
     waiting, busy, found = collections.deque(Task(number, 0, each) for number, each in enumerate(parts)), {}, {}
-    engine, first = Dask(words.scheduler) if words.scheduler else Processes(words.jobs), 0
+    engine, first = Dask(words.scheduler) if words.scheduler else Processes(words.jobs) if words.jobs else Here(), 0
     try:
         while first < len(parts):
             while waiting and len(busy) < engine.most and waiting[0].chunk < first + AHEAD * engine.count:

@@ -10,7 +10,7 @@ import functools
 import json
 import re
 
-from . import listing, operations
+from . import errors, listing, operations
 from .listing import BLOCK, NUMBER, TEXT
 
 READABLE, ASCII = json.JSONEncoder(ensure_ascii=False).encode, json.JSONEncoder().encode
@@ -123,6 +123,7 @@ def code(field):
     """A number, and under a name of its own the name that it has."""
     def json_of(spelled):
         number, _, name = spelled.partition("/")
+        name = name or field == "err" and errors.NAMES.get(int(number))
         return f'{number}, "{field}Name": "{name}"' if name else number
     return json_of
 
@@ -245,6 +246,7 @@ REPLIES = {operation.name: Form("zxid:hexadecimal " + UNSPELLED.sub("", operatio
 REPLIES[listing.CONNECT] = Form("version:number timeout:number session:hexadecimal passwd:secret ro:readonly")
 REPLIES[listing.EVENT] = Form("zxid:hexadecimal kind:kind state:number path:text")
 FAILED = Form("zxid:hexadecimal err:err")
+ASKED_BY_NUMBER, ANSWERED_BY_NUMBER = Form(), Form("zxid:hexadecimal")
 PARTS = {name: Form(operations.BY_NAME[name].request) for name in ("create", "delete", "setData", "check")}
 RESULTS = {"create": Form("path:text"), "delete": Form(), "setData": Form("stat:stat"), "check": Form(),
            "fail": Form("err:err")}

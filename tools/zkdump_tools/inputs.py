@@ -1,11 +1,12 @@
 """Opens what a tool is to read: listings, recordings, and lines that zkjson has made, with the times of messages."""
 
+import argparse
 import itertools
 import os
 import stat
 import subprocess
 
-from . import columns, facts, joined, listing, program, zkr
+from . import columns, facts, joined, listing, passages, program, zkr
 from .times import times_of
 
 UNREAD = object()
@@ -14,10 +15,12 @@ UNREAD = object()
 def add_words(parser):
     """Adds the arguments that say what is read."""
     parser.add_argument("inputs", metavar="FILE", nargs="*", help="listings, or recordings, whose listings zkdump show "
-                        "makes; without one, a listing on standard input")
+                        "makes; or a folder of recordings, or @LIST, a file with a path on each line, of which what "
+                        "can't be read becomes a row; without one, a listing on standard input")
     parser.add_argument("--recording", metavar="FILE", help="the recording that the listing is of, for its times")
-    parser.add_argument("--times", metavar="FILE", help="the times of its pieces (RECORDING.times)")
-    parser.add_argument("--profile", choices=zkr.PROFILES, help="the release that zkdump judges recordings by (3.4)")
+    parser.add_argument("--times-file", metavar="FILE", dest="times", help="the times of its pieces (RECORDING.times)")
+    parser.add_argument("--times", dest="times", help=argparse.SUPPRESS)    # as it was called
+    passages.add_words(parser)
     program.add_program(parser)
 
 
@@ -66,10 +69,9 @@ def conversation(parser, words, path, stream, objects, progress, before_read, fa
                          if words.recording else "standard input is a recording: name its file as the argument")
         if stat.S_ISFIFO(os.fstat(stream.fileno()).st_mode):
             raise listing.NoListing(f"{path} is a pipe, and a recording is read more than once: name a file")
-        profile = words.profile or known and known.profile
-        if found := columns_of(words, path, fast, profile, known, progress):
+        if found := columns_of(words, path, fast, known, progress):
             return found
-        lines = lines_of_show(parser, words, path, profile, before_read)
+        lines = lines_of_show(parser, words, path, before_read)
         times = times_of(parser, path, words.times, False)
     else:
         if words.recording:
@@ -86,7 +88,7 @@ def conversation(parser, words, path, stream, objects, progress, before_read, fa
     return listing.Listing(name, lines, times, progress, is_recording, known)
 
 
-def columns_of(words, path, fast, profile, known, progress):
+def columns_of(words, path, fast, known, progress):
     """The columns of a recording; None where the plain form has to read it."""
     options = fast and fast(path)
     if options is None:
@@ -94,7 +96,7 @@ def columns_of(words, path, fast, profile, known, progress):
     lacking = columns.lacks(words, "--lines" not in options)
     if not lacking:
         times = columns.times_options(path, words.times)
-        options = [*(["--profile", profile] if profile else []), *(times or ()), *options]
+        options = [*(times or ()), *options]
         return None if times is None else columns.opened(words, path, known, progress, options)
     if os.path.getsize(path) >= columns.WORTH_A_LINE and not columns.said:
         columns.said = True
@@ -102,21 +104,34 @@ def columns_of(words, path, fast, profile, known, progress):
     return None
 
 
-def lines_of_show(parser, words, path, profile, before_read):
-    """The lines of a recording, judged by this profile, if any."""
+def messages_of(parser, words, path, progress):
+    """The messages of a recording, whatever its times and its facts, as columns where that can be."""
+    if not columns.lacks(words, False) and (found := columns.opened(words, path, None, progress, ["--lines"])):
+        return found
+    return listing.Listing(path, lines_of_show(parser, words, path, lambda: None), None, progress, True)
+
+
+def lines_of_show(parser, words, path, before_read):
+    """The lines of a recording, as zkdump show writes them; where that ends at what it doesn't read, those of a passage
+    from there on."""
     program.need(parser, words.zkdump)
-    options = ["--profile", profile] if profile else []
-    if limit := getattr(words, "limit", None):
-        options += ["--limit", str(limit)]
+    bounds, count = passages.Bounds.of(words), 0
+    if not passages.has_other_head(path, words):
+        shown = lines_of_program(words.zkdump, path, bounds, before_read)
+        for line in shown:
+            if line.startswith(".") and passages.may_go_on(line):
+                shown.close()
+                break
+            count += 1
+            yield line
+        else:
+            return
+    yield from itertools.islice(passages.lines(words.zkdump, path, bounds, before_read), count, None)
+
+
+def lines_of_program(zkdump, path, bounds, before_read):
+    """The lines of a recording, as far as zkdump show reads it."""
     with open(path, "rb") as recording:
-        show = subprocess.Popen([words.zkdump, "show", *options], stdin=recording, stdout=subprocess.PIPE)
-    try:
+        show = subprocess.Popen([zkdump, "show", *bounds.options()], stdin=recording, stdout=subprocess.PIPE)
+    with passages.ended(show, path):
         yield from listing.lines_of(show.stdout, before_read)
-    except GeneratorExit:       # whoever reads has enough, or has found a fault
-        show.kill()
-        raise
-    finally:
-        show.stdout.close()
-        status = show.wait()
-    if status not in (0, 1):
-        raise OSError(f"{path}: {words.zkdump} show has ended with status {status}, maybe before the listing's end")

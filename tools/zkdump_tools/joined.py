@@ -4,7 +4,7 @@ import json
 import math
 import re
 
-from . import facts, listing
+from . import errors, facts, listing
 
 WORD = re.compile(r"[A-Za-z0-9-]+", re.ASCII)
 SESSION = re.compile("0x[0-9a-f]{1,16}", re.ASCII)
@@ -18,6 +18,7 @@ WHOLE_AT = re.compile(r'"at":\s*(\d+)\.\d+\s*[,}]', re.ASCII)
 # The fields of an ending, as an ending line has them in order; these two are texts.
 ENDING_FIELDS = ("unanswered", "side", "frame", "offset", "place", "reason", "expected", "got")
 ENDING_TEXTS = ("side", "reason")
+FATES = (listing.NOT_CAPTURED, listing.NOT_KNOWN)       # beside `waiting`, the numbers of the requests of each fate
 
 
 def no_constant(name):
@@ -60,7 +61,8 @@ def word(made, name, otherwise=NEEDED):
 def error_of(made, number="err"):
     """The name of the error that an object has, or its number; None if it has none."""
     found = value(made, number, (int,), None)
-    return word(made, number + "Name", None if found is None else str(found))
+    usual = None if found is None else errors.name(found) if number == "err" else str(found)
+    return word(made, number + "Name", usual)
 
 
 def ending_of(made):
@@ -73,6 +75,8 @@ def ending_of(made):
     if not listing.ENDING.fullmatch(line) or any(
             type(value) is not (str if name in ENDING_TEXTS else int) for name, value in fields):
         raise ValueError("this is not an ending of zkjson")
+    if "messages" in made:
+        found["messages"] = value(made, "messages", (int,))
     return found
 
 
@@ -135,7 +139,7 @@ class Joined(listing.Conversations):
 
     def paths(self, line, made):
         """The paths of a request's line: of a multi, those of its parts."""
-        if made.op != "multi":
+        if made.op != "multi" or not made.decoded:
             return [made.path]
         return [path_of(part, "path") for part in parts_of(object_of(line))]
 
@@ -154,7 +158,7 @@ class Known:
 
     def __init__(self, name):
         self.connection, self.last, self.requests = listing.Connection(name), 0, {}
-        self.waiting, self.lost = None, ()
+        self.waiting, self.fates = None, {}
 
     def message(self, made, line):
         """The message of an object, which a line has."""
@@ -167,7 +171,8 @@ class Known:
         if side not in ("C", "S"):
             raise ValueError("zkjson doesn't write this value of 'side'")
         error = error_of(made) if op != listing.EVENT else error_of(made, "kind")
-        if op == "multi" and side == "S" and not error:
+        decoded = value(made, "decoded", (bool,), True)
+        if op == "multi" and side == "S" and not error and decoded:
             error = listing.error_of_parts([each for each in errors_of(made) if each])
         at, ms = value(made, "at", (int, float), None), value(made, "ms", (int, float), None)
         if not all(number is None or number >= 0 and math.isfinite(number) for number in (at, ms)):
@@ -175,6 +180,7 @@ class Known:
         xid = value(made, "xid", (int,), None)
         xid = None if xid is None else str(xid)
         message = listing.Message(connection, n, side, xid, op, path_of(made, "path"), error)
+        message.decoded = decoded
         if op == listing.CONNECT:
             message.made_up = all(made.get(name) == found for name, found in MADE_UP[side].items())
             connection.connect(message, session_of(made))
@@ -199,6 +205,7 @@ class Known:
         asked = self.requests.pop(of, None)
         if asked is None:
             asked = listing.Message(self.connection, of, "C", message.xid, message.op, path_of(made, "asked"), None)
+            asked.decoded = message.decoded
             if message.moment is not None and message.microseconds is not None:
                 # (to the microsecond, as times are)
                 asked.moment = round(message.moment - message.microseconds / 1000, 3) \
@@ -211,13 +218,14 @@ class Known:
         """Takes the ending."""
         if self.connection.ending:
             raise ValueError("this connection has ended before: two recordings have this name, so read each by itself")
-        waiting, lost = made.get("waiting"), made.get("notCaptured", ())
+        lists = {fate: made[fate] for fate in FATES if type(made.get(fate)) is list}
+        waiting = made.get("waiting")
         self.connection.ending = ending_of(made)
         if made.get("facts") is not None:
             self.take_facts(made["facts"])
-        if type(waiting) is list and type(lost) in (list, tuple):
-            self.lost = {each for each in lost if type(each) is int}
-            self.waiting = {each for each in waiting if type(each) is int} | self.lost
+        if type(waiting) is list:
+            self.fates = {each: fate for fate, found in lists.items() for each in found if type(each) is int}
+            self.waiting = {each for each in waiting if type(each) is int} | self.fates.keys()
 
     def take_facts(self, found):
         """Takes the facts of the recording, which an ending has."""
@@ -230,7 +238,7 @@ class Known:
         """The requests to which no reply has come: those that the ending lists, if it does."""
         left = [made for made in self.requests.values() if self.waiting is None or made.n in self.waiting]
         for made in left:
-            made.captured = made.n not in self.lost
+            made.fate = self.fates.get(made.n) or self.connection.fate()
         return left
 
 

@@ -11,7 +11,7 @@ import contextlib
 import math
 import re
 
-from . import operations
+from . import errors, operations
 
 BLOCK = 1 << 16
 STANDARD_INPUT = "-"
@@ -22,6 +22,9 @@ NOT_DONE = ("OK", "RUNTIMEINCONSISTENCY")   # the results of a failed multi's pa
 CONNECT, EVENT = "connect", "event"
 ASKED = {CONNECT, *(operation.name for operation in operations.ALL if operation.release)}
 UNREAD = "unread"       # in place of the ending of one of many recordings, which can't be read
+STOPPED = ("cut", "refused", "recording")       # the endings of what wasn't read to its end
+# What becomes of a request that waits at the end of what was read.
+UNANSWERED, NOT_CAPTURED, NOT_KNOWN = FATES = "unanswered", "notCaptured", "notKnown"
 # From these milliseconds on a float has not each microsecond (columns/recording.c), and not each millisecond.
 COARSE, TOO_COARSE = 8e12, 2.0 ** 53
 
@@ -34,6 +37,9 @@ HEAD = rf"([CS]) (?:({NUMBER}) )?([A-Za-z][A-Za-z0-9]*)"
 BEGINNING = re.compile(rf"{HEAD}(?: path=({TEXT})(?= |$)| zxid={NUMBER} (?:err|kind)=({NUMBER}){NAME}(?= |$)|"
                        r"(?= (?!path=|zxid=\S* (?:err|kind)=)|$))", re.ASCII)
 ONLY_HEAD = re.compile(HEAD, re.ASCII)
+# A line of passages.py, of a message that zkdump show doesn't read: its operation by name or number, and no path.
+BY_NUMBER = re.compile(rf"([CS]) ({NUMBER}) \?([A-Za-z0-9-]+)( path=)?(?: zxid={NUMBER}(?: err=({NUMBER}){NAME})?)?",
+                       re.ASCII)
 FAILED_PART = re.compile(rf"[{{;]fail err=({NUMBER}){NAME}", re.ASCII)
 RESULT = re.compile(rf"[{{;](?=[A-Za-z])(?:fail err=({NUMBER}){NAME})?", re.ASCII)
 QUOTED = re.compile('"[^"]*"')
@@ -105,9 +111,19 @@ class Connection:
         """Whether bytes of it are known not to be in its recording, or that couldn't be read."""
         return bool(self.ending) and self.ending["ending"] == UNREAD or bool(self.facts) and self.facts.has_hole()
 
-    def loses_replies(self):
-        """Whether replies to the requests that wait at its end may have been lost."""
-        return bool(self.facts) and self.facts.loses_replies()
+    def has_stopped(self):
+        """Whether it wasn't read to its end: a refusal, a cut frame or a damage ended the reading."""
+        return bool(self.ending) and self.ending["ending"] in STOPPED
+
+    def is_incomplete(self):
+        """Whether some of it is missing, or wasn't read."""
+        return self.has_hole() or self.has_stopped()
+
+    def fate(self):
+        """What became of the requests that wait at its end: their replies may have been lost, or come later."""
+        if self.facts and self.facts.loses_replies():
+            return NOT_CAPTURED
+        return NOT_KNOWN if self.has_stopped() else UNANSWERED
 
     def timed(self, moment):
         """Takes a message's time."""
@@ -119,8 +135,9 @@ class Message:
     """How a message's line begins: its number, its side, and its xid, operation and path as the line has them; None for
     what it has not.
 
-    `captured` says of a request that waits that its reply, if there was one, is not among bytes that are missing.
-    `connection` is the Connection that it belongs to; `made_up` says that pcap2zkr made it up, at the beginning of what
+    `fate` is what became of a request that waits: UNANSWERED, NOT_CAPTURED if its reply may be among bytes that are
+    missing, or NOT_KNOWN if the reading stopped before its reply could come. `decoded` says that all of it was read,
+    and not its header alone, with its operation by name or number (passages.py). `connection` is the Connection that it belongs to; `made_up` says that pcap2zkr made it up, at the beginning of what
     follows a loss. `error` is the name of a reply's error, or its number: of a failed multi, that of the part that
     failed; and of an event, its kind. `at` is the message's time as it is spelled, `moment` the same as a number of
     milliseconds since 1970, from TOO_COARSE on of whole ones, and `microseconds`, or `ms`, how long a reply took,
@@ -129,7 +146,7 @@ class Message:
     """
 
     at = moment = microseconds = chosen = None
-    captured, made_up = True, False
+    fate, decoded, made_up = UNANSWERED, True, False
     parts = ()
     ms = property(lambda self: None if self.microseconds is None else milliseconds(self.microseconds))
 
@@ -152,6 +169,11 @@ def billionths(at):
     """A time as it is spelled, in billionths of a millisecond."""
     whole, _, part = str(at).partition(".")
     return int(whole + part.ljust(9, "0"))
+
+
+def error_of(number, name):
+    """The name of an error, or its number; None where a line has neither."""
+    return name or number and errors.name(int(number)) or None
 
 
 def error_of_parts(names):
@@ -269,8 +291,10 @@ class Listing(Conversations):
         for n, line in enumerate(lines, 1):
             found = BEGINNING.match(line)
             if not found or connection.ending:
-                self.end(line, n)
-                continue
+                found = BY_NUMBER.fullmatch(line) if self.proved else None
+                if not found or connection.ending:
+                    self.end(line, n)
+                    continue
             side, xid, op, path, number, name = found.groups()
             if not self.proved:
                 if (xid is None) != (op == CONNECT or op == EVENT and side == "S"):
@@ -278,7 +302,11 @@ class Listing(Conversations):
                 if number == "0" and op != EVENT:
                     raise no_line(n, found.start(5))
                 check_values(line, n)
+            if number and not name and op != EVENT:
+                name = errors.NAMES.get(int(number))
             made = Message(connection, n, side, xid, op, path, name or number, found.end(3))
+            if found.re is BY_NUMBER:
+                made.decoded = False
             if frames:
                 of_side, of_xid, at = next(frames, NO_FRAME)
                 if of_side != side or of_xid != int(xid or EVENT_XID) and op != CONNECT or foreign \
@@ -296,7 +324,7 @@ class Listing(Conversations):
                         connection.begun = begun = moment
             lane, asked = plain if xid not in lanes else lanes[xid], None
             if side == "C":
-                if op not in ASKED:
+                if op not in ASKED and made.decoded:
                     raise no_line(n, made.end)
                 lane.append(made)
             elif op != EVENT:
@@ -326,8 +354,9 @@ class Listing(Conversations):
                 self.connection.backwards += 1
             else:
                 made.microseconds = microseconds
-        if made.op == "multi" and made.error is None:
-            made.error = error_of_parts([name or number for number, name in FAILED_PART.findall(QUOTED.sub("", line))])
+        if made.op == "multi" and made.error is None and made.decoded:
+            made.error = error_of_parts([error_of(number, name)
+                                         for number, name in FAILED_PART.findall(QUOTED.sub("", line))])
         return asked
 
     def end(self, line, n):
@@ -339,6 +368,8 @@ class Listing(Conversations):
             head = ONLY_HEAD.match(line)
             raise no_line(n, head.end() if head else 0)
         self.connection.ending = ending_of(line, n)
+        if self.connection.has_stopped():
+            self.connection.ending["messages"] = n - 1
 
     def connections(self):
         """The connections that were read: the one."""
@@ -347,20 +378,21 @@ class Listing(Conversations):
     def left(self):
         """The requests that still wait, in the order in which they came."""
         left = sorted((made for lane in (self.plain, *self.lanes.values()) for made in lane), key=lambda made: made.n)
-        if self.connection.loses_replies():
-            for made in left:
-                made.captured = False
+        for made in left:
+            made.fate = self.connection.fate()
         return left
 
     def paths(self, line, made):
         """The paths of the line of a request or an event: of a multi, those of its parts."""
+        if not made.decoded:
+            return []
         if made.op == EVENT:
             return EVENT_PATH.findall(line, made.end)
         return [path for path in PATHS.findall(line) if path] if made.op == "multi" else [made.path]
 
     def results(self, line):
         """The errors of the results in the line of a multi's reply, each its name or its number, or None."""
-        return [name or number or None for number, name in RESULT.findall(QUOTED.sub("", line))]
+        return [error_of(number, name) for number, name in RESULT.findall(QUOTED.sub("", line))]
 
     def zxid(self, line):
         """The zxid of a reply's line as ZooKeeper's logs print it; None if it has none."""

@@ -18,12 +18,13 @@ import signal
 import struct
 
 FIN, SYN, RST, ACK = 1, 2, 4, 16
+ENDING = (signal.SIGINT, signal.SIGTERM, signal.SIGHUP)
 LARGEST_PACKET, LATEST = 1 << 24, 253_402_300_800_000
 BLOCK = 1 << 18
-ETHERNET = 1
+ETHERNET, RAW = 1, 101
 # By the number of the link type: where its header has the kind of what follows, or None; and its length. Tags of VLANs
 # may come after it, each with the kind of what follows that.
-LINKS = {0: (None, 4), 108: (None, 4), 12: (None, 0), 14: (None, 0), 101: (None, 0), 228: (None, 0), 229: (None, 0),
+LINKS = {0: (None, 4), 108: (None, 4), 12: (None, 0), 14: (None, 0), RAW: (None, 0), 228: (None, 0), 229: (None, 0),
          ETHERNET: (12, 14), 113: (14, 16), 276: (0, 20)}
 VLANS, IP_KINDS = (b"\x81\x00", b"\x88\xa8", b"\x91\x00"), (b"\x08\x00", b"\x86\xdd")
 FRAGMENTED, EXTENSIONS, TCP = 0x3FFF, (0, 43, 60), 6
@@ -39,10 +40,11 @@ class NotRead(ValueError):
 
 
 def interruptible(call, *words):
-    """Calls what may wait for bytes. Ctrl-C ends it, also where it is blocked everywhere else."""
+    """Calls what may wait for bytes. A signal that ends the reading has an effect, also where it is blocked everywhere
+    else."""
     before = signal.pthread_sigmask(signal.SIG_BLOCK, [])
     try:
-        signal.pthread_sigmask(signal.SIG_UNBLOCK, [signal.SIGINT])
+        signal.pthread_sigmask(signal.SIG_UNBLOCK, ENDING)
         return call(*words)
     finally:
         signal.pthread_sigmask(signal.SIG_SETMASK, before)
@@ -71,13 +73,14 @@ class Source:
         return self.data[self.at - size:self.at]
 
 
-def segments(stream):
-    """The TCP segments of a capture: of a buffered stream of its bytes."""
+def segments(stream, pass_over):
+    """The TCP segments of a capture: of a buffered stream of its bytes. Calls `pass_over` with the number and
+    the link type of an interface whose packet isn't read."""
     if interruptible(stream.peek, 2)[:2] == b"\x1f\x8b":
         stream = gzip.GzipFile(fileobj=stream)
     source, number = Source(stream), 0
     mark = source.exactly(4) if source.more(0) else b""
-    packets = packets_of_pcapng(source) if mark == b"\x0a\x0d\x0d\x0a" else packets_of_pcap(source, mark)
+    packets = packets_of_pcapng(source, pass_over) if mark == b"\x0a\x0d\x0d\x0a" else packets_of_pcap(source, mark)
     unpack_ip, unpack_tcp, unpack_usual, usual = IPV4.unpack_from, TCP_HEAD.unpack_from, USUAL.unpack_from, USUAL.size
     for number, (milliseconds, link, packet, at, end, sent) in enumerate(packets, 1):
         if not 0 <= milliseconds < LATEST:
@@ -143,8 +146,9 @@ def packets_of_pcap(source, mark):
         data, at = source.data, 0
 
 
-def packets_of_pcapng(source):
-    """The same of a pcapng file, whose first four bytes were read."""
+def packets_of_pcapng(source, pass_over):
+    """The same of a pcapng file, whose first four bytes were read. Where an interface has a link type that isn't read,
+    its packets have no bytes."""
     kind, order, interfaces = SECTION, "<", []
     while True:
         head = source.exactly(4)
@@ -159,9 +163,13 @@ def packets_of_pcapng(source):
         elif kind == PACKET:
             interface, high, low, length, sent = struct.unpack_from(order + "IIIII", body)
             link, rate, offset = interfaces[interface]
-            seconds, part = divmod((high << 32) + low, rate)    # a float has no room for all digits
-            end = min(20 + length, len(body))
-            yield (seconds + offset) * 1000 + part * 1000 / rate, link, body, 20, end, sent
+            if link in LINKS:
+                seconds, part = divmod((high << 32) + low, rate)    # a float has no room for all digits
+                end = min(20 + length, len(body))
+                yield (seconds + offset) * 1000 + part * 1000 / rate, link, body, 20, end, sent
+            else:
+                pass_over(interface, link)
+                yield 0, RAW, b"", 0, 0, 0
         elif kind in OLD_PACKETS:
             raise NotRead("this is a pcapng of an old form: convert it with editcap -F pcapng OLD NEW")
         if source.at == len(source.data) and not source.more(source.at):

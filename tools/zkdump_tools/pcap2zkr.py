@@ -40,9 +40,10 @@ import zlib
 from . import packets, resync, zkr
 from .conversation import Conversation
 from .recordings import Series
-from .streams import MASK, Stream
+from .streams import MASK, Budget, Stream
 
-MOST_HELD, MOST_SILENT, MOST_LINGERING, MOST_OVER, MOST_PORTS = 1 << 25, 8192, 256, 8192, 8
+MOST_HELD = MOST_WAITING = 1 << 25
+MOST_SILENT, MOST_LINGERING, MOST_OVER, MOST_PORTS = 8192, 256, 8192, 8
 DAMAGED = (struct.error, IndexError, zlib.error)
 
 
@@ -54,19 +55,12 @@ def address_text(ends, at):
     return f"{text}:{int.from_bytes(ends[port:port + 2], 'big')}"
 
 
-class Budget:
-    """How many bytes wait, of all connections, and how many may."""
-
-    def __init__(self, most):
-        self.held, self.most = 0, most
-
-
 class Capture:
     """All connections of a capture."""
 
     def __init__(self, words, head):
-        self.port, self.begun, self.left_out = words.port, 0, False
-        self.series = Series(words.prefix, head, words.times, words.late)
+        self.port, self.begun, self.left_out, self.passed_over = words.port, 0, False, set()
+        self.series = Series(words.prefix, head, words.times, words.late, Budget(MOST_WAITING))
         self.budget, self.heard = Budget(MOST_HELD), {}
         # By the ends of a direction, the half of a connection, or where the bytes of one that is over were. And the
         # connections of which no byte was captured yet, and those of which no more is expected, the oldest first.
@@ -74,8 +68,11 @@ class Capture:
 
     def convert(self, stream):
         """Makes recordings of a capture. Where one can't be written, those of which nothing was written are removed.
-        Ctrl-C has an effect only where bytes are read, so that no packet is taken in part."""
-        before = signal.pthread_sigmask(signal.SIG_BLOCK, [signal.SIGINT])
+        Ctrl-C, and a signal that would end the tool, have an effect only where bytes are read, so that no packet is
+        taken in part."""
+        before = signal.pthread_sigmask(signal.SIG_BLOCK, packets.ENDING)
+        usual = {number: signal.signal(number, signal.default_int_handler) for number in packets.ENDING
+                 if signal.getsignal(number) is signal.SIG_DFL}
         try:
             self.read(stream)
         except OSError:
@@ -84,12 +81,22 @@ class Capture:
         finally:
             with contextlib.suppress(KeyboardInterrupt):
                 signal.pthread_sigmask(signal.SIG_SETMASK, before)
+            for number, handler in usual.items():
+                signal.signal(number, handler)
+
+    def pass_over(self, interface, link):
+        """Reports an interface of a capture whose packets can't be read, once for each link type."""
+        if link not in self.passed_over:
+            self.passed_over.add(link)
+            self.left_out = True
+            zkr.complain(f"packets of link type {link}, as those of interface {interface}, can't be read and are passed "
+                         "over: capture at another interface, such as any or eth0")
 
     def read(self, stream):
-        """Reads a capture up to its end, or up to Ctrl-C."""
+        """Reads a capture up to its end, or up to a signal."""
         progress, halves, failed = zkr.Progress("pcap2zkr.py", bool(sys.stderr)), self.halves, None
         try:
-            for segment in packets.segments(stream):
+            for segment in packets.segments(stream, self.pass_over):
                 number, milliseconds, ends, _, _, sequence, acknowledged, flags, data, snapped = segment
                 half = halves.get(ends)
                 if half is None or flags & packets.SYN:

@@ -1,5 +1,6 @@
 """Where the program zkdump is, for the tools that run it."""
 
+import argparse
 import pathlib
 import shutil
 import subprocess
@@ -15,6 +16,19 @@ def found():
     else:
         path = TOOLS.parent / "crates" / "zkdump" / "out" / "zkdump"
     return str(path) if path.exists() else "zkdump"
+
+
+def version():
+    """The version of the release that these tools are of."""
+    return (TOOLS.parent / "VERSION").read_text("ascii").strip()
+
+
+class Version(argparse.Action):
+    """Prints the version of the release that the tool is of, and ends it."""
+
+    def __call__(self, parser, *_):
+        print(f"{parser.prog.removesuffix('.py')} (zkdump) {version()}")
+        parser.exit()
 
 
 def add_program(parser):

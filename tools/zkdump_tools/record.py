@@ -15,7 +15,7 @@ including session passwords and the data of nodes.
 
 import time
 
-from . import addresses, contents, facts, proxy, zkr
+from . import addresses, contents, facts, proxy, running, zkr
 
 
 def now():
@@ -89,7 +89,7 @@ class Recorder(proxy.Proxy):
     """Accepts clients' connections and records them; `status` is 3 if a recording could not be written."""
 
     def __init__(self, server, series, server_text):
-        super().__init__("record.py", server)
+        super().__init__(running.name(), server)
         self.series, self.status, self.descriptors = series, 0, 2 if series.times else 1
         self.server_text = server_text
 

@@ -46,60 +46,67 @@ class Recording(zkr.Writer):
         """The number and the time of its last packet."""
         return max(self.ends.values())
 
-    def take_back(self, spans, accept=bool):
-        """Takes bytes of the client out of the recording's end again, and returns them: `spans` has where each part of
-        them begins among the client's bytes, and its size, in order. Returns none, and changes nothing, where that is
-        too long ago, or where `accept` is false for the first of them."""
+    def take_back(self, spans):
+        """Takes the recording's end out of it again, from the first of these spans of the client's bytes on that wasn't
+        written too long ago: `spans` has where each begins among the client's bytes, and its size, in order. Returns
+        the pieces that were there, in their order: of each the number of its span, or None, its side, time and bytes. A
+        span is a piece of its own, in the place of its last byte."""
         self.flush()
-        block = next((block for block in reversed(self.blocks) if block[2] <= spans[0][0]), None)
-        if not block:
+        spans = [(at, *span) for at, span in enumerate(spans) if span[0] >= self.blocks[0][2]]
+        if not spans:
             return []
+        block = next(block for block in reversed(self.blocks) if block[2] <= spans[0][1])
         tails = []
         for file, size in zip(self.files, block):
-            with open(file.path, "rb") as stream:
+            with open(file.path, "r+b") as stream:
                 stream.seek(size)
                 tails.append(stream.read())
-        pieces = list(zkr.Reader(io.BytesIO(self.head.to_bytes() + tails[0])))
-        times = map(float, tails[1].split()) if self.times else (piece.milliseconds or 0 for piece in pieces)
-        kept, taken = split_client(pieces, times, block[2], spans)
-        if not accept(taken[0]):
-            return []
-        for file, size in zip(self.files, block):
-            with open(file.path, "r+b") as stream:
                 stream.truncate(size)
             file.size = size
         self.count = dict(zip(self.count, block[2:]))
         while self.blocks[-1] is not block:
             self.blocks.pop()
-        for side, milliseconds, data in kept:
-            self.piece(side, milliseconds, data)
-        return taken
+        pieces = zkr.Reader(io.BytesIO(self.head.to_bytes() + tails[0]))
+        times = map(float, tails[1].split()) if self.times else None
+        found = list(split_client(pieces, times, block[2], spans))
+        first = next(at for at, each in enumerate(found) if each[0] is not None)
+        for _, *piece in found[:first]:
+            self.piece(*piece)
+        self.ends[zkr.CLIENT] = self.first, self.began
+        return found[first:]
 
 
 def split_client(pieces, times, place, spans):
-    """Pieces with their times, without these spans of the client's bytes, of which the first one is at this place; and
-    the bytes of each span."""
-    kept, taken = [], [bytearray() for _ in spans]
-    for (side, _, data), milliseconds in zip(pieces, times):
-        left = bytearray(data)
+    """Pieces with their times, of which the first one of the client begins at this place among its bytes, as `take_back`
+    returns them."""
+    spans = iter(spans)
+    number, begin, size = next(spans)
+    taken = bytearray()
+    for side, milliseconds, data in pieces:
+        milliseconds, at = next(times) if times else milliseconds or 0, 0
         if side == zkr.CLIENT:
-            end = place + len(data)
-            for (begin, size), found in zip(reversed(spans), reversed(taken)):
-                part = slice(max(0, begin - place), max(0, min(begin + size, end) - place))
-                found += left[part]
-                del left[part]
-            place = end
-        if left:
-            kept.append((side, milliseconds, bytes(left)))
-    return kept, list(map(bytes, taken))
+            while begin < place + len(data):
+                if at < begin - place:
+                    yield None, side, milliseconds, data[at:begin - place]
+                at = max(0, begin - place)
+                taken += data[at:begin + size - place]
+                at = min(len(data), begin + size - place)
+                if len(taken) < size:
+                    break
+                yield number, side, milliseconds, bytes(taken)
+                taken.clear()
+                number, begin, size = next(spans, (None, float("inf"), 0))
+            place += len(data)
+        if at < len(data):
+            yield None, side, milliseconds, data[at:]
 
 
 class Series:
     """The recordings PREFIX-1.zkr, PREFIX-1.2.zkr, PREFIX-2.zkr and so on; a number whose file is there already is
-    passed over."""
+    passed over. `budget` counts what waits to be written to them, and can't be yet."""
 
-    def __init__(self, prefix, head, times, join):
-        self.prefix, self.head, self.times, self.join = prefix, head, times, join
+    def __init__(self, prefix, head, times, join, budget):
+        self.prefix, self.head, self.times, self.join, self.budget = prefix, head, times, join, budget
         self.number, self.open, self.unsaid = 0, set(), None
 
     def next(self, connection=None, part=1):

@@ -38,9 +38,14 @@ def described(trouble):
     return file + trouble.strerror
 
 
+def name():
+    """What this tool is called as."""
+    return os.path.basename(sys.argv[0])
+
+
 def complain(trouble):
     """Reports trouble in one line on standard error, if that can be written."""
-    report(f"{os.path.basename(sys.argv[0])}: {described(trouble)}")
+    report(f"{name()}: {described(trouble)}")
 
 
 def report(line):

@@ -1,18 +1,22 @@
 """Chooses messages: by path, session, operation, time of day, and how long a reply took."""
 
 import argparse
+import collections
 import datetime
 import itertools
 import operator
 import re
 
-from . import columns, forms, listing, zkr
+from . import columns, listing, operations, passages, zkr
 
 MILLISECONDS = re.compile(r"\d{1,19}", re.ASCII)
 MICROSECONDS = re.compile(r"[.,]\d{6}", re.ASCII)
 LATENCY = re.compile(r"\d{1,15}(?:\.\d{1,9})?", re.ASCII)
-SESSION = re.compile(r"0x[0-9A-Fa-f]{1,16}|\d{1,20}", re.ASCII)
-OPERATIONS = (*forms.REQUESTS, listing.EVENT)
+SESSION = re.compile(r"0x[0-9A-Fa-f]{1,16}|-?\d{1,20}", re.ASCII)
+OPERATION = re.compile(r"-?\d{1,10}", re.ASCII)
+# The operations by their names, with the numbers that they have in columns.
+OPERATIONS = {**{name: operation.number for name, operation in operations.BY_NAME.items()},
+              listing.CONNECT: columns.CONNECT, listing.EVENT: columns.EVENT}
 
 
 def microseconds(text):
@@ -50,10 +54,20 @@ def latency(text):
 
 
 def session(text):
-    """A session's number in hexadecimal or decimal, as a listing.Connection has it."""
-    if not SESSION.fullmatch(text) or int(text, 0) >= 1 << 64:
+    """A session's number in hexadecimal or decimal, as a listing.Connection has it; a negative one as in a line."""
+    if not SESSION.fullmatch(text) or not -1 << 63 <= int(text, 0) < 1 << 64:
         raise argparse.ArgumentTypeError(f"{text!r} is not a session: write it as 0x100003780a6001f, or in decimal")
     return listing.hexadecimal(int(text, 0))
+
+
+def operation(text):
+    """An operation's name, or its number where it has none."""
+    if OPERATION.fullmatch(text):
+        return passages.name_of(int(text))
+    if text not in OPERATIONS:
+        raise argparse.ArgumentTypeError(f"{text!r} is not an operation: choose from {', '.join(OPERATIONS)}, or name "
+                                         "its number")
+    return text
 
 
 def path(text):
@@ -67,8 +81,8 @@ def add_words(parser):
                         help="choose requests for this path and those below it; may be given several times")
     parser.add_argument("--session", metavar="ID", type=session, action="append",
                         help="choose connections of this session, in hexadecimal or decimal")
-    parser.add_argument("--op", metavar="NAME", choices=OPERATIONS, action="append",
-                        help="choose an operation, or event")
+    parser.add_argument("--op", metavar="NAME", type=operation, action="append",
+                        help="choose an operation by name or number, or event")
     parser.add_argument("--slower", metavar="MS", type=latency, help="choose replies that took more milliseconds")
     parser.add_argument("--from", metavar="TIME", type=begin, dest="begin",
                         help="choose what was asked at this time or later; TIME as in 2026-11-22T20:31:07.120Z, or in "
@@ -85,11 +99,25 @@ def ended_of(held):
                           *filter(has_ended, itertools.islice(reversed(held), 1))))
 
 
-def complain(untimed):
-    """Reports this number of connections with messages without times."""
-    if untimed:
-        zkr.complain(f"connections with messages without times: {untimed}; --slower, --from and --to left these out: "
-                     "record with --times")
+class LeftOut:
+    """What choices left out since what they choose by isn't known of it: how many connections have messages without
+    times, and how many requests are shown by number alone, without a path."""
+
+    def __init__(self, untimed=0, pathless=0):
+        self.untimed, self.pathless = untimed, pathless
+
+    def merge(self, other):
+        self.untimed, self.pathless = self.untimed + other.untimed, self.pathless + other.pathless
+
+    def complain(self):
+        """Reports it; whether there was anything."""
+        if self.untimed:
+            zkr.complain(f"connections with messages without times: {self.untimed}; --slower, --from and --to left "
+                         "these out: record with --times")
+        if self.pathless:
+            zkr.complain(f"requests that are shown by number alone: {self.pathless}; --path left these out, since "
+                         "their paths are not read")
+        return bool(self.untimed or self.pathless)
 
 
 class Selection:
@@ -102,7 +130,9 @@ class Selection:
         self.needs_times = (self.slower, self.begin, self.end) != (None,) * 3
         self.by_message = bool(self.needs_times or self.paths or self.operations)
         self.all = not self.by_message and not self.sessions
-        self.untimed = set()        # the connections with a message without a time, where times choose
+        # Since the last take_left_out: the connections with a message without a time, where times choose, and the
+        # number of requests without a path, where paths do, by connection.
+        self.untimed, self.pathless = set(), collections.Counter()
 
     def chosen(self, talk, messages=None):
         """The chosen ones of `messages`, by default those that iterating over `talk` yields."""
@@ -115,11 +145,14 @@ class Selection:
         return [made for made in talk.left() if (made.chosen and self.slower is None or not self.by_message)
                 and (not self.sessions or made.connection.session in self.sessions)]
 
-    def take_untimed(self):
-        """How many of the connections that were read since the last call have messages without times, which the
-        choices by time leave out."""
-        untimed, self.untimed = self.untimed, set()
-        return sum(not self.sessions or each.session in self.sessions for each in untimed)
+    def take_left_out(self):
+        """What the choices left out of the connections that were read since the last call, as a LeftOut."""
+        def is_chosen(connection):
+            return not self.sessions or connection.session in self.sessions
+        found = LeftOut(sum(map(is_chosen, self.untimed)),
+                        sum(count for each, count in self.pathless.items() if is_chosen(each)))
+        self.untimed, self.pathless = set(), collections.Counter()
+        return found
 
     def of_messages(self, talk, messages):
         for line, made, asked in messages:
@@ -127,16 +160,22 @@ class Selection:
                 self.untimed.add(made.connection)
             if asked:
                 if asked.chosen is None:    # the request itself isn't there
-                    asked.chosen = self.takes(asked, [asked.path])
+                    self.choose(asked, [asked.path])
                 took = made.microseconds
                 if asked.chosen and (self.slower is None or took is not None and took > self.slower):
                     yield line, made, asked
                 continue
-            made.chosen = self.takes(made, talk.paths(line, made) if self.paths else ())
+            self.choose(made, talk.paths(line, made) if self.paths else ())
             if made.chosen and self.slower is None:
                 yield line, made, asked
             elif made.chosen and made.op == "multi":
                 made.parts = talk.paths(line, made)     # for its reply, which comes alone
+
+    def choose(self, made, paths):
+        """Says of a request or an event for these paths whether it is chosen."""
+        made.chosen = self.takes(made, paths)
+        if self.paths and not made.decoded and self.takes(made, None):
+            self.pathless[made.connection] += 1
 
     def of_sessions(self, found):
         """Holds messages back until the session of their connection is known, or the connection has ended."""
@@ -167,7 +206,7 @@ class Selection:
 
     def arrays(self, talk):
         """The chosen messages of columns: each block, and an array of them. It is the fast form of `chosen`."""
-        held, codes = [], [number for number, name in talk.operations.items() if name in (self.operations or ())]
+        held, codes = [], [OPERATIONS[name] if name in OPERATIONS else int(name) for name in self.operations or ()]
         for block in talk.blocks():
             held.append(block)
             if self.needs_times and columns.numpy.isnan(block.array()["moment"]).any():
@@ -184,16 +223,26 @@ class Selection:
             return
         for block in blocks:
             array = block.array()
-            yield block, array[self.mask(array, codes)] if self.by_message else array
+            yield block, array[self.mask(array, codes, talk.connection)] if self.by_message else array
 
-    def mask(self, array, codes):
+    def mask(self, array, codes, connection):
         """Which messages are chosen, but for sessions."""
         numpy, is_reply = columns.numpy, array["of"] > 0
-        mask = numpy.ones(len(array), bool)
+        mask = self.mask_of_times(array, is_reply)
         if self.operations:
             mask &= numpy.isin(array["operation"], codes)
         if self.paths:
+            by_number = mask & ~is_reply & (array["flags"] & columns.BY_NUMBER > 0)
+            self.pathless[connection] += int(by_number.sum())
             mask &= array["flags"] & columns.CHOSEN > 0
+        if self.slower is not None:
+            mask &= is_reply & (array["microseconds"] > self.slower)
+        return mask
+
+    def mask_of_times(self, array, is_reply):
+        """Which messages are of requests within the times."""
+        numpy = columns.numpy
+        mask = numpy.ones(len(array), bool)
         at = numpy.where(is_reply, array["asked_moment"], array["moment"])
         if self.begin is not None or self.end is not None:
             mask &= at == at
@@ -201,8 +250,6 @@ class Selection:
             mask &= at >= self.begin
         if self.end is not None:
             mask &= at < self.end
-        if self.slower is not None:
-            mask &= is_reply & (array["microseconds"] > self.slower)
         return mask
 
     def takes(self, made, paths):

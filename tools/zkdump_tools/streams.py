@@ -34,6 +34,13 @@ class Part(NamedTuple):
     lost: int = 0
 
 
+class Budget:
+    """How many bytes wait, of all connections, and how many may."""
+
+    def __init__(self, most):
+        self.held, self.most = 0, most
+
+
 class Half:
     """One side of a connection: puts what was captured in order.
 

@@ -3,12 +3,14 @@
 import json
 import re
 
-from . import facts, zkr
+from . import facts, listing, passages, zkr
 
 PERCENTS = (50, 95, 99)
 COUNTS = ("asked", "answered", "failed")
 TIMES = (*(f"p{percent}" for percent in PERCENTS), "max")
 SHOWN = 10
+FATES = {listing.UNANSWERED: "requests unanswered", listing.NOT_CAPTURED: "replies not captured, if there were any",
+         listing.NOT_KNOWN: "requests of which it isn't known whether they were answered: the reading stopped"}
 PLAIN = re.compile("[!-~]+")
 
 
@@ -61,9 +63,14 @@ def lines(found):
     yield f"{timed:>8} of {answered} replies timed"
     if backwards := sum(each["backwards"] for each in found["connections"]):
         yield f"{backwards:>8} replies have a time before that of their request"
-    yield from unanswered(found["unanswered"], "requests unanswered")
-    if "notCaptured" in found:
-        yield from unanswered(found["notCaptured"], "replies not captured, if there were any")
+    for fate, what in FATES.items():
+        if fate in found:
+            yield from unanswered(found[fate], what)
+    if "byNumber" in found:
+        yield f"{len(found['byNumber']):>8} {by_number(found['byNumber'])}"
+    if stopped := sum(bool(each["ending"]) and each["ending"]["ending"] in listing.STOPPED
+                      for each in found["connections"]):
+        yield f"{stopped:>8} of {len(found['connections'])} connections not read to the end"
     yield ""
     yield from connections(found["connections"], heads)
     if found["slowest"]:
@@ -76,9 +83,16 @@ def unanswered(waiting, what):
     for made in waiting[:SHOWN]:
         name = "" if made["connection"] == "-" else plain(made["connection"]) + " "
         request = " ".join(str(made[each]) for each in ("xid", "op", "path") if each in made)
-        yield f"    {name}line {made['n']}: {request}"
+        yield f"    {name}message {made['n']}: {request}"
     if len(waiting) > SHOWN:
         yield f"    and {len(waiting) - SHOWN} more"
+
+
+def by_number(counts):
+    """What is said, after their number, of operations that are shown by number alone, each with that of its requests."""
+    what = "operations are" if len(counts) > 1 else "operation is"
+    return f"{what} shown by number alone: " + ", ".join(
+        f"{passages.called(name)} ({count})" for name, count in passages.ordered(counts).items())
 
 
 def connections(found, heads):
@@ -105,7 +119,7 @@ def ending(found, known):
 
 
 def slowest(found):
-    rows = [["slowest: asked at", "ms", "connection", "line", "operation", "error", "zxid", "path"]]
+    rows = [["slowest: asked at", "ms", "connection", "message", "operation", "error", "zxid", "path"]]
     for each in found:
         rows.append([each["time"] or "-", exact(each["ms"]), plain(each["connection"]), str(each["n"]), each["op"],
                      each["error"] or "-", each["zxid"] or "-", each["path"] or "-"])

@@ -1,10 +1,11 @@
 """Checks many recordings at once, by zkdump check.
 
-    zkfleet.py check [--jobs N | --scheduler ADDRESS] [--all] [--json] [--profile RELEASE] DIR|LIST ..
+    zkfleet.py check [--jobs N | --scheduler ADDRESS] [--all] [--json] [--profile RELEASE] [--limit N] DIR|LIST ..
 
 A DIR has recordings, NAME.zkr in it and below it; a LIST has a path on each line; a recording may be named, too. Each
-recording that isn't whole has a line with its ending, or why it couldn't be read; with --all each has one. Then come
-the counts of endings, and of refusals by reason and place. The status is 1 if one wasn't whole.
+recording that isn't whole has a line with its ending and how many messages were read until then, or why it couldn't be
+read; with --all each has one. Then come the counts of endings, and of refusals by reason and place. Requests of
+operations that the profile lacks are passed over, and counted at the end. The status is 1 if one wasn't whole.
 """
 
 import collections
@@ -13,7 +14,7 @@ import os
 import subprocess
 import sys
 
-from . import fleet, listing, program, tables, zkr
+from . import fleet, inputs, listing, passages, program, tables, zkr
 
 PLACES = ("side", "reason", "place")
 
@@ -26,32 +27,44 @@ def words_of(arguments=None, kind=zkr.Words):
     parser.add_argument("--all", action="store_true", help="write a line for whole recordings, too")
     parser.add_argument("--json", action="store_true",
                         help="write one object of JSON a recording, and one of the counts")
-    parser.add_argument("--profile", choices=zkr.PROFILES, help="the release that zkdump judges recordings by (3.4)")
+    passages.add_words(parser)
     program.add_program(parser)
     fleet.add_words(parser)
     return parser, parser.parse_args(arguments)
 
 
 def partial(options, paths):
-    """The ending of each recording and its size, or an Unread."""
-    _, words = words_of(options, fleet.Strict)
-    return [fleet.attempt(lambda path: check(words, path), path) for path in paths]
+    """What `check` finds of each recording, or an Unread."""
+    parser, words = words_of(options, fleet.Strict)
+    return [fleet.attempt(lambda path: check(parser, words, path), path) for path in paths]
 
 
-def check(words, path):
-    """The ending of a recording, and its size."""
-    profile = ["--profile", words.profile] if words.profile else []
-    with open(path, "rb") as recording:
-        checked = subprocess.run([words.zkdump, "check", *profile], stdin=recording, stdout=subprocess.PIPE,
-                                 stderr=subprocess.PIPE, check=False)
-    if checked.returncode not in (0, 1):
-        raise ValueError(checked.stderr.decode(errors="replace").strip() or
-                         f"zkdump check has ended with status {checked.returncode}")
-    return listing.ending_of(checked.stdout.decode().rstrip("\n"), 1), os.stat(path).st_size
+def check(parser, words, path):
+    """The ending of a recording, its size, and how many requests of it are shown by number alone, by operation."""
+    if not passages.has_other_head(path, words):
+        with open(path, "rb") as recording:
+            checked = subprocess.run([words.zkdump, "check", *passages.Bounds.of(words).options()], stdin=recording,
+                                     stdout=subprocess.PIPE, stderr=subprocess.PIPE, check=False)
+        if checked.returncode not in (0, 1):
+            raise ValueError(checked.stderr.decode(errors="replace").strip() or
+                             f"zkdump check has ended with status {checked.returncode}")
+        ending = listing.ending_of(checked.stdout.decode().rstrip("\n"), 1)
+        if ending["ending"] == "whole":
+            return ending, os.stat(path).st_size, {}
+    return read(parser, words, path)
+
+
+def read(parser, words, path):
+    """The same, of a recording that zkdump alone doesn't read to its end: how far it can be read."""
+    talk, by_number = inputs.messages_of(parser, words, path, zkr.Progress("zkfleet", False)), collections.Counter()
+    for _, made, _ in talk:
+        if made.side == "C" and not made.decoded:
+            by_number[made.op] += 1
+    return talk.connection.ending, os.stat(path).st_size, by_number
 
 
 def endings(words):
-    """Each recording with its ending and its size, or with an Unread."""
+    """Each recording with what `check` finds, or with an Unread."""
     for paths, found in fleet.results(words, __name__, sys.argv[1:], paths_of(words.inputs)):
         yield from zip(paths, [found] if isinstance(found, fleet.Unread) else found)
 
@@ -61,10 +74,11 @@ class Counts:
 
     def __init__(self):
         self.recordings = self.bytes = 0
-        self.endings, self.refused = collections.Counter(), collections.Counter()
+        self.endings, self.refused, self.by_number = (collections.Counter() for _ in range(3))
 
-    def add(self, ending, size):
+    def add(self, ending, size, by_number):
         self.recordings, self.bytes = self.recordings + 1, self.bytes + size
+        self.by_number.update(by_number)
         self.endings[ending["ending"]] += 1
         if ending["ending"] == "refused":
             self.refused[tuple(ending[name] for name in PLACES)] += 1
@@ -75,7 +89,8 @@ class Counts:
 
     def summary(self):
         return {"recordings": self.recordings, "bytes": self.bytes, "endings": dict(sorted(self.endings.items())),
-                "refused": [{**dict(zip(PLACES, key)), "count": count} for key, count in self.rows()]}
+                "refused": [{**dict(zip(PLACES, key)), "count": count} for key, count in self.rows()],
+                **({"byNumber": passages.ordered(self.by_number)} if self.by_number else {})}
 
     def lines(self):
         yield f"{self.recordings} recordings, {self.bytes} bytes"
@@ -83,6 +98,8 @@ class Counts:
             yield f"{count:>8} {name}"
         for key, count in self.rows():
             yield f"{count:>8} refused: " + " ".join(f"{name}={value}" for name, value in zip(PLACES, key))
+        if self.by_number:
+            yield f"{len(self.by_number):>8} {tables.by_number(self.by_number)}"
 
 
 def paths_of(inputs):
@@ -102,8 +119,8 @@ def main():
     found = Counts()
     for path, result in endings(words):
         unread = isinstance(result, fleet.Unread)
-        ending, size = ({"ending": listing.UNREAD, "reason": result.reason}, 0) if unread else result
-        found.add(ending, size)
+        ending, size, by_number = ({"ending": listing.UNREAD, "reason": result.reason}, 0, {}) if unread else result
+        found.add(ending, size, by_number)
         if words.all or ending["ending"] != "whole":
             print(json.dumps({"recording": path, **ending}) if words.json else
                   f"{tables.plain(path)}: {tables.ending(ending, None)}")

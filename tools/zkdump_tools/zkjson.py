@@ -35,11 +35,19 @@ PART = re.compile(r"([{;])([A-Za-z]+)", re.ASCII)
 
 def form_of(line, made):
     """The form of what follows the operation; a KeyError if there is none."""
+    if not made.decoded:
+        return forms.ASKED_BY_NUMBER if made.side == "C" else \
+            forms.FAILED if made.error else forms.ANSWERED_BY_NUMBER
     if made.side == "C":
         return forms.REQUESTS[made.op]
     if made.error and made.op != listing.EVENT and FAILS.match(line, made.end):
         return forms.FAILED
     return forms.REPLIES[made.op]
+
+
+def op_of(made):
+    """A message's operation as JSON, and that it is not decoded."""
+    return f'"{made.op}"' if made.decoded else f'"{made.op}", "decoded": false'
 
 
 def short(line, made, asked):
@@ -49,7 +57,7 @@ def short(line, made, asked):
         raise forms.NoField(end)
     xid = f', "xid": {made.xid}' if made.xid else ""
     at = "" if made.at is None else f', "at": {made.at}'
-    head = f'{made.connection.json}, "n": {made.n}, "side": "{made.side}"{xid}, "op": "{made.op}"{found}{at}'
+    head = f'{made.connection.json}, "n": {made.n}, "side": "{made.side}"{xid}, "op": {op_of(made)}{found}{at}'
     if not asked:
         return head + "}\n"
     ms = "" if made.microseconds is None else f', "ms": {listing.milliseconds(made.microseconds)}'
@@ -61,7 +69,7 @@ def short(line, made, asked):
 def pieces(line, made, asked):
     """A message as pieces of JSON, none of them long."""
     xid = f', "xid": {made.xid}' if made.xid else ""
-    yield f'{made.connection.json}, "n": {made.n}, "side": "{made.side}"{xid}, "op": "{made.op}"'
+    yield f'{made.connection.json}, "n": {made.n}, "side": "{made.side}"{xid}, "op": {op_of(made)}'
     yield from fields(line, made, asked)
     if made.at is not None:
         yield f', "at": {made.at}'
@@ -80,7 +88,7 @@ def fields(line, made, asked):
     try:
         form = form_of(line, made)
         at = yield from form.pieces(line, at)
-        if made.op == "multi" and form is not forms.FAILED:
+        if made.op == "multi" and made.decoded and form is not forms.FAILED:
             at = yield from parts(line, at, made, asked)
     except KeyError:
         raise listing.no_line(made.n, at) from None
@@ -123,7 +131,7 @@ def parts(line, at, made, asked):
 def write(line, made, asked, out):
     """Writes a message as JSON: all of it or, where its line is none, nothing."""
     if len(line) <= listing.BLOCK and not (asked and asked.path and len(asked.path) > listing.BLOCK):
-        if made.op != "multi":
+        if made.op != "multi" or not made.decoded:
             try:
                 out.write(short(line, made, asked))
                 return
@@ -151,16 +159,14 @@ def write_columns(talk, chosen, out):
 def ending_of(talk, chosen):
     """The ending of a connection, with the requests without a reply, and what is known of the recording."""
     connection, left = talk.connection, chosen.left(talk)
-    made = {**connection.ending, "waiting": [each.n for each in left if each.captured]}
-    if connection.loses_replies():
-        made["notCaptured"] = [each.n for each in left]
+    made, fate = {**connection.ending, "waiting": []}, connection.fate()
+    made["waiting" if fate == listing.UNANSWERED else fate] = [each.n for each in left]
     return {**made, "facts": connection.facts.to_object()} if connection.facts else made
 
 
 def write_all(parser, words, progress, out):
-    """Writes what the arguments choose. Whether bytes of a connection are missing, and how many connections have
-    messages that choices by time left out."""
-    chosen, has_hole, untimed = selection.Selection(words), False, 0
+    """Writes what the arguments choose. Whether a connection is incomplete, and what the choices left out."""
+    chosen, incomplete, left_out = selection.Selection(words), False, selection.LeftOut()
 
     def fast(name):
         options = chosen.options(name)
@@ -173,11 +179,11 @@ def write_all(parser, words, progress, out):
             else:
                 for line, made, asked in chosen.chosen(talk):
                     write(line, made, asked, out)
-        has_hole |= talk.connection.has_hole()
+        incomplete |= talk.connection.is_incomplete()
         if talk.connection.ending:
             print(f"{head}, {json.dumps(ending_of(talk, chosen))[1:]}", file=out)
-        untimed += chosen.take_untimed()
-    return has_hole, untimed
+        left_out.merge(chosen.take_left_out())
+    return incomplete, left_out
 
 
 def words_of(arguments=None, kind=zkr.Words):
@@ -212,8 +218,8 @@ def part_of(options, path):
 
 def write_parts(parser, words, out):
     """Writes the JSON of many files, in their order; what can't be read has its line. Whether something is missing, and
-    how many connections have messages that choices by time left out."""
-    missing, untimed = False, 0
+    what the choices left out."""
+    missing, left_out = False, selection.LeftOut()
     with tempfile.TemporaryDirectory(prefix="zkjson-") as folder:
         for (path,), result in fleet.of_inputs(parser, words, __name__, "--parts", folder):
             if isinstance(result, fleet.Unread):
@@ -221,15 +227,16 @@ def write_parts(parser, words, out):
                 print(f'{head_of(path)}, "ending": "unread", "reason": {forms.readable(result.reason)}}}',
                       file=out, flush=True)
                 continue
-            part, has_hole, of_part = result
-            missing, untimed = missing or has_hole, untimed + of_part
+            part, incomplete, of_part = result
+            missing = missing or incomplete
+            left_out.merge(of_part)
             if isinstance(part, bytes):
                 out.buffer.write(gzip.decompress(part))
             else:
                 with open(part, "rb") as made:
                     shutil.copyfileobj(made, out.buffer, 1 << 20)
                 os.unlink(part)
-    return missing, untimed
+    return missing, left_out
 
 
 def main():
@@ -237,9 +244,8 @@ def main():
     pythons.continue_with_numpy(words)
     sys.stdout.reconfigure(encoding="utf-8")
     if fleet.is_asked(words):
-        missing, untimed = write_parts(parser, words, sys.stdout)
+        missing, left_out = write_parts(parser, words, sys.stdout)
     else:
         progress = zkr.Progress("zkjson", may=not sys.stdout.isatty())
-        missing, untimed = write_all(parser, words, progress, sys.stdout)
-    selection.complain(untimed)
-    return 1 if missing or untimed else 0
+        missing, left_out = write_all(parser, words, progress, sys.stdout)
+    return 1 if left_out.complain() or missing else 0

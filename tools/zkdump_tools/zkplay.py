@@ -126,7 +126,7 @@ class Bench:
     def fail(self, error, head=""):
         """Prints an error, and notes it for the status."""
         self.status = max(self.status, 3 if isinstance(error, OSError) else 1)
-        self.print(sys.stderr, running.shown(f"zkplay.py: {head}{running.described(error)}"))
+        self.print(sys.stderr, running.shown(f"{running.name()}: {head}{running.described(error)}"))
 
     def end(self, writer, play, known):
         """Ends a recording, and writes its facts."""

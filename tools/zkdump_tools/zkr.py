@@ -19,7 +19,7 @@ import re
 import struct
 from typing import NamedTuple, Optional
 
-from . import facts, files, frames
+from . import facts, files, frames, program
 from .newfile import NewFile, flush
 from .operations import PROFILES
 from .running import (Progress, allow_many_files, complain, hold_standard_streams, drop_standard_output,  # noqa: F401
@@ -37,6 +37,7 @@ LONGEST_TIME = 32
 LIMITS, USUAL_LIMIT = range(64, 16_777_217), 4_194_304
 WAITINGS, USUAL_WAITING = range(1, 1_048_577), 65_536
 RELEASES = {number: release for release, number in PROFILES.items()}
+NEWEST = [*PROFILES][-1]        # the release by which tools read where none is named
 # The head of a piece, before its bytes: the side, the time in a ZKR2 recording, and the number of bytes.
 PIECE_HEADS = {"zkr1": struct.Struct(">ci"), "zkr2": struct.Struct(">cqi")}
 
@@ -359,6 +360,7 @@ class Words(argparse.ArgumentParser):
     def __init__(self, description):
         super().__init__(description=description, allow_abbrev=False,
                          formatter_class=argparse.RawDescriptionHelpFormatter)
+        self.add_argument("--version", action=program.Version, nargs=0, help="print the version, and end")
 
     def error(self, message):
         complain(" ".join(message.split()))

@@ -1,17 +1,19 @@
 """Reports what happened on many connections, as a page for a browser, as text, or as a trace.
 
     zkreport.py [-o REPORT.html] [--text] [--trace TRACE.json] [--against OTHER] [--port N] [CHOICE ..] INPUT ..
-    zkreport.py --text --jobs N|--scheduler ADDRESS [--port N] [CHOICE ..] INPUT|DIR|@LIST ..
+    zkreport.py --text --jobs N|--scheduler ADDRESS [--port N] [CHOICE ..] INPUT ..
 
-An INPUT is a capture of tcpdump or Wireshark, a recording, or a listing of one, also as the lines of zkjson; a capture
-has any number of connections. Captures have times; recordings have them within (ZKR2) or beside (RECORDING.times).
-They are read by the newest profile and the greatest limit, or by what the head of a ZKR2 recording says.
+An INPUT is a capture of tcpdump or Wireshark, a recording, or a listing of one, also as the lines of zkjson; or a folder
+of recordings, in it and below it, or @LIST, a file with a path on each line. A capture has any number of connections.
+Captures have times; recordings have them within (ZKR2) or beside (RECORDING.times). Requests of operations that the
+profile lacks count, too: they are shown by number, without their paths.
 
 -o writes one page that needs no other file and no network: the sessions in time, the latency of requests, and tables,
 each row of which leads to the messages around it. --text writes the tables to standard output. --trace writes the
 requests as trace events, which Perfetto (ui.perfetto.dev) and Chrome open. --against compares the run with another one,
 without xids, zxids, sessions and times; it is given once for each file of the other run. The status is 1 if the runs
-differ, or if bytes of a connection are missing; requests whose replies may be among these count by themselves.
+differ, if the reading stops before a connection's end, or if bytes of one are missing; requests whose replies may come
+later or be among these bytes count by themselves.
 
 The page has no passwords of sessions and no credentials, but it has data of nodes: its owner alone may read it.
 """
@@ -21,7 +23,7 @@ import itertools
 import os
 import tempfile
 
-from . import fleet, program, selection, zkr
+from . import fleet, passages, program, selection, tables, zkr
 from .inputs import refuse_repetition
 from .report import against, gather, merged, messages, page, sources, summary, text, trace
 
@@ -33,7 +35,7 @@ class Reader:
 
     def __init__(self, parser, words, folder):
         self.port, self.folder, self.chosen = words.port, folder, selection.Selection(words)
-        self.opener = sources.Opener(parser, words.zkdump)
+        self.opener = sources.Opener(parser, words)
 
     def run(self, inputs, tracing=None):
         """What is found of all connections of these files."""
@@ -57,7 +59,9 @@ class Reader:
         """Compares the run with that of the other files; what is missing of these is reported with the run."""
         other = self.read(inputs)
         found.run.warnings += [*other.run.warnings, *(f"{name}: bytes of it are missing"
-                                                      for name in other.run.with_holes)]
+                                                      for name in other.run.with_holes),
+                               *(f"{name}: not read to the end: {tables.ending(ending, None)}"
+                                 for name, ending in other.run.stopped)]
         comparison = against.Comparison(found.run, other.run, self.opener, self.chosen)
         return against.tables(found, other, comparison)
 
@@ -104,12 +108,14 @@ def write_text(found, compared):
 
 def words_of(arguments=None, kind=zkr.Words):
     parser = kind(__doc__)
-    parser.add_argument("inputs", metavar="INPUT", nargs="+", help="a capture, a recording or a listing")
+    parser.add_argument("inputs", metavar="INPUT", nargs="+", help="a capture, a recording, a listing, a folder of "
+                        "recordings, or @LIST")
     parser.add_argument("-o", "--output", metavar="FILE", help="the page to write")
     parser.add_argument("--text", action="store_true", help="write the tables to standard output")
     parser.add_argument("--trace", metavar="FILE", help="the trace to write")
     parser.add_argument("--against", metavar="OTHER", action="append", help="a file of the run to compare with")
     parser.add_number("--port", range(1, 65536), default=2181, help="the server's port in captures (2181)")
+    passages.add_words(parser)
     program.add_program(parser)
     selection.add_words(parser)
     fleet.add_words(parser)
@@ -118,10 +124,12 @@ def words_of(arguments=None, kind=zkr.Words):
         parser.error("choose what to write: -o FILE, --text or --trace FILE")
     if words.against and (words.session, words.slower, words.begin, words.end) != (None,) * 4:
         parser.error("--against compares what --path and --op choose: leave out the other choices")
-    if fleet.is_asked(words):
-        if words.output or words.trace or words.against:
+    if words.output or words.trace or words.against:
+        if words.jobs or words.scheduler:
             parser.error("--jobs and --scheduler are for --text: leave out -o, --trace and --against")
-    else:
+        if any(map(fleet.names_several, words.inputs)):
+            words.inputs = fleet.expanded(words.inputs)
+    if not fleet.is_asked(words):
         refuse_repetition(parser, words.inputs)
         refuse_repetition(parser, words.against or ())
     return parser, words
@@ -149,9 +157,9 @@ def read_all(parser, words):
 
 
 def is_incomplete(found):
-    """Whether something is missing of what was to be read; reports messages without times, where these choose."""
-    selection.complain(found.run.untimed)
-    return found.run.warnings or found.run.with_holes or found.run.untimed
+    """Whether something is missing of what was to be read; reports what the choices left out."""
+    left_out = found.run.left_out.complain()
+    return left_out or found.run.warnings or found.run.with_holes or found.run.stopped
 
 
 def main():

@@ -1,12 +1,12 @@
 """Leaves out of a recording the requests that a release lacks, with their replies, so that zkdump reads all the rest.
 
-    zkskip.py [--profile RELEASE] REC.zkr PLAIN.zkr
-    zkskip.py [--profile RELEASE] < REC.zkr > PLAIN.zkr
+    zkskip.py [--profile RELEASE] [--limit N] REC.zkr PLAIN.zkr
+    zkskip.py [--profile RELEASE] [--limit N] < REC.zkr > PLAIN.zkr
 
 Left out are operations of later releases and of SASL, a check outside a multi, multis with parts of later releases, and
 auth under another xid than -4, which some Go clients send. Each has a line on standard error. Operations that no
-release has stay, and so does everything else. The new recording has the format of the old one, and one frame a piece,
-in the order of their last bytes; from where a side can no longer be cut into frames, its bytes stay as they are. If
+release has stay, and so does everything else. The new recording has the format of the old one, in a ZKR2 recording's
+head that profile, and one frame a piece, in the order of their last bytes; from where a side can no longer be cut into frames, its bytes stay as they are. If
 REC.zkr.times exists, PLAIN.zkr.times is written, too. Neither new file may exist already.
 """
 
@@ -158,7 +158,10 @@ def main():
     parser.add_argument("source", metavar="REC.zkr", nargs="?", help="the recording; else standard input")
     parser.add_argument("target", metavar="PLAIN.zkr", nargs="?", help="the new recording; else standard output")
     parser.add_argument("--profile", choices=OF_PROFILE,
-                        help="the release whose operations stay (that in the head of a ZKR2 recording, else 3.4)")
+                        help="the release whose operations stay (that in the head of a ZKR2 recording, else 3.4, as for "
+                        "zkdump)")
+    parser.add_number("--limit", zkr.LIMITS, default=zkr.LIMITS[-1],
+                      help=f"the greatest payload of a frame ({zkr.LIMITS[-1]})")
     words = parser.parse_args()
     if words.source and not words.target:
         parser.error("name the new recording, too: REC.zkr PLAIN.zkr")
@@ -176,11 +179,13 @@ def skip_all(words):
     times = contents.times_beside(words.source) if has_times else None
     known = facts.facts_of(words.source) if words.source else None
     profile = words.profile or known and known.profile or zkr.RELEASES[recording.head.profile]
-    skipping = Skipping(OF_PROFILE[profile], zkr.LARGEST_FRAMES, lambda side, whole, line: zkr.report(line))
+    skipping = Skipping(OF_PROFILE[profile], zkr.Head(client_limit=words.limit, server_limit=words.limit),
+                        lambda side, whole, line: zkr.report(line))
+    head = recording.head._replace(profile=zkr.PROFILES[profile])
     if words.target:
-        out = zkr.Writer(words.target, recording.head, times is not None, GATHERED)
+        out = zkr.Writer(words.target, head, times is not None, GATHERED)
     else:
-        out = StandardOutput(recording.head)
+        out = StandardOutput(head)
     try:
         skip(recording, times, out, skipping)
     except (OSError, MemoryError, KeyboardInterrupt):
@@ -189,5 +194,5 @@ def skip_all(words):
     finally:
         out.close()
         if known and words.target:
-            out.write_facts(known)
+            out.write_facts(known._replace(profile=known.profile and profile))
         zkr.report(f"left out: {skipping.requests} requests, {skipping.replies} replies")

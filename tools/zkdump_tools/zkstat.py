@@ -8,8 +8,10 @@ without a FILE it reads a listing, or lines of zkjson, from standard input. If t
 from a request's last byte to its reply's. p50, p95 and p99 are those of HdrHistogram with three significant digits, in
 microseconds; max is exact. A multi has failed if one of its parts has. Connections of one session are grouped.
 
-Where the facts beside a recording (NAME.facts.json) say that bytes are missing of it, the status is 1, and requests
-whose replies may be among them count by themselves.
+Requests of operations that the profile lacks count, too: they are shown by number, with their errors and latencies, and
+without a path. Where the reading stops before a connection's end, or the facts beside a recording (NAME.facts.json) say
+that bytes are missing of it, the status is 1, and requests whose replies may come later or be among these bytes count
+by themselves.
 """
 
 import collections
@@ -18,7 +20,7 @@ import itertools
 import json
 import sys
 
-from . import columns, counted, fleet, inputs, listing, pythons, selection, tables, zkr
+from . import columns, counted, fleet, inputs, listing, passages, pythons, selection, tables, zkr
 from .histogram import Histogram
 
 SLOWEST = 20
@@ -86,9 +88,10 @@ class Statistics:
     def __init__(self, chosen):
         self.selection = chosen
         self.operations, self.connections = collections.defaultdict(Counts), {}
-        self.events, self.waiting, self.lost, self.has_hole = collections.Counter(), [], [], False
-        self.slowest, self.order, self.least, self.has_unread = [], itertools.count(), -1, False
-        self.untimed = 0        # the connections with messages that choices by time left out
+        self.events, self.by_number, self.is_incomplete = collections.Counter(), collections.Counter(), False
+        self.waiting = {listing.UNANSWERED: [], listing.NOT_CAPTURED: [], listing.NOT_KNOWN: []}
+        self.slowest, self.order, self.least = [], itertools.count(), -1
+        self.left_out = selection.LeftOut()
 
     def counts_of(self, connection):
         """What is counted of a connection."""
@@ -111,10 +114,12 @@ class Statistics:
                 continue
             self.operations[made.op].asked += 1
             self.connections[made.connection].asked += 1
+            if not made.decoded:
+                self.by_number[made.op] += 1
             made.path = cut(made.path)
-            (self.waiting if made.captured else self.lost).append(request(made))
-        self.has_hole |= any(connection.has_hole() for connection in talk.connections())
-        self.untimed += self.selection.take_untimed()
+            self.waiting[made.fate].append(request(made))
+        self.is_incomplete |= any(connection.is_incomplete() for connection in talk.connections())
+        self.left_out.merge(self.selection.take_left_out())
 
     def read_messages(self, talk):
         """Counts the messages of a conversation one by one; counted.add_block does it with columns."""
@@ -129,6 +134,8 @@ class Statistics:
                 elif made.path and len(made.path) > LONGEST_PATH:
                     made.path = cut(made.path)
                 continue
+            if not made.decoded:
+                self.by_number[made.op] += 1
             microseconds = made.microseconds
             operations[made.op].add(made.error, microseconds)
             counts.add(made.error, microseconds)
@@ -156,26 +163,27 @@ class Statistics:
         connection = listing.Connection(path)
         connection.ending = {"ending": listing.UNREAD, "reason": partial.reason}
         self.counts_of(connection)
-        self.has_unread = True
+        self.is_incomplete = True
 
     def partial(self):
         """What was counted, for `merge` in another process."""
         connections = {connection: Finished(counts) for connection, counts in self.connections.items()}
-        return (dict(self.operations), connections, self.events, self.waiting, self.lost, self.has_hole,
-                self.has_unread, self.untimed,
+        return (dict(self.operations), connections, self.events, self.by_number, self.waiting, self.is_incomplete,
+                self.left_out,
                 [(microseconds, row) for microseconds, _, row in sorted(self.slowest, key=lambda entry: -entry[1])])
 
     def merge(self, partial):
         """Adds what was counted of other conversations."""
-        operations, connections, events, waiting, lost, has_hole, has_unread, untimed, slowest = partial
+        operations, connections, events, by_number, waiting, is_incomplete, left_out, slowest = partial
         for name, counts in operations.items():
             self.operations[name].merge(counts)
         self.connections.update(connections)
         self.events.update(events)
-        self.waiting += waiting
-        self.lost += lost
-        self.has_hole, self.has_unread = self.has_hole or has_hole, self.has_unread or has_unread
-        self.untimed += untimed
+        self.by_number.update(by_number)
+        for fate, found in waiting.items():
+            self.waiting[fate] += found
+        self.is_incomplete |= is_incomplete
+        self.left_out.merge(left_out)
         for microseconds, row in slowest:
             if microseconds > self.least:
                 self.put_slow(microseconds, row)
@@ -185,7 +193,8 @@ class Statistics:
         return {"operations": {name: {**counts.summary(), "errors": dict(counts.errors.most_common())}
                                for name, counts in ordered},
                 "events": dict(self.events.most_common()), "connections": list(self.rows()),
-                "unanswered": self.waiting, **({"notCaptured": self.lost} if self.lost else {}),
+                **{fate: found for fate, found in self.waiting.items() if found or fate == listing.UNANSWERED},
+                **({"byNumber": passages.ordered(self.by_number)} if self.by_number else {}),
                 "slowest": [row for _, _, row in sorted(self.slowest, key=lambda entry: entry[:2], reverse=True)]}
 
     def rows(self):
@@ -274,5 +283,4 @@ def main():
     else:
         for line in tables.lines(found.summary()):
             print(line.rstrip())
-    selection.complain(found.untimed)
-    return 1 if found.has_hole or found.has_unread or found.untimed else 0
+    return 1 if found.left_out.complain() or found.is_incomplete else 0

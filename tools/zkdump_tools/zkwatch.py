@@ -17,12 +17,11 @@ byte has come, before the next read, and it waits if the reader of its lines doe
 import collections
 import errno
 import os
-import re
 import subprocess
 import sys
 import time
 
-from . import addresses, program, proxy, zkr, zkskip
+from . import addresses, passages, program, proxy, running, zkr, zkskip
 from .proxy import READ, WRITE
 
 BLOCK = 65536
@@ -52,11 +51,7 @@ class LeftOut:
 
     def as_it_came(self, ending):
         """An ending line, with the numbers that it has if nothing is left out."""
-        side = zkr.SERVER if " side=S " in ending else zkr.CLIENT
-        more = {"frame": self.frames[side], "offset": self.bytes[side],
-                "unanswered": self.frames[zkr.CLIENT] - self.frames[zkr.SERVER]}
-        return re.sub(r"(?<= )(frame|offset|unanswered)=(\d+)",
-                      lambda found: f"{found[1]}={int(found[2]) + more[found[1]]}", ending)
+        return passages.as_it_came(ending, self.frames, self.bytes)
 
 
 class Show:
@@ -222,7 +217,7 @@ class Watch(proxy.Proxy):
     descriptors = 8         # the pipes of a `show`, with those that are open only while it begins
 
     def __init__(self, server, words):
-        super().__init__("zkwatch.py", server)
+        super().__init__(running.name(), server)
         self.command = [words.zkdump, "show", "--profile", words.profile, "--limit", str(words.limit)]
         self.head = zkr.Head(client_limit=words.limit, server_limit=words.limit)
         self.profile, self.once, self.shows, self.server_text = words.profile, words.once, set(), words.server
@@ -261,9 +256,10 @@ def main():
     parser.add_argument("listen", metavar="[HOST:]PORT")
     parser.add_argument("server", metavar="SERVER:PORT")
     program.add_program(parser)
-    parser.add_argument("--profile", choices=zkr.PROFILES, default="3.4", help="the release to judge by (3.4)")
-    parser.add_number("--limit", zkr.LIMITS, default=zkr.USUAL_LIMIT,
-                      help=f"the greatest payload of a frame ({zkr.USUAL_LIMIT})")
+    parser.add_argument("--profile", choices=zkr.PROFILES, default=zkr.NEWEST,
+                        help=f"the release to judge by ({zkr.NEWEST})")
+    parser.add_number("--limit", zkr.LIMITS, default=zkr.LIMITS[-1],
+                      help=f"the greatest payload of a frame ({zkr.LIMITS[-1]})")
     parser.add_argument("--once", action="store_true", help="end with the first connection")
     words = parser.parse_args()
     listen = addresses.address_word(parser, words.listen, "127.0.0.1")

@@ -38,7 +38,8 @@
 //!
 //! **A view needs the kept bytes and one word.** A reply doesn't name its operation, and its request has left the
 //! queue; so the talk keeps the operation beside the frame. The invariant says that what is kept is such a frame, so
-//! `view` has no fault to return. That a view is dropped in time is the borrow checker's matter (`tests/refused.py`).
+//! `view` has no fault to return. That a view is dropped in time is the borrow checker's matter
+//! (`tests/library/must_not_compile.py`).
 //!
 //! **What the speaker accepts is a condition on each message and those before it**, and laws tie that to histories.
 //! Each case of a refusal denies the conditions of the cases before it, so at most one holds. The frame is appended

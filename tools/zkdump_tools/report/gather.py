@@ -3,9 +3,9 @@
 import collections
 import json
 
-from .. import listing, zkjson
-from ..histogram import Histogram
 from . import kept, paths, sources, watching
+from .. import listing, selection, zkjson
+from ..histogram import Histogram
 
 CLOSE = "closeSession"
 HEARD = {listing.CONNECT, CLOSE}         # the operations that a Heard takes
@@ -19,9 +19,12 @@ class Operation:
     or of its first where there are no times; `failures` has the first request that failed with each error."""
 
     def __init__(self):
-        self.asked = self.answered = self.unanswered = self.not_captured = 0
+        self.asked = self.answered = 0
+        self.left = dict.fromkeys(listing.FATES, 0)     # requests without a reply, by what became of them
         self.errors, self.latencies = collections.Counter(), Histogram()
         self.slowest, self.failures = None, {}
+
+    unanswered = property(lambda self: self.left[listing.UNANSWERED])
 
     def failed(self):
         return sum(self.errors.values())
@@ -36,7 +39,7 @@ class Operation:
 
     def merge(self, other):
         self.asked, self.answered = self.asked + other.asked, self.answered + other.answered
-        self.unanswered, self.not_captured = self.unanswered + other.unanswered, self.not_captured + other.not_captured
+        self.left = {fate: count + other.left[fate] for fate, count in self.left.items()}
         self.errors.update(other.errors)
         self.latencies.merge(other.latencies)
         if other.slowest and (self.slowest is None or other.slowest[0] > self.slowest[0]):
@@ -138,12 +141,13 @@ class Connection:
 class Run:
     """What is found of all connections of a report. `whole` counts connections, whatever their parts, and `silent`
     those without a message; of these only the first are kept. `with_holes` names the connections of which bytes are
-    missing, also where nothing of them is chosen."""
+    missing, also where nothing of them is chosen; `stopped` has those that were not read to their end, each with its
+    name and its ending. `by_number` counts the requests that are shown by number alone, by operation."""
 
     def __init__(self):
         self.connections, self.by_source, self.warnings, self.whole, self.silent = [], {}, [], 0, 0
-        self.sources, self.with_holes = [], []
-        self.untimed = 0        # the connections with messages that choices by time left out
+        self.sources, self.with_holes, self.stopped = [], [], []
+        self.by_number, self.left_out = collections.Counter(), selection.LeftOut()
         self.kept, self.density = kept.Kept(), kept.Density()
         self.parts, self.abouts = {}, []    # of the lines of zkjson: as Source.take_facts has them, and of whom
         self.paths = kept.Counted(Path)
@@ -182,7 +186,8 @@ class Run:
             silent = [known for known in every if known not in readings] if chosen.all else []
             holed = [name_of(known) for known in every if known.has_hole()]
         self.with_holes += holed or [source.name] * source.has_hole()
-        self.untimed += chosen.take_untimed()
+        self.stopped += [(name_of(known), known.ending) for known in every if known.has_stopped()]
+        self.left_out.merge(chosen.take_left_out())
         if chosen.all and not readings:
             silent = silent or [None]
         for known in silent:
@@ -296,6 +301,7 @@ class Reading:
             self.name(asked)
             self.name_parts(asked.parts, asked)
         ms = made.ms
+        self.count_by_number(made)
         operation = connection.operations[made.op]
         operation.asked += 1
         operation.answered += 1
@@ -322,6 +328,10 @@ class Reading:
             self.watch(asked.path, asked)[0] += 1
         if self.tracing:
             self.tracing.request(connection, asked, made)
+
+    def count_by_number(self, made):
+        if not made.decoded:
+            self.run.by_number[made.op] += 1
 
     def judge_parts(self, errors, asked, ms, has_failed):
         """Counts what became of the paths of a multi's parts; where it has no results, all failed."""
@@ -354,13 +364,10 @@ class Reading:
         operation = connection.operations[made.op]
         operation.asked += 1
         request = kept.Request(connection.number, made.n, None, made.moment, None, made.op, None, made.path)
-        if made.captured:
-            operation.unanswered += 1
-            self.run.kept.put_unanswered(request)
-        else:
-            operation.not_captured += 1
-            self.run.kept.put_not_captured(request)
-        if made.moment is not None and made.captured:
+        operation.left[made.fate] += 1
+        self.count_by_number(made)
+        self.run.kept.put_left(made.fate, request)
+        if made.moment is not None and made.fate == listing.UNANSWERED:
             self.run.density.add(connection.number, made.moment, None, 2)
         if self.tracing:
             self.tracing.request(connection, made, None)

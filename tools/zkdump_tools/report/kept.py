@@ -5,9 +5,12 @@ Each class here needs a fixed amount of memory at most, however long the run is.
 
 import collections
 import heapq
+import itertools
 import math
 import random
 from typing import NamedTuple, Optional
+
+from .. import listing
 
 SLOWEST, SLOWEST_FAILED, OTHER_FAILED, MOST_UNANSWERED = 8_000, 1_000, 4_000, 2_000
 MOST_PATHS = 40_000
@@ -71,9 +74,9 @@ class Kept:
 
     def __init__(self):
         self.slowest, self.failed, self.others = Slowest(SLOWEST), Slowest(SLOWEST_FAILED), Chance(OTHER_FAILED)
-        self.unanswered, self.unanswered_count, self.answered = [], 0, 0
-        self.not_captured, self.not_captured_count = [], 0
-        self.least = -1
+        self.left = {fate: [] for fate in listing.FATES}        # those without a reply, by what became of them
+        self.left_count = dict.fromkeys(listing.FATES, 0)
+        self.least, self.answered = -1, 0
 
     def takes(self, ms, error):
         """Whether a request of this latency is to be put."""
@@ -87,26 +90,24 @@ class Kept:
         elif other := self.failed.put(request):
             self.others.put(other)
 
-    def put_unanswered(self, request):
-        self.unanswered_count += 1
-        if len(self.unanswered) < MOST_UNANSWERED:
-            self.unanswered.append(request)
+    def put_left(self, fate, request):
+        """Takes a request without a reply."""
+        self.left_count[fate] += 1
+        if len(self.left[fate]) < MOST_UNANSWERED:
+            self.left[fate].append(request)
 
-    def put_not_captured(self, request):
-        """Takes a request whose reply may be among bytes that are missing."""
-        self.not_captured_count += 1
-        if len(self.not_captured) < MOST_UNANSWERED:
-            self.not_captured.append(request)
+    def lost_fates(self):
+        """What became of requests of which it isn't known whether they were answered."""
+        return [fate for fate, found in self.left.items() if found and fate != listing.UNANSWERED]
 
     def requests(self):
-        return [*self.slowest.requests(), *self.failed.requests(), *self.others.kept, *self.unanswered,
-                *self.not_captured]
+        return [*self.slowest.requests(), *self.failed.requests(), *self.others.kept,
+                *itertools.chain.from_iterable(self.left.values())]
 
     def is_complete(self):
         """Whether every request of the run is kept."""
         return (self.answered == len(self.slowest.heap) and self.others.count == len(self.others.kept)
-                and self.unanswered_count == len(self.unanswered)
-                and self.not_captured_count == len(self.not_captured))
+                and all(self.left_count[fate] == len(found) for fate, found in self.left.items()))
 
 
 class Density:

@@ -19,7 +19,9 @@ class Merged:
         run = self.run
         run.warnings += other.warnings
         run.with_holes += other.with_holes
-        run.untimed += other.untimed
+        run.stopped += other.stopped
+        run.by_number.update(other.by_number)
+        run.left_out.merge(other.left_out)
         add_kept(run.kept, other.kept, numbers)
         for path, entry in other.paths.entries.items():
             add_path(run.paths.entry(path), entry, numbers)
@@ -80,10 +82,9 @@ def add_kept(mine, other, numbers):
         mine.others.put(of_request(request, numbers))
     mine.answered += other.answered
     mine.least = mine.slowest.least()
-    for name in ("unanswered", "not_captured"):
-        have = getattr(mine, name)
-        have += [of_request(request, numbers) for request in getattr(other, name)[:kept.MOST_UNANSWERED - len(have)]]
-        setattr(mine, f"{name}_count", getattr(mine, f"{name}_count") + getattr(other, f"{name}_count"))
+    for fate, have in mine.left.items():
+        have += [of_request(request, numbers) for request in other.left[fate][:kept.MOST_UNANSWERED - len(have)]]
+        mine.left_count[fate] += other.left_count[fate]
 
 
 def add_path(mine, entry, numbers):

@@ -100,6 +100,7 @@ function fieldsOf(each, connection) {
   const i = each.side === "C" ? keptRequest(connection, each.n) : undefined;
   if (i !== undefined && outcome(i) === UNANSWERED) put("answered", element("span", { class: "unanswered", text: "never" }));
   else if (i !== undefined && outcome(i) === NOT_CAPTURED) put("answered", text("not known: bytes are missing"));
+  else if (i !== undefined && outcome(i) === NOT_KNOWN) put("answered", text("not known: the reading stopped"));
   else if (i !== undefined) {
     const n = each.n + requests.reply[i];
     put("answered", element("a", { href: hashOf({ m: `${connection + 1}:${n}` }), text: `by message ${count(n)}` }),

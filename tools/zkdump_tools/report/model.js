@@ -3,7 +3,8 @@
 const data = JSON.parse(document.getElementById("data").textContent);
 const timed = data.begun !== null;
 const requests = unpack(data.requests);
-const OK = 0, FAILED = 1, UNANSWERED = 2, NOT_CAPTURED = 3, OUTCOMES = ["ok", "failed", "unanswered", "uncaptured"];
+const OK = 0, FAILED = 1, UNANSWERED = 2, NOT_CAPTURED = 3, NOT_KNOWN = 4;
+const OUTCOMES = ["ok", "failed", "unanswered", "uncaptured", "unknown"];
 const sessionOf = [];       // by connection, the number of its session
 data.sessions.forEach((session, number) => session.connections.forEach(each => { sessionOf[each] = number; }));
 
@@ -33,7 +34,7 @@ function unpack(columns) {
 }
 
 function outcome(i) {
-  if (requests.reply[i] === null) return requests.lost?.[i] ? NOT_CAPTURED : UNANSWERED;
+  if (requests.reply[i] === null) return UNANSWERED + (requests.lost?.[i] ?? 0);
   return requests.error[i] >= 0 ? FAILED : OK;
 }
 
@@ -149,11 +150,12 @@ function slowestOf(indices) {
 const derive = {
   operations(indices) {
     return [...groups(indices, i => requests.op[i])].map(([op, all]) => {
-      const answered = all.filter(i => outcome(i) < UNANSWERED), lost = all.filter(i => outcome(i) === NOT_CAPTURED).length;
+      const answered = all.filter(i => outcome(i) < UNANSWERED);
+      const lost = data.lostFates.map(fate => all.filter(i => outcome(i) === UNANSWERED + fate).length);
       const times = sortedLatencies(answered);
       return [data.ops[op], all.length, answered.length, all.filter(i => outcome(i) === FAILED).length,
-        all.length - answered.length - lost, quantile(times, 0.5), quantile(times, 0.95), quantile(times, 0.99),
-        quantile(times, 1), ...(requests.lost ? [lost] : []), ...link(slowestOf(all))];
+        all.filter(i => outcome(i) === UNANSWERED).length, quantile(times, 0.5), quantile(times, 0.95), quantile(times, 0.99),
+        quantile(times, 1), ...lost, ...link(slowestOf(all))];
     }).sort((a, b) => b[1] - a[1] || (a[0] < b[0] ? -1 : 1));
   },
   errors(indices) {
@@ -185,6 +187,7 @@ const derive = {
 };
 
 derive.notCaptured = indices => derive.unanswered(indices, NOT_CAPTURED);
+derive.notKnown = indices => derive.unanswered(indices, NOT_KNOWN);
 
 // The rows of operations and errors of the session that the filter names, which the busiest ones have.
 function ofSession() {
@@ -199,7 +202,7 @@ function rowsOf(name, indices) {
   if (!isFiltered()) return table.rows;
   if (name === "sessions" || name === "connections") return table.rows.filter(bySession);
   if (name === "watches") return table.rows.filter(row => bySession(row) && byPath(row));
-  if (data.complete || ["slowest", "unanswered", "notCaptured"].includes(name)) return derive[name](indices);
+  if (data.complete || ["slowest", "unanswered", "notCaptured", "notKnown"].includes(name)) return derive[name](indices);
   if (name === "paths") return table.rows.filter(byPath);
   const rows = filter.session === "" ? table.rows : ofSession()?.[name] ?? derive[name](indices);
   return filter.op === "" ? rows : rows.filter(row => row[0] === filter.op);

@@ -99,14 +99,16 @@ function head() {
       : "no times",
     timed && data.counts.timed < data.counts.answered && `${count(data.counts.timed)} of ${count(data.counts.answered)} replies timed`]
     .filter(Boolean).join(" · ");
-  document.getElementById("warnings").append(...data.warnings.map(text => element("p", { class: "failed", text: `Not read: ${visible(text)}` })));
+  document.getElementById("warnings").append(...data.warnings.map(text => element("p", { class: "failed", text: `Not read: ${visible(text)}` })),
+    ...data.headlines.map(text => element("p", { class: "failed", text: visible(text) })));
   const one = (name, value, kind = "") => element("li", { class: value ? kind : "" },
     element("b", { text: count(value) }), ` ${name}`);
   const some = (name, value) => one(value === 1 ? name : `${name}s`, value);
   document.getElementById("counts").append(
     some("session", data.sessions.length), some("connection", data.counts.connections), some("request", data.counts.asked),
     one("failed", data.counts.failed, "failed"), one("unanswered", data.counts.unanswered, "unanswered"),
-    ...(data.counts.notCaptured ? [one("replies not captured", data.counts.notCaptured)] : []), some("event", data.counts.events), some("message", data.counts.messages));
+    ...(data.counts.notCaptured ? [one("replies not captured", data.counts.notCaptured)] : []),
+    ...(data.counts.notKnown ? [one("not known", data.counts.notKnown)] : []), some("event", data.counts.events), some("message", data.counts.messages));
   data.sessions.forEach((_, number) => field("session").append(element("option", { value: sessionKeys[number], text: visible(sessionName(number)) })));
   [...data.tables.operations.rows].map(row => row[0]).sort().forEach(op => field("op").append(element("option", { value: op, text: visible(op) })));
   field("from").placeholder = timed ? place(0) : "1";

@@ -47,7 +47,8 @@ def data_of(title, found):
                      "rows": [[plain(value) for value in row] for row in rows]}
               for name, rows in found.tables.items()}
     return {
-        "title": title, "warnings": run.warnings, "begun": exact(found.begun), "ended": exact(found.ended),
+        "title": title, "warnings": run.warnings, "headlines": list(found.headlines()),
+        "lostFates": [listing.FATES.index(fate) for fate in run.kept.lost_fates()], "begun": exact(found.begun), "ended": exact(found.ended),
         "tables": tables,
         "counts": {**found.counts, "connections": run.whole},
         "leftOut": found.rows_left_out(), "short": found.short(), "complete": run.kept.is_complete(),
@@ -86,7 +87,8 @@ def requests_of(found, names):
     begun = found.begun or 0
     requests = sorted(found.run.kept.requests(), key=lambda each: (each.at or 0, each.connection, each.n))
     columns = {name: [] for name in ("connection", "n", "reply", "at", "ms", "op", "error", "path")}
-    lost = {(each.connection, each.n) for each in found.run.kept.not_captured}
+    lost = {(each.connection, each.n): listing.FATES.index(fate) for fate in found.run.kept.lost_fates()
+            for each in found.run.kept.left[fate]}
     last = 0
     for each in requests:
         at = each.at
@@ -106,7 +108,7 @@ def requests_of(found, names):
         columns["error"].append(names.number(names.errors, each.error))
         columns["path"].append(names.number(names.paths, each.path))
     if lost:
-        columns["lost"] = [int((each.connection, each.n) in lost) for each in requests]
+        columns["lost"] = [lost.get((each.connection, each.n), 0) for each in requests]
     return columns
 
 

@@ -15,7 +15,8 @@ from .. import facts, inputs, listing, zkr
 TOOLS = pathlib.Path(__file__).resolve().parents[2]
 LISTINGS = re.compile(rb"[CS] |\. |\{")
 CAPTURED = re.compile(r"(.+) (\S+) > (\S+) begun (\S+)(?: ended (\S+))?((?: \S+)*)")
-PART = re.compile(r"-(\d+)(?:\.(\d+))?\.zkr")
+PART = re.compile(r"-\d+(?:\.(\d+))?\.zkr")
+ENDED = {"closed", "reset", "open"}
 
 
 class Source:
@@ -63,12 +64,12 @@ class Source:
 
 
 class Opener:
-    """Opens sources. Recordings are read with the widest limits, since a report shows what there is; the head of a ZKR2
-    recording has its own."""
+    """Opens sources, by the words of zkreport."""
 
-    def __init__(self, parser, zkdump):
+    def __init__(self, parser, words):
         self.parser, self.progress = parser, zkr.Progress("zkreport")
-        self.words = argparse.Namespace(recording=None, times=None, zkdump=zkdump, profile=[*zkr.PROFILES][-1], limit=zkr.LIMITS[-1])
+        self.words = argparse.Namespace(recording=None, times=None, zkdump=words.zkdump, profile=words.profile,
+                                        limit=words.limit)
 
     @contextlib.contextmanager
     def conversation(self, source):
@@ -141,7 +142,8 @@ def captured(path, name, prefix, port, warnings):
 
 
 def source_of(line, name, prefix, parts):
-    """What a line of pcap2zkr says. `parts` has the first part of each connection by its number so far."""
+    """What a line of pcap2zkr says. The lines of a connection are those with its ends, up to the one that says how it
+    ended: `parts` has by these ends the first part of each that hasn't ended yet, and which part the last one was."""
     recording, client, server, begun, ended, words = CAPTURED.fullmatch(line).groups()
     found = Source(None if recording == "-" else recording, f"{name} {client}")
     found.server, found.begun, found.ended = server, milliseconds(begun), ended and milliseconds(ended)
@@ -150,10 +152,11 @@ def source_of(line, name, prefix, parts):
         found.facts = facts.facts_of(found.path) if os.path.exists(found.path) else None
         if found.facts:     # whose times have microseconds
             found.begun, found.ended = found.facts.begun, found.facts.ended
-        number, part = PART.fullmatch(recording.removeprefix(prefix)).groups()
-        found.part = int(part or 1)
-        first = parts.setdefault(number, found)
-        found.first = None if first is found else first
+    first, last = parts.pop((client, server), (found, 0))
+    found.first = None if first is found else first
+    found.part = int(PART.fullmatch(recording.removeprefix(prefix))[1] or 1) if found.path else last + 1
+    if ENDED.isdisjoint(found.notes):
+        parts[client, server] = first, found.part
     return found
 
 

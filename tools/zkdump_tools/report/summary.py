@@ -7,8 +7,8 @@ the connection's number and the message's number that the row leads to.
 import collections
 from typing import NamedTuple
 
-from .. import tables
 from . import gather
+from .. import listing, tables
 
 SLOWEST, ROWS, MOST_CONNECTIONS, MOST_SESSIONS = 20, 50, 300, 200
 SIDES = {"C": "client", "S": "server"}
@@ -58,12 +58,14 @@ COLUMNS = {
         Column("at", "asked at", "time"), Column("connection", "connection", "connection"),
         Column("n", "message", "count"), Column("op", "operation", "op"), Column("path", "path", "path")],
 }
-COLUMNS["notCaptured"] = COLUMNS["unanswered"]
-NOT_CAPTURED = Column("notCaptured", "not captured", "count")
+LOST = {listing.NOT_CAPTURED: Column("notCaptured", "not captured", "count"),
+        listing.NOT_KNOWN: Column("notKnown", "not known", "count")}
+COLUMNS.update(dict.fromkeys(LOST, COLUMNS["unanswered"]))
 HEADINGS = {
     "sessions": "Sessions", "connections": "Connections", "operations": "Operations", "errors": "Errors",
     "slowest": "Slowest requests", "paths": "Busiest paths", "watches": "Watches", "unanswered": "Unanswered requests",
     "notCaptured": "Requests whose replies, if there were any, were not captured",
+    "notKnown": "Requests of which it isn't known whether they were answered: the reading stopped",
 }
 
 
@@ -174,7 +176,7 @@ def operation_rows(operations, run):
     for name, operation in operations.items():
         yield [name, operation.asked, operation.answered, operation.failed(), operation.unanswered,
                *map(operation.ms, tables.PERCENTS), operation.longest(),
-               *([operation.not_captured] if run.kept.not_captured else ()),
+               *(operation.left[fate] for fate in run.kept.lost_fates()),
                *(operation.slowest[1:] if operation.slowest else (None, None))]
 
 
@@ -245,13 +247,13 @@ class Summary:
             "sessions": session_rows(self.sessions), "connections": connection_rows(run),
             "operations": operation_rows(self.operations, run), "errors": error_rows(self.operations),
             "slowest": slowest_rows(run), "paths": path_rows(run), "watches": watch_rows(run),
-            "unanswered": unanswered_rows(run, run.kept.unanswered),
+            "unanswered": unanswered_rows(run, run.kept.left[listing.UNANSWERED]),
         }
         self.tables = {name: list(rows) for name, rows in self.tables.items()}
         self.columns = COLUMNS
-        if run.kept.not_captured:
-            self.tables["notCaptured"] = list(unanswered_rows(run, run.kept.not_captured))
-            self.columns = {**COLUMNS, "operations": [*COLUMNS["operations"], NOT_CAPTURED]}
+        for fate in run.kept.lost_fates():
+            self.tables[fate] = list(unanswered_rows(run, run.kept.left[fate]))
+            self.columns = {**self.columns, "operations": [*self.columns["operations"], LOST[fate]]}
         self.begun, self.ended = span(run.connections)
         self.counts = {
             "messages": sum(each.messages for each in run.connections),
@@ -260,7 +262,7 @@ class Summary:
             "timed": sum(each.latencies.total() for each in self.operations.values()),
             "failed": sum(each.failed() for each in self.operations.values()),
             "unanswered": sum(each.unanswered for each in self.operations.values()),
-            "notCaptured": run.kept.not_captured_count,
+            **{fate: run.kept.left_count[fate] for fate in LOST},
             "events": sum(each.events for each in run.connections),
         }
 
@@ -270,8 +272,17 @@ class Summary:
                 "connections": len(self.run.connections) - len(self.tables["connections"]) + self.run.silent_left_out(),
                 "paths": len(self.run.paths.entries) - len(self.tables["paths"]),
                 "watches": len(self.run.watches.entries) - len(self.tables["watches"]),
-                "unanswered": self.run.kept.unanswered_count - len(self.tables["unanswered"]),
-                "notCaptured": self.run.kept.not_captured_count - len(self.tables.get("notCaptured", ()))}
+                **{fate: self.run.kept.left_count[fate] - len(self.tables.get(fate, ())) for fate in listing.FATES}}
+
+    def headlines(self):
+        """What is to be said before all tables: what wasn't read to the end, and what is shown by number alone."""
+        run = self.run
+        for name, ending in run.stopped[:ROWS]:
+            yield f"{name}: not read to the end: {tables.ending(ending, None)}"
+        if len(run.stopped) > ROWS:
+            yield f"and {len(run.stopped) - ROWS} more connections that were not read to the end"
+        if run.by_number:
+            yield f"{len(run.by_number)} {tables.by_number(run.by_number)}"
 
     def short(self):
         """By table whose rarest rows were forgotten, how much too low a count of it may be."""

@@ -9,6 +9,7 @@ const HELP = {
   watches: "Set: by a request that asked for a watch and could set one, or again by setWatches after a reconnection.",
   unanswered: "Requests that had no reply when the recording or the connection ended.",
   notCaptured: "Their replies may be among the bytes that are missing. The pictures leave them out.",
+  notKnown: "The reading stopped before their replies could come. The pictures leave them out.",
 };
 
 function cellText(kind, value) {

@@ -13,6 +13,7 @@ def lines_of(found):
     yield (f"{found.run.whole} connections, {len(found.sessions)} sessions, {counts['messages']} messages, "
            f"{counts['asked']} requests, {counts['failed']} failed, {counts['unanswered']} unanswered, "
            + (f"{counts['notCaptured']} replies not captured, " if counts["notCaptured"] else "")
+           + (f"{counts['notKnown']} not known, " if counts["notKnown"] else "")
            + f"{counts['events']} events")
     if found.begun is not None:
         yield f"from {zkr.clock(found.begun)} to {zkr.clock(found.ended)}"
@@ -20,6 +21,7 @@ def lines_of(found):
         yield f"{counts['timed']} of {counts['answered']} replies timed"
     for warning in found.run.warnings:
         yield f"not read: {printable(warning)}"
+    yield from map(printable, found.headlines())
     left_out, short = found.rows_left_out(), found.short()
     for name, rows in found.tables.items():
         if rows:

@@ -6,10 +6,11 @@ at once; events of watches are instants. Times are microseconds since 1970.
 
 import json
 
-from .. import zkr
 from . import paths
+from .. import listing, zkr
 
 MOST = 2 ** 53
+FACTS = {listing.UNANSWERED: "answered", listing.NOT_CAPTURED: "captured", listing.NOT_KNOWN: "known"}
 
 
 class Trace:
@@ -28,8 +29,8 @@ class Trace:
             self.out.flush()
 
     def request(self, connection, asked, made):
-        """Takes a request and its reply, or None if it has none, or its reply may be among missing bytes. A reply with
-        a time before its request's ends it at once: an end before its beginning would be shown as none."""
+        """Takes a request and its reply, or None if it has none, or it isn't known whether it has one. A reply with a
+        time before its request's ends it at once: an end before its beginning would be shown as none."""
         if asked.moment is None or made and made.moment is None:
             return
         self.ids += 1
@@ -42,7 +43,7 @@ class Trace:
             end, facts = max(made.moment, asked.moment), {"message": made.n, "error": made.error}
         else:
             end = max(connection.known.ended, asked.moment)
-            facts = {"answered": False} if asked.captured else {"captured": False}
+            facts = {FACTS[asked.fate]: False}
         self.put(ph="e", ts=microseconds(end), args=facts, **where)
 
     def event(self, connection, made, path):

@@ -1,7 +1,7 @@
 /* The messages of a recording as columns, for the tools in Python beside it.
  *
- *     zkcolumns [--json HEAD] [--lines] [--times FILE] [--limit N] [--profile RELEASE]
- *         [--path PATH ..] RECORDING
+ *     zkcolumns [--json HEAD] [--lines] [--times FILE] [--limit N] [--waiting N] [--profile RELEASE]
+ *         [--operations NAMES] [--errors NAMES] [--path PATH ..] RECORDING
  *
  * Standard output gets blocks, each a `struct head`, then its records, patches, paths and text. The first block has
  * names of numbers as text, and the last one the requests that wait and the ending line. A message's text is its JSON
@@ -48,24 +48,43 @@ static void put_name(struct bytes *out, const char *before, int32_t number, cons
 
 static void write_names(struct state *state) {
     struct bytes *out = &state->text;
-    put_text(out, "{\"operations\":{\"1000\":\"connect\",\"1001\":\"event\"");
+    put_text(out, "{\"operations\":{");
+    put_name(out, "", OP_CONNECT, "connect");
+    put_name(out, ",", OP_EVENT, "event");
     for (int32_t number = -200; number <= 200; number++) put_name(out, ",", number, line_operation_name(number));
-    put_text(out, "},\"errors\":{\"\":\"\"");
-    for (int32_t number = -200; number <= 200; number++) put_name(out, ",", number, line_error_name(number));
     put_text(out, "},\"events\":{\"\":\"\"");
     for (int32_t number = -200; number <= 200; number++) put_name(out, ",", number, line_event_name(number));
     put_text(out, "}}");
     write_block(state, BLOCK_NAMES);
 }
 
-/* Takes bytes of a side; false at a fault. */
+/* Takes what a side's step used of the bytes. A frame that isn't whole is kept. */
+static void take_step(struct state *state, uint32_t side, const uint8_t *bytes, const struct zk_passed *passed) {
+    struct bytes *frame = state->frames + side;
+    state->taken[side] += passed->used;
+    if (passed->went == ZK_WITHIN || frame->end > 0) put(frame, bytes, passed->used);
+    if (passed->went == ZK_WITHIN) return;
+    const uint8_t *payload = (frame->end > 0 ? frame->at : bytes) + 4;
+    state->whole[side]++;
+    if (passed->went == ZK_MESSAGE) take_message(state, side, payload);
+    else take_left_out(state, side, passed, payload);
+    frame->end = 0;
+}
+
+/* Takes bytes of a side; false at a fault, and where a request would be one more than may wait. */
 static bool take_bytes(struct state *state, uint32_t side, const uint8_t *bytes, size_t length) {
     while (length > 0) {
-        struct zk_step step = zk_talk_step(&state->talk, side, bytes, length);
-        if (step.status != ZK_WELL) return false;
-        bytes += step.used;
-        length -= step.used;
-        if (step.whole) take_message(state, side, bytes, step.used);
+        struct zk_passed passed = zk_through_step(&state->through, side, bytes, length);
+        if (passed.status != ZK_WELL) return false;
+        if (passed.went == ZK_FULL) {
+            state->is_full = true;
+            do state->taken[side]++;
+            while (zk_through_step(&state->through, side, bytes++, 1).went == ZK_WITHIN);
+            return false;
+        }
+        take_step(state, side, bytes, &passed);
+        bytes += passed.used;
+        length -= passed.used;
     }
     return true;
 }
@@ -77,6 +96,56 @@ static int by_number(const void *one, const void *other) {
     return a < b ? -1 : a > b;
 }
 
+static void put_field(struct bytes *out, const char *before, int64_t number) {
+    put_text(out, before);
+    put_number(out, number);
+}
+
+/* The name of a reason, as lines have it: BadText for BAD_TEXT. */
+static void put_reason(struct bytes *out, const char *name) {
+    for (const char *at = name; *at != 0; at++) {
+        bool first = at == name || at[-1] == '_';
+        char letter = first || *at < 'A' || *at > 'Z' ? *at : (char)(*at - 'A' + 'a');
+        if (*at != '_') put(out, &letter, 1);
+    }
+}
+
+static void put_refusal(struct bytes *out, const struct zk_fault *fault) {
+    put_text(out, ". refused side=");
+    put_text(out, fault->side == ZK_CLIENT ? "C" : "S");
+    put_field(out, " frame=", (int64_t)fault->frame);
+    put_field(out, " offset=", (int64_t)fault->offset);
+    put_field(out, " place=", fault->place);
+    put_text(out, " reason=");
+    put_reason(out, zk_status_name(fault->reason));
+    if (fault->reason != ZK_XID_ORDER) return;
+    put_field(out, " expected=", fault->expected);
+    put_field(out, " got=", fault->got);
+}
+
+/* The ending line. */
+static void put_ending(struct state *state, bool refused) {
+    struct bytes *out = &state->text;
+    struct zk_ending ending = zk_through_finish(&state->through);
+    if (state->is_full) {
+        put_refusal(out, &(struct zk_fault){.frame = state->whole[ZK_CLIENT], .offset = state->taken[ZK_CLIENT],
+                                            .side = ZK_CLIENT, .reason = ZK_QUEUE_FULL});
+    } else if (state->recording.damage != NULL && !refused) {
+        put_field(out, ". recording offset=", (int64_t)state->recording.offset);
+        put_text(out, " reason=");
+        put_text(out, state->recording.damage);
+    } else if (ending.kind == ZK_REFUSED) {
+        put_refusal(out, &ending.fault);
+    } else if (ending.kind == ZK_CUT) {
+        put_text(out, ". cut side=");
+        put_text(out, ending.side == ZK_CLIENT ? "C" : "S");
+        put_field(out, " frame=", (int64_t)ending.frame);
+        put_field(out, " got=", ending.got);
+    } else {
+        put_field(out, ". whole unanswered=", ending.unanswered);
+    }
+}
+
 static void write_end(struct state *state, bool refused) {
     if (state->records.end > 0) write_block(state, BLOCK_MESSAGES);
     for (size_t i = 0; i < LANES; i++) {
@@ -86,30 +155,22 @@ static void write_end(struct state *state, bool refused) {
             struct asked asked = answer(lane, &paths);
             struct record record = {.n = asked.n, .moment = asked.moment, .asked_moment = (double)NAN, .side = 'C',
                                     .microseconds = (double)NAN, .xid = asked.xid, .operation = asked.operation};
-            record.flags = asked.operation == OP_CONNECT ? asked.flags & FLAG_MADE_UP : FLAG_XID;
+            record.flags = asked.operation == OP_CONNECT ? asked.flags & FLAG_MADE_UP
+                                                         : FLAG_XID | (asked.flags & FLAG_BY_NUMBER);
             put_path(state, &record, &asked, paths);
             put(&state->records, &record, sizeof record);
         }
     }
     if (state->records.end > 0)
         qsort(state->records.at, state->records.end / sizeof(struct record), sizeof(struct record), by_number);
-    if (state->recording.damage != NULL && !refused) {
-        put_text(&state->text, ". recording offset=");
-        put_number(&state->text, (int64_t)state->recording.offset);
-        put_text(&state->text, " reason=");
-        put_text(&state->text, state->recording.damage);
-    } else {
-        struct zk_line line = zk_talk_ending_line(&state->talk, room_for(&state->text, 1024), 1024);
-        if (line.status != ZK_WELL) stop(STATUS_SYSTEM, "out of memory");
-        state->text.end += line.length;
-    }
+    put_ending(state, refused);
     write_block(state, BLOCK_END);
     if (fflush(stdout) != 0) stop(STATUS_SYSTEM, "write failed");
 }
 
 static void let_go(struct state *state) {
-    struct bytes *all[] = {&state->records, &state->patches, &state->paths, &state->text, &state->payload,
-                           &state->line, &state->of_message};
+    struct bytes *all[] = {&state->records, &state->patches, &state->paths, &state->text, state->frames,
+                           state->frames + 1, &state->line, &state->of_message};
     for (size_t i = 0; i < sizeof all / sizeof *all; i++) free(all[i]->at);
     for (size_t i = 0; i < LANES; i++) {
         free(state->lanes[i].asked.at);
@@ -122,7 +183,7 @@ static void let_go(struct state *state) {
     }
     free(state->fields);
     free(state->chosen);
-    zk_talk_free(&state->talk);
+    zk_through_free(&state->through);
 }
 
 /* ---- The words */
@@ -133,28 +194,26 @@ static uint32_t profile_of(const char *release) {
 }
 
 static const char *words_of(struct state *state, int count, char **words, const char **times) {
-    struct recording *recording = &state->recording;
-    uint32_t limit = 4194304, profile = ZK_PROFILE_34;
     int at = 1;
     for (; at < count - 1 && strncmp(words[at], "--", 2) == 0; at++) {
         const char *word = words[at];
         if (strcmp(word, "--lines") == 0) state->lines = true;
         else if (strcmp(word, "--json") == 0) state->json = words[++at];
         else if (strcmp(word, "--times") == 0) *times = words[++at];
-        else if (strcmp(word, "--limit") == 0) limit = (uint32_t)strtoul(words[++at], NULL, 10);
-        else if (strcmp(word, "--profile") == 0) profile = profile_of(words[++at]);
+        else if (strcmp(word, "--limit") == 0) state->limit = (uint32_t)strtoul(words[++at], NULL, 10);
+        else if (strcmp(word, "--waiting") == 0) state->waiting = (uint32_t)strtoul(words[++at], NULL, 10);
+        else if (strcmp(word, "--profile") == 0) state->profile = profile_of(words[++at]);
+        else if (strcmp(word, "--operations") == 0) more_operations = words[++at];
+        else if (strcmp(word, "--errors") == 0) more_errors = words[++at];
         else if (strcmp(word, "--path") == 0) state->chosen[state->chosen_count++] = words[++at];
         else stop(STATUS_WORDS, "usage: zkcolumns [OPTION ..] RECORDING");
     }
     if (at != count - 1) stop(STATUS_WORDS, "usage: zkcolumns [OPTION ..] RECORDING");
-    recording->client = recording->server = limit;
-    recording->waiting = 65536;
-    recording->profile = profile;
     return words[at];
 }
 
 int main(int count, char **words) {
-    struct state state = {.fields_room = 64};
+    struct state state = {.fields_room = 64, .limit = LARGEST_FRAME, .waiting = MOST_WAITING, .profile = ZK_PROFILE_34};
     struct recording *recording = &state.recording;
     state.head.begun = state.head.ended = (double)NAN;
     state.head.first = INT64_MAX;
@@ -163,8 +222,7 @@ int main(int count, char **words) {
     if (state.chosen == NULL || state.fields == NULL) stop(STATUS_SYSTEM, "out of memory");
     const char *times = NULL, *path = words_of(&state, count, words, &times);
     open_recording(recording, path, times);
-    uint32_t status = zk_talk_new(&state.talk, recording->client, recording->server, recording->waiting,
-                                  recording->profile);
+    uint32_t status = zk_through_new(&state.through, state.limit, state.limit, state.waiting, state.profile);
     if (status != ZK_WELL) stop(status == ZK_RANGE ? STATUS_WORDS : STATUS_SYSTEM, zk_status_name(status));
     write_names(&state);
     bool good = true;

@@ -3,7 +3,7 @@
 #ifndef COLUMNS_H
 #define COLUMNS_H
 
-#include "names.h"
+#include "in_lines.h"
 #include "zk.h"
 
 #include <math.h>
@@ -14,6 +14,8 @@
 /* Statuses beside 0: what Python alone reports, before anything was written, and what the system refuses. */
 enum { STATUS_WORDS = 2, STATUS_SYSTEM = 3, STATUS_NOT_READ = 4 };
 enum { LARGEST_PIECE = 16777220, LONGEST_TIME = 32, BLOCK = 1 << 16, MULTI = 14 };
+/* The greatest payload of a frame, and how many requests may wait. */
+enum { LARGEST_FRAME = 16777216, MOST_WAITING = 1048576 };
 /* From these milliseconds on a double has not each of them. */
 #define TOO_COARSE 9007199254740992.0
 
@@ -43,11 +45,11 @@ struct source {
 
 /* A recording that is being read, and what is known of its present piece: its side, its size, how many of its bytes are
  * still to come, and its time, which is NAN if there is none, with its spelling, and in `time` as the head of a piece
- * has it. `damage` is the reason of a damage, at `offset`. */
+ * has it. `damage` is the reason of a damage, at `offset`. The bounds in the head of a ZKR2 recording are not used. */
 struct recording {
     struct source bytes, times;
     bool is_zkr2, has_times;
-    uint32_t client, server, waiting, profile, side;
+    uint32_t side;
     uint64_t offset;
     size_t size, left;
     double moment;
@@ -96,6 +98,17 @@ struct asked answer(struct lane *lane, const uint8_t **paths);
 /* The next of several paths; its length is -1 for null. */
 const uint8_t *next_path(const uint8_t **paths, int32_t *length);
 
+/* ---- Names (names.c) */
+
+/* The names of operations and errors that the library may lack, as NUMBER=NAME with commas between them. */
+extern const char *more_operations, *more_errors;
+
+/* Puts the name of an operation, or else its number. */
+void put_operation(struct bytes *out, int32_t number);
+
+/* Puts the name of an error after this text, if it has one; whether it has. */
+bool put_error(struct bytes *out, const char *before, int32_t number);
+
 /* ---- JSON (json.c) */
 
 /* What Python writes in place of bytes of the text, which isn't ASCII: a text that is part of a value, one as a whole,
@@ -107,7 +120,7 @@ struct patch {
     uint32_t length, kind;
 };
 
-/* A message with its fields. `paths` are those of the request that it answers, if `asked` isn't null; `is_long` says
+/* A message with its fields; where it is shown by number, it has none. `paths` are those of the request that it answers, if `asked` isn't null; `is_long` says
  * that its line as `zkdump show` writes it, or its request's path there, has more than BLOCK characters. */
 struct message {
     struct zk_message view;
@@ -116,7 +129,7 @@ struct message {
     const uint8_t *payload;
     const struct zk_field *fields;
     size_t count;
-    bool is_long;
+    bool is_long, by_number;
     const char *at;
     double microseconds;
     int64_t took; /* whole milliseconds; 0 where the times are not whole */

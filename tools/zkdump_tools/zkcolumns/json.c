@@ -103,18 +103,22 @@ static void put_hexadecimal(struct bytes *out, int64_t number) {
     put(out, text, (size_t)length);
 }
 
-/* A number and, where it has a name, that under a name of its own. */
-static void put_code(struct bytes *out, const char *field, int64_t number, const char *name) {
-    put_text(out, ", \"");
-    put_text(out, field);
-    put_text(out, "\": ");
+/* The kind of an event and, where it has a name, that under a name of its own. */
+static void put_kind(struct bytes *out, int64_t number) {
+    const char *name = line_event_name(number);
+    put_text(out, ", \"kind\": ");
     put_number(out, number);
     if (*name == 0) return;
-    put_text(out, ", \"");
-    put_text(out, field);
-    put_text(out, "Name\": \"");
+    put_text(out, ", \"kindName\": \"");
     put_text(out, name);
     put_text(out, "\"");
+}
+
+/* An error, in the same way. */
+static void put_err(struct bytes *out, int32_t number) {
+    put_text(out, ", \"err\": ");
+    put_number(out, number);
+    if (put_error(out, ", \"errName\": \"", number)) put_text(out, "\"");
 }
 
 /* Whole microseconds as milliseconds, as Python spells the float; `took` where that isn't exact (milliseconds in
@@ -251,7 +255,7 @@ static void put_field(struct walk *walk) {
     const uint8_t *content = message->payload + field->place;
     struct bytes *out = walk->out;
     if (field->name == ZK_NAME_TYPE && message->view.kind == ZK_EVENT) {
-        put_code(out, "kind", field->number, line_event_name(field->number));
+        put_kind(out, field->number);
         return;
     }
     put_text(out, key_of(field->name));
@@ -288,8 +292,7 @@ static void put_parts(struct walk *walk) {
         put_text(walk->out, part->number == -1 ? "fail" : line_operation_name((int32_t)part->number));
         put_text(walk->out, "\"");
         if (part->number == -1) {
-            int64_t err = message->fields[walk->next++].number;
-            put_code(walk->out, "err", err, line_error_name((int32_t)err));
+            put_err(walk->out, (int32_t)message->fields[walk->next++].number);
             if (left > 0) {
                 put_text(walk->out, ", \"asked\": ");
                 put_string(walk->out, walk->patches, path, length, PATCH_WHOLE_TEXT);
@@ -303,9 +306,10 @@ static void put_parts(struct walk *walk) {
 }
 
 /* The name of an operation, of a connect message or of an event. */
-static const char *name_of(const struct zk_message *view) {
-    if (view->kind == ZK_EVENT) return "event";
-    return view->kind == ZK_CONNECT || view->kind == ZK_CONNECTED ? "connect" : line_operation_name(view->operation);
+static void put_name(struct bytes *out, const struct zk_message *view) {
+    if (view->kind == ZK_EVENT) put_text(out, "event");
+    else if (view->kind == ZK_CONNECT || view->kind == ZK_CONNECTED) put_text(out, "connect");
+    else put_operation(out, view->operation);
 }
 
 /* How long a reply took, the number of its request, and the path of that. */
@@ -337,14 +341,14 @@ void put_json(struct bytes *out, struct bytes *patches, const char *head, const 
         put_number(out, view->xid);
     }
     put_text(out, ", \"op\": \"");
-    put_text(out, name_of(view));
-    put_text(out, "\"");
+    put_name(out, view);
+    put_text(out, message->by_number ? "\", \"decoded\": false" : "\"");
     if (view->kind == ZK_REPLY || view->kind == ZK_EVENT) {
         put_text(out, ", \"zxid\": ");
         put_hexadecimal(out, view->zxid);
     }
-    if (view->kind == ZK_REPLY && view->err != 0) put_code(out, "err", view->err, line_error_name(view->err));
-    else if (ordinary && view->operation == MULTI) put_parts(&walk);
+    if (view->kind == ZK_REPLY && view->err != 0) put_err(out, view->err);
+    else if (ordinary && view->operation == MULTI && !message->by_number) put_parts(&walk);
     bool has_ro = message->count > 0 && message->fields[message->count - 1].name == ZK_NAME_READ_ONLY;
     while (walk.next < message->count) put_field(&walk);
     if ((view->kind == ZK_CONNECT || view->kind == ZK_CONNECTED) && !has_ro) put_text(out, ", \"ro\": null");

@@ -5,30 +5,21 @@ enum { MOST_RECORDS = 16384, MOST_TEXT = 1 << 20, PATH_FIELDS = 2 };
 
 /* The fields of a side's message: all of them, or the first ones. */
 static size_t read_fields(struct state *state, uint32_t side, bool all) {
-    struct zk_read read = zk_talk_fields(&state->talk, side, state->fields, state->fields_room);
+    struct zk_read read = zk_through_fields(&state->through, side, state->fields, state->fields_room);
     if (read.status == ZK_ROOM && all) {
         struct zk_field *larger = realloc(state->fields, read.count * sizeof *larger);
         if (larger == NULL) stop(STATUS_SYSTEM, "out of memory");
         state->fields = larger;
         state->fields_room = read.count;
-        read = zk_talk_fields(&state->talk, side, state->fields, state->fields_room);
+        read = zk_through_fields(&state->through, side, state->fields, state->fields_room);
     }
     if (read.status != ZK_WELL && read.status != ZK_ROOM) stop(STATUS_SYSTEM, "a message without its fields");
     return read.status == ZK_ROOM ? state->fields_room : read.count;
 }
 
-/* A side's payload, which ends at `end` if its frame is whole in the `used` bytes before that. */
-static const uint8_t *payload_of(struct state *state, uint32_t side, uint32_t size, const uint8_t *end, size_t used) {
-    if (size <= used) return end - size + 4;
-    state->payload.end = 0;
-    struct zk_line found = zk_talk_payload(&state->talk, side, room_for(&state->payload, size), size);
-    if (found.status != ZK_WELL) stop(STATUS_SYSTEM, "a message without its payload");
-    return state->payload.at;
-}
-
 static void put_line(struct state *state, uint32_t side, struct bytes *to) {
-    struct zk_line line = zk_talk_line(&state->talk, side, room_for(to, 256), to->room - to->end);
-    if (line.status == ZK_ROOM) line = zk_talk_line(&state->talk, side, room_for(to, line.length), line.length);
+    struct zk_line line = zk_through_line(&state->through, side, room_for(to, 256), to->room - to->end);
+    if (line.status == ZK_ROOM) line = zk_through_line(&state->through, side, room_for(to, line.length), line.length);
     if (line.status != ZK_WELL) stop(STATUS_SYSTEM, "out of memory");
     to->end += line.length;
 }
@@ -167,6 +158,21 @@ static void take_request(struct state *state, const struct zk_message *view, con
     ask(lane_of(state->lanes, view->kind, view->xid), asked, ordinary ? &state->of_message : &(struct bytes){0});
 }
 
+/* The line of a message that is shown by number, as zkdump_tools/passages.py has it. */
+static void put_line_by_number(struct bytes *out, const struct message *message) {
+    put_text(out, message->side == ZK_CLIENT ? "C " : "S ");
+    put_number(out, message->view.xid);
+    put_text(out, " ?");
+    put_operation(out, message->view.operation);
+    if (message->side == ZK_CLIENT) return;
+    put_text(out, " zxid=");
+    put_number(out, message->view.zxid);
+    if (message->view.err == 0) return;
+    put_text(out, " err=");
+    put_number(out, message->view.err);
+    put_error(out, "/", message->view.err);
+}
+
 /* Appends a message: its text, and its record. Of a reply there is what it answers, with its paths. */
 static void put_message(struct state *state, const struct message *message, struct record *record) {
     record->text = state->text.end;
@@ -175,7 +181,8 @@ static void put_message(struct state *state, const struct message *message, stru
     } else if (state->lines || record->moment >= TOO_COARSE) {
         put_text(&state->text, message->at);
         record->at_length = (uint32_t)strlen(message->at);
-        if (state->lines) put_line(state, message->side, &state->text);
+        if (state->lines && message->by_number) put_line_by_number(&state->text, message);
+        else if (state->lines) put_line(state, message->side, &state->text);
         else if (message->asked != NULL) put_number(&state->text, message->asked->time);
     }
     record->text_length = (uint32_t)(state->text.end - record->text);
@@ -185,13 +192,13 @@ static void put_message(struct state *state, const struct message *message, stru
         write_block(state, BLOCK_MESSAGES);
 }
 
-void take_message(struct state *state, uint32_t side, const uint8_t *end, size_t used) {
-    struct zk_message view = zk_talk_view(&state->talk, side);
+void take_message(struct state *state, uint32_t side, const uint8_t *payload) {
+    struct zk_message view = zk_through_view(&state->through, side);
     struct record record = {.n = ++state->n, .zxid = view.zxid, .side = side == ZK_CLIENT ? 'C' : 'S'};
     bool ordinary = view.kind == ZK_REQUEST || view.kind == ZK_REPLY, parts = ordinary && view.operation == MULTI;
     bool is_event = view.kind == ZK_EVENT, is_asked = view.kind == ZK_REPLY || view.kind == ZK_CONNECTED;
     struct asked asked = {.n = state->n, .xid = view.xid};
-    const uint8_t *paths = NULL, *payload = payload_of(state, side, view.size, end, used);
+    const uint8_t *paths = NULL;
     record.operation = asked.operation = ordinary ? view.operation : is_event ? OP_EVENT : OP_CONNECT;
     record.xid = ordinary ? view.xid : 0;
     take_time(state, &record);
@@ -209,5 +216,38 @@ void take_message(struct state *state, uint32_t side, const uint8_t *end, size_t
                               .took = is_asked && !state->recording.has_times ? state->recording.time - asked.time : 0,
                               .asked = is_asked ? &asked : NULL, .paths = paths};
     message.is_long = state->json != NULL && is_long(state, side, view.size, message.asked, paths);
+    put_message(state, &message, &record);
+}
+
+static int64_t number_at(const uint8_t *at, size_t size) {
+    uint64_t number = 0;
+    for (size_t i = 0; i < size; i++) number = number << 8 | at[i];
+    return (int64_t)number;
+}
+
+void take_left_out(struct state *state, uint32_t side, const struct zk_passed *passed, const uint8_t *payload) {
+    bool is_reply = passed->went == ZK_ANSWERED;
+    struct zk_message view = {.kind = is_reply ? ZK_REPLY : ZK_REQUEST, .xid = passed->xid, .operation = passed->operation};
+    if (is_reply) {
+        view.zxid = number_at(payload + 4, 8);
+        view.err = (int32_t)number_at(payload + 12, 4);
+    }
+    struct record record = {.n = ++state->n, .zxid = view.zxid, .side = side == ZK_CLIENT ? 'C' : 'S', .xid = view.xid,
+                            .operation = view.operation, .flags = FLAG_XID | FLAG_BY_NUMBER};
+    struct asked asked = {.n = state->n, .xid = view.xid, .operation = view.operation, .flags = FLAG_BY_NUMBER};
+    const uint8_t *paths = NULL;
+    take_time(state, &record);
+    if (is_reply) {
+        asked = take_reply(state, &view, 0, &record, &paths);
+    } else {
+        asked.moment = record.moment;
+        asked.time = state->recording.time;
+        ask(lane_of(state->lanes, view.kind, view.xid), asked, &(struct bytes){0});
+    }
+    struct message message = {.view = view, .n = state->n, .side = side, .by_number = true,
+                              .at = isnan(record.moment) ? "" : state->recording.spelled,
+                              .microseconds = record.microseconds,
+                              .took = is_reply && !state->recording.has_times ? state->recording.time - asked.time : 0,
+                              .asked = is_reply ? &asked : NULL, .paths = paths};
     put_message(state, &message, &record);
 }

@@ -42,13 +42,13 @@ static uint32_t number_at(const uint8_t *at) {
     return (uint32_t)at[0] << 24 | (uint32_t)at[1] << 16 | (uint32_t)at[2] << 8 | at[3];
 }
 
-static uint32_t head_number(struct recording *recording, uint32_t least, uint32_t most) {
+/* Passes over a number of the head, which has to be in its range. */
+static void head_number(struct recording *recording, uint32_t least, uint32_t most) {
     if (fill(&recording->bytes, 4) < 4) stop(STATUS_NOT_READ, "the head is damaged");
     uint32_t number = number_at(recording->bytes.at);
     if (number < least || number > most) stop(STATUS_NOT_READ, "the head is damaged");
     use(&recording->bytes, 4);
     recording->offset += 4;
-    return number;
 }
 
 static void read_head(struct recording *recording) {
@@ -59,10 +59,10 @@ static void read_head(struct recording *recording) {
     use(bytes, 4);
     recording->offset = 4;
     if (!recording->is_zkr2) return;
-    recording->client = head_number(recording, 64, 16777216);
-    recording->server = head_number(recording, 64, 16777216);
-    recording->waiting = head_number(recording, 1, 1048576);
-    recording->profile = head_number(recording, ZK_PROFILE_34, ZK_PROFILE_35);
+    head_number(recording, 64, LARGEST_FRAME);
+    head_number(recording, 64, LARGEST_FRAME);
+    head_number(recording, 1, MOST_WAITING);
+    head_number(recording, ZK_PROFILE_34, ZK_PROFILE_35);
 }
 
 static bool damaged(struct recording *recording, size_t at, const char *reason) {

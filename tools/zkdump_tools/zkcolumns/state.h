@@ -12,10 +12,11 @@ enum {
     FLAG_NULL_PATH = 8,
     FLAG_CHOSEN = 16,
     FLAG_WATCH = 32,
-    FLAG_MADE_UP = 64
+    FLAG_MADE_UP = 64,
+    FLAG_BY_NUMBER = 128
 };
 /* In place of an operation's number. */
-enum { OP_CONNECT = 1000, OP_EVENT = 1001 };
+enum { OP_CONNECT = INT32_MIN, OP_EVENT = INT32_MIN + 1 };
 
 /* Of a block. `first` and `last` are the least and the greatest time where a double isn't exact. */
 struct head {
@@ -39,24 +40,28 @@ struct record {
 };
 
 struct state {
-    struct zk_talk talk;
+    struct zk_through through;
     struct recording recording;
+    uint32_t limit, waiting, profile;
     const char *json, **chosen;
     bool lines;
     size_t chosen_count, fields_room;
     struct zk_field *fields;
-    struct bytes records, patches, paths, text, payload, line, of_message;
+    struct bytes records, patches, paths, text, frames[2], line, of_message;
     struct lane lanes[LANES];
     struct head head;
-    uint64_t n;
+    bool is_full; /* one more request came than may wait */
+    uint64_t n, whole[2], taken[2]; /* of each side the whole frames, and the bytes that were taken */
 };
 
 /* Writes what was gathered as a block of this kind. */
 void write_block(struct state *state, uint32_t kind);
 
-/* Takes the message that a side's last step completed. Its frame ends at `end`, in a piece of which `used` bytes were
- * used by then. */
-void take_message(struct state *state, uint32_t side, const uint8_t *end, size_t used);
+/* Takes the message of a side's whole frame, which has this payload. */
+void take_message(struct state *state, uint32_t side, const uint8_t *payload);
+
+/* Takes a whole frame that is left out: a request whose operation the profile lacks, or the reply to it. */
+void take_left_out(struct state *state, uint32_t side, const struct zk_passed *passed, const uint8_t *payload);
 
 /* The path of a request that has one, in the block's paths. */
 void put_path(struct state *state, struct record *record, const struct asked *asked, const uint8_t *paths);

@@ -1,8 +1,8 @@
 //! Tests of refused memory: each call of the library whose memory is refused is made again, and returns the same.
 //!
 //! A call that runs out of memory returns what it does with ample memory when it is called again, and a step allocates
-//! nothing. tests/refusals.py runs the test over each worked example, which is on its standard input, and refuses one
-//! growth a run; with no input it goes over the first example that has a reply.
+//! nothing. tests/program/refused_memory.py runs the test over each worked example, which is on its standard input, and
+//! refuses one growth a run; with no input it goes over the first example that has a reply.
 use super::frames::{EXAMPLE, newer, same};
 use std::alloc::{AllocError, Global};
 use std::io::Read;

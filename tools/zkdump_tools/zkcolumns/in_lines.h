@@ -1,6 +1,6 @@
 /* Names that lines have, which are fewer than those of zk.h; written by dev/names.py. */
-#ifndef NAMES_H
-#define NAMES_H
+#ifndef IN_LINES_H
+#define IN_LINES_H
 
 #include "zk.h"
 
