@@ -1,5 +1,7 @@
 //! Which release this is.
 
+ghost use Rattle.std.specs.Prelude.{◌≡◌};
+
 /// The number of the release: a million for each major one, a thousand for each minor one, and the rest. `VERSION` and
 /// include/zk.h have the same (tests/release).
 #[unsafe(no_mangle)]
