@@ -35,7 +35,7 @@ STRICT = ("-Wall", "-Wextra", "-Wpedantic", "-Werror")
 CALLED = {"malloc", "realloc", "free", "memcpy", "memmove", "memset"}
 KEPT = {"nothing"}
 # Instructions of x86-64-v2, as a compiler uses them.
-LATER = re.compile(r"\t(pshufb|palignr|ptest|popcnt|pmul[hl][dr]\w*|pmin[su][bdw]|pmax[su][bdw]|pblend\w+|p(?:insr|extr)[bdq]|"
+LATER = re.compile(r"\t(pshufb|palignr|ptest|popcnt|pmul[hl][dr]\w*|p(?:min|max)(?:s[bd]|u[wd])|pblend\w+|p(?:insr|extr)[bdq]|"
                    r"pmov[sz]x\w+|pabs[bdw]|phadd\w+|round[sp][sd]|crc32\w*|pcmpgtq|pcmpeqq|packusdw)\b")
 # How many checks these have.
 PACKAGES, LIBRARIES = 6, 19
