@@ -79,7 +79,8 @@ def layout(libdir="lib"):
     files[f"{OWN}/{pages.RUN}"] = TOP / "crates" / "zkdump" / "stdin"
     files.update((f"{OWN}/{name}", TOP / name)
                  for name in ("README.md", "CHANGELOG.md", "SECURITY.md", "LICENSE", "VERSION"))
-    for folder, pattern in (("docs", "*.md"), ("tools", "*"), ("examples", "*"), ("wireshark", "*"), ("captures", "*")):
+    for folder, pattern in (("docs", "*.md"), ("docs", "*.png"), ("tools", "*"), ("examples", "*"), ("wireshark", "*"),
+                            ("captures", "*")):
         files.update((f"{OWN}/{path.relative_to(TOP)}", path) for path in folder_files(folder, pattern))
     return dict(sorted(files.items()))
 
