@@ -96,6 +96,8 @@ def plugin_names(lines):
         rows = re.findall(r'\{(?:NUMBER\()?(-?\d+)\)?, "(\w+)"\}', there)
         if kind == "operation":
             rows += [(each.number, each.name) for each in of_tools()["ALL"]]
+        elif kind == "error":       # those that zkdump_tools/errors.py has, for the same readers
+            rows = list(source.python_names("tools/zkdump_tools/errors.py")["NAMES"].items())
         names = with_others(source.names()[kind], {int(number): name for number, name in rows})
         entries = [f'{{{number if number >= 0 else f"NUMBER({number})"}, "{name}"}},'
                    for number, name in in_order(kind, names)]

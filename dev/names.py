@@ -164,6 +164,13 @@ def compare_parts():
                    f"{spelled(each.request)}")
 
 
+def compare_errors():
+    """The names of errors for readers, in zkdump_tools/errors.py: all of the sources', and of later releases more."""
+    found = source.python_names("tools/zkdump_tools/errors.py")["NAMES"]
+    yield from (f"tools/zkdump_tools/errors.py: {number} is {found.get(number)}, and in the sources {name}"
+                for number, name in source.names()["error"].items() if found.get(number) != name)
+
+
 def compare_bodies():
     """The layouts of which crates/talk_tests/make_bodies.py has written bodies; the results of multis have none."""
     name = "crates/talk_tests/src/tests/earliest/bodies.rt"
@@ -315,6 +322,7 @@ def compared():
     yield compare_faults(("Number", "Reason", "When"), "zk_items", "fault", "LineReason")
     yield compare_faults(("Reason", "It means"), "zk_talk", "say", "SayFault")
     yield compare_parts()
+    yield compare_errors()
     yield compare_bodies()
     yield compare_forms()
     yield compare_field_rows()
