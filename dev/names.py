@@ -17,11 +17,11 @@ import math
 import re
 import sys
 
-from . import formats, lists, source
+from . import formats, lists, newer, source
 from .source import TOP
 
 ENTRY = re.compile(r'-?\d+: "\w+"|\{[\w()-]+, "\w+"\}|\{-?\d+, (?:true|false)[^}]*\}'
-                   r"|(?<=[( ])-?\d+(?=, -?[\dI])")
+                   r"|(?<=[( ])-?\d+(?=, -?[\dI])|ZK_(?!NAME_)\w+ = -?\d+")
 # A kind of field in a line.
 LINES = {"int": "num", "long": "num", "bool": "bit", "texts": "list of text", "acl": "list of acl"}
 # How many bytes a field of a kind has.
@@ -303,7 +303,7 @@ def compare_ranges():
 
 def compare_calls():
     """The calls that the crate for C exports, and the header's for names, with those of docs/LIBRARY.md."""
-    calls = [*source.calls(), *(f"zk_{kind}_name" for kind in source.names())]
+    calls = [*source.calls(), *(f"zk_{kind}_name" for kind in newer.names())]
     there = set(re.findall(r"`(\w+)`", (TOP / "docs" / "LIBRARY.md").read_text()))
     yield from (f"docs/LIBRARY.md: no {name}" for name in calls if name not in there)
 

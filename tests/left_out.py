@@ -3,7 +3,7 @@
     left out: 4 checks of examples/go, since go is not here
 """
 
-# How many checks a part has that is left out as a whole. What has run is compared with this, so it stays near enough.
+# How many checks a part has that is left out as a whole. What has run is compared with this, so the order is right.
 CHECKS = {"what is linked with libzk": 12_000, "examples/listing.rs": 800, "the plugin for Wireshark": 11_500,
           "standard input and output that fail": 9_125, "memory that is refused": 20_000}
 
@@ -19,8 +19,9 @@ def say(part, why, checks=None):
 
 
 def compared(part, checks):
-    """A check of a part that has run: its name, whether its number in CHECKS is near enough, and what is said if it isn't."""
-    good = abs(checks - CHECKS[part]) <= checks // 5
+    """A check of a part that has run: its name, whether it has between half and twice its number in CHECKS, and what is
+    said if it hasn't."""
+    good = checks <= 2 * CHECKS[part] and CHECKS[part] <= 2 * checks
     return part, good, f"{part} has {checks:,} checks, and CHECKS of tests/left_out.py says {CHECKS[part]:,}"
 
 

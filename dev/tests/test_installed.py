@@ -58,6 +58,10 @@ class Installed(ToolCase):
             cls.left = list(install.install(cls.top))
         cls.names = [name for name, _ in install.commands()]
 
+    def setUp(self):
+        super().setUp()
+        signal.alarm(900)       # each runs many commands
+
     def test_no_link_leads_nowhere(self):
         own, found = self.top / install.OWN, 0
         for page in sorted(own.rglob("*.md")):
@@ -86,7 +90,6 @@ class Installed(ToolCase):
 
     def test_the_commands_of_the_pages_run(self):
         for number, name in enumerate(MAIN):
-            signal.alarm(900)
             top = self.folder / f"{number}" / "usr"
             shutil.copytree(self.top, top, symlinks=True)
             folder = There(top, self.folder / f"home{number}", 120)

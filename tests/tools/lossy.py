@@ -1,12 +1,11 @@
 """Made conversations of today's clients, of which packets were not captured, and what may be said of them.
 
 A Talk knows which messages were sent, which reply is to which request, and of which packets each consists. A Loss says
-which bytes were captured. What pcap2zkr.py makes of the capture is held against these two: `faults` lists what is wrong.
+which bytes were captured. A Check holds what pcap2zkr.py makes of the capture against these two: its `faults` say what
+is wrong.
 """
 
-import bisect
 import collections
-import random
 import struct
 
 from . import wire
@@ -58,8 +57,8 @@ class Talk:
             self.answer([self.say(CLIENT, self.header(-11))])
 
     def connect(self, count, depth):
-        """The connect messages; some clients send requests at once, behind their connect request."""
-        begun = self.say(CLIENT, struct.pack(">iqiqi", 0, 0, 30_000, 0, 16) + bytes(16) + b"\0" * self.chance.choice([0, 1]))
+        """The connect messages; some clients send requests at once, after their connect request."""
+        begun = self.say(CLIENT, struct.pack(">iqiqi", 0, 0, 30_000, 0, 16) + bytes(16 + self.chance.choice([0, 1])))
         for _ in range(self.chance.choice([0, 0, 1, 2, 5]) if depth > 1 else 0):
             self.request()
         self.say(SERVER, struct.pack(">iiqi", 0, 30_000, self.session, 16) + self.chance.randbytes(16) + b"\0", begun)
@@ -124,9 +123,11 @@ class Talk:
         data, path = self.chance.randbytes(self.chance.choice([0, 1, 40, 900])), self.path()
         names = struct.pack(">i", 2) + buffer(b"n%d" % self.zxid) + buffer(b"m")
         end = struct.pack(">i?i", -1, True, -1)
-        body = {1: path, 9: path, 15: path + stat, 19: path + stat, 21: path + stat, 3: stat, 5: stat, 4: buffer(data) + stat,
-                6: OPEN_ACL + stat, 8: names, 12: names + stat, 103: names, 104: struct.pack(">i", 7),
-                14: struct.pack(">i?i", 1, False, 0) + path + end, 22: struct.pack(">i?i", 4, False, 0) + buffer(data) + stat + end,
+        body = {1: path, 9: path, 15: path + stat, 19: path + stat, 21: path + stat, 3: stat, 5: stat,
+                4: buffer(data) + stat, 6: OPEN_ACL + stat, 8: names, 12: names + stat, 103: names,
+                104: struct.pack(">i", 7),
+                14: struct.pack(">i?i", 1, False, 0) + path + end,
+                22: struct.pack(">i?i", 4, False, 0) + buffer(data) + stat + end,
                 102: buffer(data), 107: struct.pack(">i", 1) + buffer(b"world") + buffer(b"anyone")}[kind]
         return self.say(SERVER, head + bytes(4) + body, asked)
 
@@ -135,8 +136,8 @@ class Talk:
         return self.say(SERVER, EVENT + struct.pack(">qiii", -1, 0, self.chance.choice([1, 2, 3, 4]), 3) + path)
 
     def segments(self, begun=wire.BEGUN):
-        """The segments: a message each, or several of one side together, or cut anywhere. Clients acknowledge at once or
-        later, some with segments of their own, and the connection ends or not."""
+        """The segments: a message each, or several of one side together, or cut anywhere. Clients acknowledge at once
+        or later, some with segments of their own, and the connection ends or not."""
         chance, places = self.chance, {CLIENT: 0, SERVER: 0}
         joins, most = chance.random() < 0.5, chance.choice([1448, 1448, 300, 60])
         said = []
@@ -205,17 +206,16 @@ class Loss:
     def shows(self, message):
         """Whether the capture shows that the server sent more than the beginning of this reply, by what it acknowledged
         or by a later number; so that its missing bytes are known to be missing."""
-        last = message.end - 2
-        for at in self.captured:
-            each = self.sent[at]
-            if each.side == SERVER and not each.flags & wire.SYN and each.number + len(each.data) - self.first[SERVER] > last \
-                    or each.side == CLIENT and each.flags & wire.ACK and each.acknowledged - self.first[SERVER] > last:
+        last = message.end - 2 + self.first[SERVER]
+        for each in map(self.sent.__getitem__, self.captured):
+            if each.side == SERVER and not each.flags & wire.SYN and each.number + len(each.data) > last \
+                    or each.side == CLIENT and each.flags & wire.ACK and each.acknowledged > last:
                 return True
         return False
 
 
 def cut(recording):
-    """The frames of a recording, each its side, its bytes and the number of its piece; and what is left of each side."""
+    """The frames of a recording, each its side, its bytes and the number of its piece; and what is left of a side."""
     held, found = {CLIENT: b"", SERVER: b""}, []
     for number, piece in enumerate(pieces(recording)):
         data = held[piece.side] + piece.data
@@ -228,8 +228,8 @@ def cut(recording):
 
 
 class Check:
-    """What is wrong with the recordings that were made of a connection: `faults`. `made` has of each its bytes, its times
-    and its facts, in the order of its parts, and `lines` are those that were printed."""
+    """What is wrong with the recordings that were made of a connection: `faults`. `made` has of each its bytes, its
+    times and its facts, in the order of its parts, and `lines` are those that were printed."""
 
     def __init__(self, loss, made, lines):
         self.loss, self.talk, self.made, self.lines, self.faults = loss, loss.talk, made, lines, []
@@ -297,14 +297,14 @@ class Check:
                     self.answered.add(0)
                     connect = None
             elif not made_up and said[side] == 1:
-                self.fault("message", message.number, "stands for a connect message")
+                self.fault("message", message.number, "is in the place of a connect message")
             elif side == CLIENT:
                 lanes[message.lane()].append(message)
             elif message.of:
                 lane = lanes[message.of.lane()]
                 asked = lane.popleft() if lane else None
                 if asked is not message.of and not (asked and message.of.lane() and self.are_alike(asked, message.of)):
-                    self.fault("reply", message.number, "to", message.of.number, "stands beside",
+                    self.fault("reply", message.number, "to", message.of.number, "is paired with",
                                asked and asked.number, "in part", known.part)
                 elif asked:
                     self.answered.add(message.of.number)
@@ -327,7 +327,8 @@ class Check:
     def unanswered(self, asked, known):
         reply = asked.reply
         if reply and self.loss.has(reply):
-            self.fault("request", asked.number, "counts as unanswered in part", known.part, "and its reply was captured")
+            self.fault("request", asked.number, "counts as unanswered in part", known.part, "and its reply was "
+                       "captured")
         elif reply and self.loss.shows(reply):
             self.fault("request", asked.number, "counts as unanswered in part", known.part, "and its reply is known to "
                        "be lost")

@@ -81,8 +81,8 @@ class Interfaces(PcapCase):
         status, told, made = self.convert(wire.pcapng(packets[:5]) + other + wire.pcapng(packets[5:]))
         self.assertEqual((status, sides(made[0])), (1, (b"ask", LONG)))
         self.assertRegex(told[0], rf" packets=1-{len(packets) + 2} resent=0 closed=C$")
-        self.assertEqual(self.complaint, "pcap2zkr.py: packets of link type 249, as those of interface 2, can't be read "
-                         "and are passed over: capture at another interface, such as any or eth0\n")
+        self.assertEqual(self.complaint, "pcap2zkr.py: packets of link type 249, as those of interface 2, can't be "
+                         "read and are passed over: capture at another interface, such as any or eth0\n")
 
     def test_one_without_packets_is_no_matter(self):
         packets = packed(wire.conversation([ASK, REPLY]))

@@ -30,7 +30,7 @@ class RepliesCase(PcapCase):
 
 
 class Connecting(RepliesCase):
-    """Requests behind the connect request, of which one was not captured."""
+    """Requests after the connect request, of which one was not captured."""
 
     def test_the_response_is_the_one_that_was_captured(self):
         asked, answered = CONNECT
@@ -139,9 +139,10 @@ class Counted(RepliesCase):
     def test_two_connections_of_the_same_ends(self):
         said = [*CONNECT, ask(1), reply(1), ask(2), reply(2)]
         sent = [each for at, each in enumerate(wire.conversation(said)) if at != 7]
-        later = [each for at, each in enumerate(wire.conversation(said, numbers=(77_777, 88_888))) if at != 7]
+        later = [each._replace(milliseconds=each.milliseconds + 99)
+                 for at, each in enumerate(wire.conversation(said, numbers=(77_777, 88_888))) if at != 7]
         capture = self.folder / "c.pcap"
-        capture.write_bytes(capture_of([*sent, *[each._replace(milliseconds=each.milliseconds + 99) for each in later]]))
+        capture.write_bytes(capture_of([*sent, *later]))
         _, out, _ = self.run_inside("zkreport.py", "--text", capture)
         self.assertRegex(out, "^2 connections, 1 sessions, ")
 

@@ -32,7 +32,7 @@ def exists(xid):
 
 
 def recording(frames, form=">cI", head=b"ZKR1", cut=None):
-    """A recording of the connect frames and these, one frame a piece, or in pieces of so many bytes."""
+    """A recording of the connect frames and these, one frame a piece, or in pieces of this many bytes."""
     made = head
     for at, (side, payload) in enumerate([(b"C", CONNECT), (b"S", CONNECTED), *frames]):
         whole = len(payload).to_bytes(4, "big") + payload
@@ -148,7 +148,8 @@ class Reading(ReadingCase):
             found = self.counts("--profile", "3.4", path)
             self.assertEqual(found["operations"]["createTTL"]["errors"], {"NODEEXISTS": 1})
             self.assertEqual(found["operations"][str(NUMBER)]["errors"], {"NOWATCHER": 1})
-            self.assertEqual(found["byNumber"], {"createTTL": 1, str(NUMBER): 1, "setWatches2": 1, "-77": 1, "whoAmI": 1})
+            self.assertEqual(found["byNumber"], dict.fromkeys(("createTTL", str(NUMBER), "setWatches2", "-77",
+                                                                "whoAmI"), 1))
             took = {row["op"]: row["ms"] for row in found["slowest"]}
             self.assertEqual(took, {"connect": 10, "createTTL": 40, str(NUMBER): 50, "exists": 50, "setWatches2": 20,
                                     "-77": 20})
@@ -165,13 +166,14 @@ class Reading(ReadingCase):
             {"n": 6, "side": "C", "xid": -8, "op": "setWatches2", "decoded": False, "at": 1050},
             {"n": 7, "side": "S", "xid": 1, "op": "createTTL", "decoded": False, "zxid": "0x7", "err": -110,
              "errName": "NODEEXISTS", "at": 1060, "ms": 40.0, "of": 3},
-            {"n": 8, "side": "S", "xid": -8, "op": "setWatches2", "decoded": False, "zxid": "0x5", "at": 1070, "ms": 20.0,
-             "of": 6},
+            {"n": 8, "side": "S", "xid": -8, "op": "setWatches2", "decoded": False, "zxid": "0x5", "at": 1070,
+             "ms": 20.0, "of": 6},
             {"n": 9, "side": "S", "xid": 2, "op": str(NUMBER), "decoded": False, "zxid": "0x8", "err": -121,
              "errName": "NOWATCHER", "at": 1080, "ms": 50.0, "of": 4},
             {"n": 11, "side": "C", "xid": 4, "op": "-77", "decoded": False, "at": 1100},
             {"n": 12, "side": "C", "xid": 5, "op": "whoAmI", "decoded": False, "at": 1110},
-            {"n": 13, "side": "S", "xid": 4, "op": "-77", "decoded": False, "zxid": "0x5", "at": 1120, "ms": 20.0, "of": 11}])
+            {"n": 13, "side": "S", "xid": 4, "op": "-77", "decoded": False, "zxid": "0x5", "at": 1120, "ms": 20.0,
+             "of": 11}])
         self.assertEqual(ending, {"connection": str(path), "ending": "whole", "unanswered": 1, "waiting": [12]})
 
     def test_it_is_said(self):
@@ -354,8 +356,8 @@ class Parts(ToolCase):
         create, check = PATH + b"\0\0\0\1x" + acl + bytes(4), PATH + bytes(4)
         before = part(1, create) + part(13, check) + part(2, check) + part(5, PATH + b"\xff" * 4 + bytes(4))
         for parts, wanted in (
-                (part(15, create), True), (before + part(19, create), True), (before + part(21, create + bytes(8)), True),
-                (part(21, b""), True), (before, False), (before + part(-1, b"", 1), False), (part(14, b""), False),
+                (part(15, create), True), (before + part(19, create), True),
+                (before + part(21, create + bytes(8)), True), (part(21, b""), True), (before, False), (before + part(-1, b"", 1), False), (part(14, b""), False),
                 (part(4, PATH + b"\0"), False), (part(15, create, 1), False), (part(15, create, 0, 0), False),
                 (struct.pack(">iB", 15, 0), False), (part(1, create[:-1]) + part(15, create), False),
                 (part(2, b"\0\0\0\1\xff" + bytes(4)) + part(15, create), False),

@@ -62,6 +62,9 @@ class Unfinished(TroubleCase):
         status, out, _ = self.run_inside("zkreport.py", "--text", path)
         self.assertEqual((status, "whole, unfinished" in out, "not known: the recording is unfinished" in out),
                          (1, True, True), out)
+        status, out, _ = self.run_tool("zkfleet.py", "check", path)
+        self.assertEqual((status, out.splitlines()[0], out.splitlines()[2:]),
+                         (1, f"{path}: unfinished unanswered=1", ["       1 unfinished"]))
         capture = self.folder / "r.pcap"
         self.assertEqual(self.run_inside("zkr2pcap.py", path, capture)[0], 0)
         self.run_inside("pcap2zkr.py", capture, self.folder / "again")

@@ -111,6 +111,17 @@ class Zkskip(ToolCase):
             found, _ = self.skip(recording(frames, head), *words)
             self.assertEqual(sides(found), sides(recording(kept, head)))
 
+    def test_the_head_has_the_profile_by_which_it_was_made(self):
+        """So the program reads what stays, by the new head."""
+        frames = [request(1, 15, CREATE), request(2, NAMED.number, CREATE), reply(1, -110), reply(2)]
+        for profile, words, wanted in ((34, ["--profile=3.5"], 35), (35, ["--profile=3.4"], 34), (34, [], 34),
+                                       (35, [], 35)):
+            found, _ = self.skip(recording(frames, zkr.Head("zkr2", profile=profile)), *words)
+            self.assertEqual(found[:20], b"ZKR2" + struct.pack(">iiii", 4_194_304, 4_194_304, 65_536, wanted))
+            self.assertEqual(len(pieces(found)), 4 if wanted == 35 else 2)
+            if PROGRAM.exists():
+                self.assertEqual(self.show(found).splitlines()[-1], ". whole unanswered=0")
+
     def test_however_the_pieces_are_cut(self):
         frames = [request(1, 15, CREATE), request(2, 3, PATH + b"\0"), reply(1, 0, PATH), reply(2, -101)]
         whole, expected = pieces(recording(frames)), recording(frames[1::2])

@@ -8,9 +8,11 @@ connect request and connect response, with -1 for every number.
 import struct
 
 from . import contents, facts, frames, resync, zkr
+from .parts import Message, Part
 from .streams import SIDES
-from .stretches import EVENT, Message, Part, Stretches
+from .stretches import Stretches
 
+EVENT = resync.EVENT.to_bytes(4, "big", signed=True)
 # A connect request and a connect response that no peer sends: every number is -1, and the password is null.
 MADE_UP = {zkr.CLIENT: struct.pack(">iiqiqi", 28, -1, -1, -1, -1, -1),
            zkr.SERVER: struct.pack(">iiiqi", 20, -1, -1, -1, -1)}

@@ -33,8 +33,8 @@ class Facts(NamedTuple):
     the error that broke it; or it is still `open`. `late` says that it began before the capture, and `snapped` that
     packets were not captured whole. `lost` counts the bytes of each side that are missing before the recording, and
     `hole` names the sides of which bytes are missing after it. `skipped` counts captured bytes that are left out, and
-    `unasked` replies that are, where it begins with connect messages that were made up; `overlooked` says that no
-    request of it has a reply, and that replies may be among the bytes that are left out. `unfinished` says that the
+    `unasked` replies that are, where it begins with connect messages that were made up; `overlooked` says that replies
+    to its requests may be among what is left out, or was lost before a later recording. `unfinished` says that the
     recording is still being made, or that its end could not be written.
     """
     tool: Optional[str] = None

@@ -137,8 +137,8 @@ class Message:
 
     `fate` is what became of a request that waits: UNANSWERED, NOT_CAPTURED if its reply may be among bytes that are
     missing, or NOT_KNOWN if the reading stopped before its reply could come. `decoded` says that all of it was read,
-    and not its header alone, with its operation by name or number (passages.py). `connection` is the Connection that it belongs to; `made_up` says that pcap2zkr made it up, at the beginning of what
-    follows a loss. `error` is the name of a reply's error, or its number: of a failed multi, that of the part that
+    and not its header alone, with its operation by name or number (passages.py). `connection` is the Connection that it
+    belongs to; `made_up` says that pcap2zkr made it up, at the beginning of what follows a loss. `error` is the name of a reply's error, or its number: of a failed multi, that of the part that
     failed; and of an event, its kind. `at` is the message's time as it is spelled, `moment` the same as a number of
     milliseconds since 1970, from TOO_COARSE on of whole ones, and `microseconds`, or `ms`, how long a reply took,
     unless its time is before that of its request. `end` is the place after the operation in the line; `parts` is for

@@ -27,7 +27,8 @@ as that.
 A connection that began before the capture gets a line with `late`, and no recording. With --late it gets one, which
 begins in the same way as after missing bytes.
 
-The status is 1 if anything was left out, or if the capture has no connection to the port.
+Ctrl-C or SIGTERM ends the reading; connections that are still open get their lines. The status is 1 if anything was
+left out, or if the capture has no connection to the port.
 """
 
 import contextlib
@@ -89,8 +90,8 @@ class Capture:
         if link not in self.passed_over:
             self.passed_over.add(link)
             self.left_out = True
-            zkr.complain(f"packets of link type {link}, as those of interface {interface}, can't be read and are passed "
-                         "over: capture at another interface, such as any or eth0")
+            zkr.complain(f"packets of link type {link}, as those of interface {interface}, can't be read and are "
+                         "passed over: capture at another interface, such as any or eth0")
 
     def read(self, stream):
         """Reads a capture up to its end, or up to a signal."""

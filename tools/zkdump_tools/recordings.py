@@ -77,8 +77,8 @@ class Recording(zkr.Writer):
 
 
 def split_client(pieces, times, place, spans):
-    """Pieces with their times, of which the first one of the client begins at this place among its bytes, as `take_back`
-    returns them."""
+    """Pieces with their times, of which the first one of the client begins at this place among its bytes: as
+    `take_back` returns them."""
     spans = iter(spans)
     number, begin, size = next(spans)
     taken = bytearray()

@@ -14,7 +14,7 @@ import os
 import subprocess
 import sys
 
-from . import fleet, inputs, listing, passages, program, tables, zkr
+from . import facts, fleet, inputs, listing, passages, program, tables, zkr
 
 PLACES = ("side", "reason", "place")
 
@@ -36,7 +36,17 @@ def words_of(arguments=None, kind=zkr.Words):
 def partial(options, paths):
     """What `check` finds of each recording, or an Unread."""
     parser, words = words_of(options, fleet.Strict)
-    return [fleet.attempt(lambda path: check(parser, words, path), path) for path in paths]
+    return [fleet.attempt(lambda path: finished(check(parser, words, path), path), path) for path in paths]
+
+
+def finished(found, path):
+    """What was found of a recording; where it is whole, but its facts say that it is unfinished, that is its ending."""
+    ending, *more = found
+    try:
+        known = facts.read(path) if ending["ending"] == "whole" else None
+    except (OSError, ValueError):
+        known = None
+    return ({**ending, "ending": "unfinished"}, *more) if known and known.get("unfinished") is True else found
 
 
 def check(parser, words, path):

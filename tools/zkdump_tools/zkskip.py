@@ -6,8 +6,9 @@
 Left out are operations of later releases and of SASL, a check outside a multi, multis with parts of later releases, and
 auth under another xid than -4, which some Go clients send. Each has a line on standard error. Operations that no
 release has stay, and so does everything else. The new recording has the format of the old one, in a ZKR2 recording's
-head that profile, and one frame a piece, in the order of their last bytes; from where a side can no longer be cut into frames, its bytes stay as they are. If
-REC.zkr.times exists, PLAIN.zkr.times is written, too. Neither new file may exist already.
+head that profile, and one frame a piece, in the order of their last bytes; from where a side can no longer be cut into
+frames, its bytes stay as they are. If REC.zkr.times exists, PLAIN.zkr.times is written, too. Neither new file may exist
+already.
 """
 
 import collections

@@ -3,6 +3,7 @@
 #ifndef COLUMNS_H
 #define COLUMNS_H
 
+#include "in_lines.h"
 #include "zk.h"
 
 #include <math.h>
@@ -119,8 +120,9 @@ struct patch {
     uint32_t length, kind;
 };
 
-/* A message with its fields; where it is shown by number, it has none. `paths` are those of the request that it answers, if `asked` isn't null; `is_long` says
- * that its line as `zkdump show` writes it, or its request's path there, has more than BLOCK characters. */
+/* A message with its fields; where it is shown by number, it has none. `paths` are those of the request that it answers,
+ * if `asked` isn't null; `is_long` says that its line as `zkdump show` writes it, or its request's path there, has more
+ * than BLOCK characters. */
 struct message {
     struct zk_message view;
     uint64_t n;

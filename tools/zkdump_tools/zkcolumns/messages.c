@@ -227,7 +227,8 @@ static int64_t number_at(const uint8_t *at, size_t size) {
 
 void take_left_out(struct state *state, uint32_t side, const struct zk_passed *passed, const uint8_t *payload) {
     bool is_reply = passed->went == ZK_ANSWERED;
-    struct zk_message view = {.kind = is_reply ? ZK_REPLY : ZK_REQUEST, .xid = passed->xid, .operation = passed->operation};
+    struct zk_message view = {.kind = is_reply ? ZK_REPLY : ZK_REQUEST, .xid = passed->xid,
+                              .operation = passed->operation};
     if (is_reply) {
         view.zxid = number_at(payload + 4, 8);
         view.err = (int32_t)number_at(payload + 12, 4);
