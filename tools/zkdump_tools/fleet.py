@@ -86,7 +86,8 @@ def recordings_in(folder):
     so becomes a row."""
     found, seen = [], {zkr.real_path(folder)}
     for place, folders, names in os.walk(folder, onerror=lambda error: found.append(error.filename), followlinks=True):
-        found += [os.path.join(place, name) for name in names if name.endswith(".zkr")]
+        found += [os.path.join(place, name) for name in names if name.endswith(".zkr")
+                  or name.endswith(".zkr.gz") and name[:-len(".gz")] not in names]
         below = {zkr.real_path(os.path.join(place, name)): name for name in sorted(folders, reverse=True)}
         folders[:] = sorted(name for path, name in below.items() if path not in seen)
         seen.update(below)

@@ -6,7 +6,7 @@ import os
 import stat
 import subprocess
 
-from . import columns, facts, joined, listing, passages, program, zkr
+from . import columns, facts, joined, listing, packed, passages, program, zkr
 from .times import times_of
 
 UNREAD = object()
@@ -44,9 +44,12 @@ def conversations(parser, words, objects, progress, before_read=lambda: None, fa
     refuse_repetition(parser, words.inputs)
     for path in words.inputs or [listing.STANDARD_INPUT]:
         try:
-            with zkr.standard_input() if path == listing.STANDARD_INPUT else open(path, "rb") as stream:
-                talk = conversation(parser, words, path, stream, objects, progress, before_read, fast)
+            with packed.recording(path) as file, \
+                    zkr.standard_input() if path == listing.STANDARD_INPUT else open(file, "rb") as stream:
+                talk = conversation(parser, words, file, stream, objects, progress, before_read, fast)
                 talk.file = path
+                if file != path:
+                    talk.name = talk.connection.name = path
                 yield talk
         except zkr.Damaged as damage:
             raise ValueError(f"{words.recording or path}: {damage}") from None

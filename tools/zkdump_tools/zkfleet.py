@@ -14,7 +14,7 @@ import os
 import subprocess
 import sys
 
-from . import facts, fleet, inputs, listing, passages, program, tables, zkr
+from . import facts, fleet, inputs, listing, packed, passages, program, tables, zkr
 
 PLACES = ("side", "reason", "place")
 
@@ -36,7 +36,11 @@ def words_of(arguments=None, kind=zkr.Words):
 def partial(options, paths):
     """What `check` finds of each recording, or an Unread."""
     parser, words = words_of(options, fleet.Strict)
-    return [fleet.attempt(lambda path: finished(check(parser, words, path), path), path) for path in paths]
+
+    def one(path):
+        with packed.recording(path) as file:
+            return finished(check(parser, words, file), file)
+    return [fleet.attempt(one, path) for path in paths]
 
 
 def finished(found, path):
@@ -118,7 +122,8 @@ def paths_of(inputs):
 
 
 def is_no_list(path):
-    return path.startswith("@") or path.endswith(".zkr") or os.path.isdir(path) or zkr.is_recording(path)
+    return path.startswith("@") or path.endswith(".zkr") or os.path.isdir(path) or zkr.is_recording(path) \
+        or packed.is_packed(path)
 
 
 def main():

@@ -18,6 +18,7 @@ Options make faults, on each connection, in what this side sends. FRAMEs are cou
 frame's payload, as in zkdump's ending lines, and a FRAME alone is the place before its length.
 """
 
+import contextlib
 import errno
 import io
 import re
@@ -27,7 +28,7 @@ import sys
 import threading
 import time
 
-from . import addresses, contents, facts, frames, playing, program, running, zkr
+from . import addresses, contents, facts, frames, packed, playing, program, running, zkr
 
 LONGEST_WAIT = 1_000_000
 MOST_CONNECTIONS = range(1, 10_001)
@@ -206,9 +207,11 @@ def main():
     if sys.stdout is None:
         raise OSError(errno.EBADF, "standard output is closed")
     zkr.allow_many_files()
-    bench = Bench([(path, opener(parser, path, words)) for path in words.recordings], words)
-    if words.client:
-        return bench.run(servers(words.address, words.connections))
-    listeners = addresses.listen(words.address)
-    print(f"listening on {addresses.address_text(listeners[0].getsockname())}", flush=True)
-    return bench.run(clients(listeners, words.connections))
+    with contextlib.ExitStack() as stack:
+        bench = Bench([(path, opener(parser, stack.enter_context(packed.recording(path)), words))
+                       for path in words.recordings], words)
+        if words.client:
+            return bench.run(servers(words.address, words.connections))
+        listeners = addresses.listen(words.address)
+        print(f"listening on {addresses.address_text(listeners[0].getsockname())}", flush=True)
+        return bench.run(clients(listeners, words.connections))

@@ -9,12 +9,13 @@ packets are a millisecond apart, from the beginning of 1970 on. The capture may 
 may read it: it has everything that was said.
 """
 
+import contextlib
 import heapq
 import os
 import struct
 from typing import NamedTuple
 
-from . import contents, facts, zkr
+from . import contents, facts, packed, zkr
 from .packets import ACK, ETHERNET, FIN, SYN
 
 PUSH = 8
@@ -140,10 +141,17 @@ def main():
     zkr.allow_many_files()
     if len(words.recordings) > MOST_CONNECTIONS:
         parser.error(f"there are {len(words.recordings):,} recordings: name {MOST_CONNECTIONS:,} at most")
+    with contextlib.ExitStack() as stack:
+        return write_all(words, stack)
+
+
+def write_all(words, stack):
+    """Writes the capture that these arguments name; `stack` keeps what is unpacked for it."""
     found = []
     for number, path in enumerate(words.recordings):
+        file = stack.enter_context(packed.recording(path))
         try:
-            found.append(packets(path, zkr.Reader(open(path, "rb")), FIRST_PORT + number, words.port))
+            found.append(packets(file, zkr.Reader(open(file, "rb")), FIRST_PORT + number, words.port))
         except zkr.Damaged as damage:
             raise ValueError(f"{path}: {damage}") from None
     number = os.open(words.capture, os.O_WRONLY | os.O_CREAT | os.O_EXCL, 0o600)

@@ -16,7 +16,7 @@ import os
 import struct
 import sys
 
-from . import contents, facts, operations, zkr
+from . import contents, facts, operations, packed, zkr
 
 OF_PROFILE = {profile: {each.number for each in operations.ALL if each.release and each.release <= profile}
               for profile in zkr.PROFILES}
@@ -166,10 +166,15 @@ def main():
     words = parser.parse_args()
     if words.source and not words.target:
         parser.error("name the new recording, too: REC.zkr PLAIN.zkr")
+    source = words.source
     try:
-        skip_all(words)
+        if source:
+            with packed.recording(source) as words.source:
+                skip_all(words)
+        else:
+            skip_all(words)
     except zkr.Damaged as damage:
-        raise ValueError(f"{words.source or 'standard input'}: {damage}") from None
+        raise ValueError(f"{source or 'standard input'}: {damage}") from None
     return 0
 
 

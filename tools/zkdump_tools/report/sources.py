@@ -10,7 +10,7 @@ import subprocess
 import sys
 import tempfile
 
-from .. import facts, inputs, listing, zkr
+from .. import facts, inputs, listing, packed, zkr
 
 TOOLS = pathlib.Path(__file__).resolve().parents[2]
 LISTINGS = re.compile(rb"[CS] |\. |\{")
@@ -109,6 +109,7 @@ def sources_of(paths, folder, port, warnings):
     for path in paths:
         if pathlib.Path(path).is_fifo():
             raise ValueError(f"{path} is a pipe, and a report reads its files more than once: name a file")
+        path = packed.in_folder(path, folder)
         with open(path, "rb") as stream:
             mark = stream.read(4)
         name = os.path.basename(path)
