@@ -37,7 +37,7 @@ class Packed(ToolCase):
         self.addCleanup(patched.stop)
 
     def assert_same(self, tool, *words, run=None):
-        """That a tool says the same of both, but for their names, and leaves nothing behind."""
+        """That a tool says the same of both, but for their names, and leaves nothing there."""
         found = [(run or self.run_inside)(tool, *(word.format(folder / name) for word in words))
                  for folder, name in ((self.plain, f"{NAME}.zkr"), (self.packed, f"{NAME}.zkr.gz"))]
         self.assertEqual([status for status, _, _ in found], [0, 0], found)

@@ -9,7 +9,7 @@ from .support import CAPTURES, PROGRAM, TOP, ToolCase
 
 from tools.zkdump_tools import facts
 
-TABLES = r"""2 connections, 1 sessions, 20 messages, 10 requests, 3 failed, 1 unanswered, 1 events
+TABLES = r"""2 connections, 1 sessions, 20 messages, 10 requests, 2 failed, 1 unanswered, 1 events
 from 2023-11-14T22:13:20.000Z to 2023-11-14T22:13:25.201Z
 
 Sessions
@@ -52,7 +52,7 @@ Slowest requests
 
 Busiest paths
 requests  failed  max ms  path
-       5       2     100  "/a"
+       5       1     100  "/a"
        1       0       -  "/b/\1b[2J"
        1       1       1  "/b"
 

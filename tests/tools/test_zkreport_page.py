@@ -190,7 +190,7 @@ class InBrowser(PageCase):
         self.assertEqual(self.browser.run("return [...document.querySelectorAll('#t-errors td.error, #t-slowest td.error')]"
                                           ".filter(each => each.textContent === 'NONODE')"
                                           ".map(each => each.classList.contains('failed'))"), [True, False, False, True])
-        self.assertEqual(self.rows("paths"), [["5", "2", "100", "/a"], ["1", "0", "–", "/b/\\u{1b}[2J"],
+        self.assertEqual(self.rows("paths"), [["5", "1", "100", "/a"], ["1", "0", "–", "/b/\\u{1b}[2J"],
                                               ["1", "1", "1", "/b"]])
         self.assertEqual(self.rows("unanswered"), [["2023-11-14 22:13:20.070", "#1", "10", "setData", "/b/\\u{1b}[2J"]])
         bars = self.browser.run("return document.querySelectorAll('#sessions .bar').length")
@@ -217,7 +217,7 @@ class InBrowser(PageCase):
     def test_filters_in_the_address(self):
         for fragment, asked in (("#op=setData", {"setData": "2"}), ("#op=setData&outcome=unanswered", {"setData": "1"}),
                                 ("#from=22:13:25&op=connect", {"connect": "1"}),
-                                ("#to=22:13:20.020&outcome=ok", {"connect": "1", "create": "1"}),
+                                ("#to=22:13:20.020&outcome=ok", {"connect": "1", "create": "1", "exists": "1"}),
                                 ("#outcome=failed", {"setData": "1", "multi": "1"})):
             with self.subTest(fragment=fragment):
                 self.small(fragment)
