@@ -57,7 +57,7 @@ class Talk:
             self.answer([self.say(CLIENT, self.header(-11))])
 
     def connect(self, count, depth):
-        """The connect messages; some clients send requests at once, behind their connect request."""
+        """The connect messages; some clients send requests at once, after their connect request."""
         begun = self.say(CLIENT, struct.pack(">iqiqi", 0, 0, 30_000, 0, 16) + bytes(16 + self.chance.choice([0, 1])))
         for _ in range(self.chance.choice([0, 0, 1, 2, 5]) if depth > 1 else 0):
             self.request()
