@@ -32,6 +32,8 @@ TIMES = 5
 
 def compiled(program, source, *words):
     flags = ("-O2", "-std=c11", f"-I{TOP / 'include'}", f"-I{HERE}")
+    if any(pathlib.Path(word).name == "libzk_c.a" for word in words):  # the proved library alone
+        flags += ("-DZK_BY_VALUE",)
     subprocess.run(["cc", *flags, "-o", program, source, *words], check=True)
     return program
 
@@ -91,7 +93,7 @@ def measure_fields(folder, archive, program, wanted):
 def measure_sizes(archive, shared):
     """Prints what the library takes of a disk, and of a program."""
     found = subprocess.run(["size", shared], capture_output=True, text=True, check=True).stdout.splitlines()[-1].split()
-    print(f"libzk.a {archive.stat().st_size:,} bytes; libzk.so.1 {shared.stat().st_size:,} bytes, "
+    print(f"libzk.a {archive.stat().st_size:,} bytes; {shared.name} {shared.stat().st_size:,} bytes, "
           f"of these {int(found[0]):,} of code and constants")
 
 

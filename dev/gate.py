@@ -1,5 +1,5 @@
 """What a passed gate says at its end of what it has passed: the commit, and the checksums of the program and the
-library.
+libraries.
 
     gate.py [--commit|COMMIT]
 
@@ -11,7 +11,7 @@ import hashlib
 import subprocess
 import sys
 
-from packaging.build_library import LIBRARY, TOP
+from packaging.build_library import LIBRARY, PLAIN, TOP
 
 PROGRAM = TOP / "crates" / "zkdump" / "out" / "zkdump"
 
@@ -29,7 +29,7 @@ def lines(begun=None):
     now = commit()
     same = begun in (None, now) or now.startswith("none")
     yield f"commit: {now if same else 'none, since the gate began with another'}"
-    for path in (PROGRAM, LIBRARY):
+    for path in (PROGRAM, LIBRARY, PLAIN):
         yield f"sha256 of {path.relative_to(TOP)}: {hashlib.sha256(path.read_bytes()).hexdigest()}"
 
 

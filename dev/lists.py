@@ -4,15 +4,10 @@ should be, by the crates' sources (source.py)."""
 import ast
 import re
 
-from . import source
+from . import constants, source
+from .constants import in_order
 
 BEGIN, END = "The lines from here on are written by dev/names.py", "Up to here."
-# Kinds of numbers: the types of C and of Rust, the table in Python, and of what they are.
-KINDS = (("operation", "int32_t", "i32", "OPERATIONS", "an operation, or of a part of a multi"),
-         ("error", "int32_t", "i32", "ERRORS", "a reply's err"),
-         ("event", "int64_t", "i64", "EVENTS", "an event's type"),
-         ("field", "uint16_t", "u16", "FIELDS", "a field's name"),
-         ("status", "uint32_t", "u32", "STATUSES", "a status"))
 # A kind of field, or an item of a line, in zkdump_tools/operations.py and zkdump_tools/forms.py.
 TOOLS = {"int": "number", "bool": "bit", "blob": "data", "acl": "acls", "ro": "readonly", "kcode": "kind",
          "ecode": "err"}
@@ -21,10 +16,6 @@ RUST = {"int": "i32", "long": "i64", "bool": "bool", "text": "Text<'a>", "blob":
         "acl": "Acl<'a>", "stat": "Stat"}
 ODD_OPERATIONS = ("0", "10", "-1", "INT32_MIN", "INT32_MAX")
 NOT_ALONE = {"NONE", "PERMS", "ID", "ERR"}      # fields that zkdump_tools/zkcolumns/json.c writes elsewhere
-
-
-def in_order(kind, names):
-    return sorted(names.items(), reverse=kind == "error")
 
 
 def by_number(numbers):
@@ -58,40 +49,6 @@ def header_profiles(_):
 def header_enum(_):
     rows = [f"    ZK_NAME_{name} = {number}," for name, number in source.field_names().items()]
     return ["enum {", *rows[:-1], rows[-1].rstrip(","), "};"]
-
-
-def header_functions(_):
-    found = []
-    for kind, c_type, _, _, of in KINDS:
-        begin = {"field": "ZK_NAME_", "status": "ZK_"}.get(kind)
-        of += ": that of its number above, without its beginning" if kind == "status" else ""
-        rows = [f'    case {begin + name.upper() if begin else number}: return "{name}";'
-                for number, name in in_order(kind, source.names()[kind])]
-        found += [f"/* Of {of}. */", f"static inline const char *zk_{kind}_name({c_type} number) {{",
-                  "    switch (number) {", *rows, '    default: return "";', "    }", "}", ""]
-    return found[:-1]
-
-
-def python_names(_):
-    found = ['"""Names of numbers (include/zk.h), and profiles, written by dev/names.py."""', "", "import enum",
-             "from typing import Dict"]
-    for kind, _, _, table, _ in KINDS:
-        rows = [f'{number}: "{name}",' for number, name in in_order(kind, source.names()[kind])]
-        found += ["", f"{table}: Dict[int, str] = {{", *wrapped(rows, 110), "}"]
-    rows = [f"    V{number} = {number}" for number in source.profiles().values()]
-    return [*found, "", "", "class Profile(enum.IntEnum):", '    """The operations of a release."""', *rows]
-
-
-def rust_names(_):
-    rows = [f"    V{number} = {number}," for number in source.profiles().values()]
-    found = ['//! Names of numbers, "" where a number has none, and profiles; written by dev/names.py.', "",
-             "/// The operations of a release.", "#[derive(Clone, Copy, Debug, PartialEq, Eq)]", "pub enum Profile {",
-             *rows, "}"]
-    for kind, _, rust_type, _, of in KINDS:
-        rows = [f'        {number} => "{name}",' for number, name in in_order(kind, source.names()[kind])]
-        found += ["", f"/// Of {of}.", f"pub fn {kind}_name(number: {rust_type}) -> &'static str {{",
-                  "    match number {", *rows, '        _ => "",', "    }", "}"]
-    return found
 
 
 def go_profiles(_):
@@ -139,6 +96,8 @@ def plugin_names(lines):
         rows = re.findall(r'\{(?:NUMBER\()?(-?\d+)\)?, "(\w+)"\}', there)
         if kind == "operation":
             rows += [(each.number, each.name) for each in of_tools()["ALL"]]
+        elif kind == "error":       # those that zkdump_tools/errors.py has, for the same readers
+            rows = list(source.python_names("tools/zkdump_tools/errors.py")["NAMES"].items())
         names = with_others(source.names()[kind], {int(number): name for number, name in rows})
         entries = [f'{{{number if number >= 0 else f"NUMBER({number})"}, "{name}"}},'
                    for number, name in in_order(kind, names)]
@@ -262,8 +221,9 @@ def json_keys(_):
 
 
 # By file, what writes all of it, or each of its marked parts.
-WHOLE = {"examples/python/libzk/_names.py": python_names, "examples/rust/zk/src/names.rs": rust_names}
-PARTS = {"include/zk.h": (header_profiles, header_enum, header_functions),
+WHOLE = {"examples/python/libzk/_names.py": constants.python_names, "examples/rust/zk/src/names.rs": constants.rust_names,
+         "examples/go/names.go": constants.go_names, "tools/zkdump_tools/zkcolumns/in_lines.h": constants.columns_names}
+PARTS = {"include/zk.h": (header_profiles, header_enum, constants.header_constants, constants.header_functions),
          "tools/zkdump_tools/operations.py": (operation_rows,),
          "wireshark/names.c": (plugin_names, newer_ranges), "wireshark/hole.c": (hole_shapes,),
          "tools/zkdump_tools/zkcolumns/json.c": (json_keys,), "tests/library/chosen.h": (random_profiles, random_operations),

@@ -17,11 +17,11 @@ import math
 import re
 import sys
 
-from . import formats, lists, source
+from . import formats, lists, newer, source
 from .source import TOP
 
 ENTRY = re.compile(r'-?\d+: "\w+"|\{[\w()-]+, "\w+"\}|\{-?\d+, (?:true|false)[^}]*\}'
-                   r"|(?<=[( ])-?\d+(?=, -?[\dI])")
+                   r"|(?<=[( ])-?\d+(?=, -?[\dI])|ZK_(?!NAME_)\w+ = -?\d+")
 # A kind of field in a line.
 LINES = {"int": "num", "long": "num", "bool": "bit", "texts": "list of text", "acl": "list of acl"}
 # How many bytes a field of a kind has.
@@ -164,6 +164,13 @@ def compare_parts():
                    f"{spelled(each.request)}")
 
 
+def compare_errors():
+    """The names of errors for readers, in zkdump_tools/errors.py: all of the sources', and of later releases more."""
+    found = source.python_names("tools/zkdump_tools/errors.py")["NAMES"]
+    yield from (f"tools/zkdump_tools/errors.py: {number} is {found.get(number)}, and in the sources {name}"
+                for number, name in source.names()["error"].items() if found.get(number) != name)
+
+
 def compare_bodies():
     """The layouts of which crates/talk_tests/make_bodies.py has written bodies; the results of multis have none."""
     name = "crates/talk_tests/src/tests/earliest/bodies.rt"
@@ -296,7 +303,7 @@ def compare_ranges():
 
 def compare_calls():
     """The calls that the crate for C exports, and the header's for names, with those of docs/LIBRARY.md."""
-    calls = [*source.calls(), *(f"zk_{kind}_name" for kind in source.names())]
+    calls = [*source.calls(), *(f"zk_{kind}_name" for kind in newer.names())]
     there = set(re.findall(r"`(\w+)`", (TOP / "docs" / "LIBRARY.md").read_text()))
     yield from (f"docs/LIBRARY.md: no {name}" for name in calls if name not in there)
 
@@ -315,6 +322,7 @@ def compared():
     yield compare_faults(("Number", "Reason", "When"), "zk_items", "fault", "LineReason")
     yield compare_faults(("Reason", "It means"), "zk_talk", "say", "SayFault")
     yield compare_parts()
+    yield compare_errors()
     yield compare_bodies()
     yield compare_forms()
     yield compare_field_rows()

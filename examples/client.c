@@ -25,17 +25,14 @@
 
 enum { LIMIT = 1 << 20, WAITING = 64, FIELDS = 64 };
 
-/* Operations. */
-enum { CREATE = 1, GET_DATA = 4, SET_DATA = 5, CHECK = 13, MULTI = 14, CLOSE_SESSION = -11 };
-
 /* A session: the talk knows both sides, so a reply frees the place of its request. */
 static struct zk_talk talk = ZK_ZEROS;
 static int server = -1;
 static int32_t xid;
-/* The next request: its fields, and their texts and blobs. */
+/* The next request's fields, over these, and their texts and blobs. */
 static struct zk_field said[FIELDS];
-static size_t count, length;
 static uint8_t content[LIMIT];
+static struct zk_builder asked;
 /* What came of the server; the bytes from `used` to `came` aren't read yet. */
 static uint8_t came_bytes[65536];
 static size_t used, came;
@@ -52,55 +49,6 @@ static void well(uint32_t status) {
     if (status != ZK_WELL) fail(1, zk_status_name(status));
 }
 
-/* ---- The fields of a request */
-
-static void add(struct zk_field field) {
-    if (count == FIELDS) fail(2, "a request of too many fields");
-    said[count++] = field;
-}
-
-static void add_number(uint8_t kind, int64_t number) {
-    struct zk_field field = ZK_ZEROS;
-    field.kind = kind;
-    field.number = number;
-    add(field);
-}
-
-/* A text or a blob. */
-static void add_bytes(uint8_t kind, const char *bytes, size_t size) {
-    struct zk_field field = ZK_ZEROS;
-    if (size > LIMIT - length) fail(2, "a request that is too long");
-    memcpy(content + length, bytes, size);
-    field.kind = kind;
-    field.place = (uint32_t)length;
-    field.length = (uint32_t)size;
-    length += size;
-    add(field);
-}
-
-static void add_text(const char *text) {
-    add_bytes(ZK_KIND_TEXT, text, strlen(text));
-}
-
-static void add_blob(const char *data) {
-    add_bytes(ZK_KIND_BLOB, data, strlen(data));
-}
-
-static void add_null(uint8_t kind) {
-    struct zk_field field = ZK_ZEROS;
-    field.kind = kind;
-    field.null = 1;
-    add(field);
-}
-
-/* One right for all: everything. */
-static void add_rights(void) {
-    add_number(ZK_KIND_LIST, 1);
-    add_number(ZK_KIND_INT, 31);
-    add_text("world");
-    add_text("anyone");
-}
-
 /* ---- What is said */
 
 /* Sends the frame that was written, if it may come next. */
@@ -113,14 +61,20 @@ static void say(const uint8_t *frame, struct zk_written written) {
         if (wrote <= 0) fail(2, "the connection to the server is broken");
         at += (size_t)wrote;
     }
-    count = length = 0;
+    asked = zk_build(said, FIELDS, content, sizeof content);
 }
 
 static uint8_t frame[LIMIT + 4];
 
+/* Ends the program where a field had no room. */
+static void all_added(void) {
+    if (asked.status != ZK_WELL) fail(2, "a request that is too long");
+}
+
 /* Says the request of the fields that were added. */
 static void ask(int32_t operation) {
-    say(frame, zk_write_request(++xid, operation, said, count, content, length, frame, sizeof frame));
+    all_added();
+    say(frame, zk_write_request(++xid, operation, said, asked.count, content, asked.length, frame, sizeof frame));
 }
 
 /* ---- What comes */
@@ -202,59 +156,61 @@ static struct zk_read begin(const char *host, const char *port) {
     server = connection(host, port);
     xid = 0;
     used = came = 0;
-    add_number(ZK_KIND_INT, 0);      /* the version of the protocol */
-    add_number(ZK_KIND_LONG, 0);     /* the last zxid that was seen */
-    add_number(ZK_KIND_INT, 10000);  /* the session's milliseconds */
-    add_number(ZK_KIND_LONG, 0);     /* no earlier session, and no password of one */
-    add_bytes(ZK_KIND_BLOB, password, sizeof password);
-    add_number(ZK_KIND_BOOL, 0);     /* not only to read */
-    say(frame, zk_write_first(said, count, content, length, frame, sizeof frame));
+    asked = zk_build(said, FIELDS, content, sizeof content);
+    zk_add_number(&asked, ZK_KIND_INT, 0);      /* the version of the protocol */
+    zk_add_number(&asked, ZK_KIND_LONG, 0);     /* the last zxid that was seen */
+    zk_add_number(&asked, ZK_KIND_INT, 10000);  /* the session's milliseconds */
+    zk_add_number(&asked, ZK_KIND_LONG, 0);     /* no earlier session, and no password of one */
+    zk_add_bytes(&asked, ZK_KIND_BLOB, password, sizeof password);
+    zk_add_number(&asked, ZK_KIND_BOOL, 0);     /* not only to read */
+    all_added();
+    say(frame, zk_write_first(said, asked.count, content, asked.length, frame, sizeof frame));
     return answer();
 }
 
 static struct zk_read end(void) {
-    ask(CLOSE_SESSION);
+    ask(ZK_OP_CLOSE_SESSION);
     struct zk_read read = answer();
     close(server);
     return read;
 }
 
 static void create(const char *path, const char *data) {
-    add_text(path);
-    add_blob(data);
-    add_rights();
-    add_number(ZK_KIND_INT, 0);
-    ask(CREATE);
+    zk_add_text(&asked, path);
+    zk_add_bytes(&asked, ZK_KIND_BLOB, data, strlen(data));
+    zk_add_number(&asked, ZK_KIND_LIST, 1);
+    zk_add_right(&asked, ZK_PERMISSION_ALL, "world", "anyone");
+    zk_add_number(&asked, ZK_KIND_INT, 0);
+    ask(ZK_OP_CREATE);
     struct zk_read read = answer();
     show(&read, ZK_NAME_PATH, ZK_NAME_NONE);
 }
 
 static struct zk_read get(const char *path) {
-    add_text(path);
-    add_number(ZK_KIND_BOOL, 0);
-    ask(GET_DATA);
+    zk_add_text(&asked, path);
+    zk_add_number(&asked, ZK_KIND_BOOL, 0);
+    ask(ZK_OP_GET_DATA);
     return answer();
 }
 
 /* Changes the node, if it has the version 0, and creates one below it. */
 static void change(const char *path, const char *data) {
-    add_number(ZK_KIND_PART, CHECK);
-    add_text(path);
-    add_number(ZK_KIND_INT, 0);
-    add_number(ZK_KIND_PART, SET_DATA);
-    add_text(path);
-    add_blob(data);
-    add_number(ZK_KIND_INT, 0);
-    add_number(ZK_KIND_PART, CREATE);
-    size_t place = length;
-    add_text(path);
-    add_text("/below");
-    count--; /* one text of both */
-    said[count - 1].length = (uint32_t)(length - place);
-    add_null(ZK_KIND_BLOB);
-    add_rights();
-    add_number(ZK_KIND_INT, 0);
-    ask(MULTI);
+    static char below[LIMIT];
+    if (snprintf(below, sizeof below, "%s/below", path) >= LIMIT) fail(2, "a request that is too long");
+    zk_add_number(&asked, ZK_KIND_PART, ZK_OP_CHECK);
+    zk_add_text(&asked, path);
+    zk_add_number(&asked, ZK_KIND_INT, 0);
+    zk_add_number(&asked, ZK_KIND_PART, ZK_OP_SET_DATA);
+    zk_add_text(&asked, path);
+    zk_add_bytes(&asked, ZK_KIND_BLOB, data, strlen(data));
+    zk_add_number(&asked, ZK_KIND_INT, 0);
+    zk_add_number(&asked, ZK_KIND_PART, ZK_OP_CREATE);
+    zk_add_text(&asked, below);
+    zk_add_null(&asked, ZK_KIND_BLOB);
+    zk_add_number(&asked, ZK_KIND_LIST, 1);
+    zk_add_right(&asked, ZK_PERMISSION_ALL, "world", "anyone");
+    zk_add_number(&asked, ZK_KIND_INT, 0);
+    ask(ZK_OP_MULTI);
     struct zk_read read = answer();
     printf("multi: %s", zk_error_name(read.err));
     for (uint32_t i = 0; i < read.count; i++) {

@@ -19,22 +19,6 @@ static const uint8_t welcome[40] = {0, 0, 0, 36, 0, 0, 0, 0, 0, 0, 0x75, 0x30, 0
 static const uint8_t no_node[] = {0, 0, 0, 16, 0, 0, 0, 1, 0, 0, 0, 0, 0, 0, 0, 5, 0xff, 0xff, 0xff, 0x9b};
 static const uint8_t created[] = {0, 0, 0, 22, 0, 0, 0, 2, 0, 0, 0, 0, 0, 0, 0, 6, 0, 0, 0, 0, 0, 0, 0, 2, '/', 'a'};
 
-static struct zk_field a_number(uint8_t kind, int64_t number) {
-    struct zk_field field = ZK_ZEROS;
-    field.kind = kind;
-    field.number = number;
-    return field;
-}
-
-/* A text or a blob: these bytes of the content. */
-static struct zk_field some_bytes(uint8_t kind, uint32_t place, uint32_t length) {
-    struct zk_field field = ZK_ZEROS;
-    field.kind = kind;
-    field.place = place;
-    field.length = length;
-    return field;
-}
-
 /* Gives a side's bytes to the talk, and prints the line of the message that they complete. */
 static uint32_t give(struct zk_talk *talk, uint32_t side, const uint8_t *bytes, size_t length) {
     uint8_t text[ROOM];
@@ -54,30 +38,48 @@ static uint32_t say(struct zk_talk *talk, struct zk_written written, const uint8
     return give(talk, ZK_CLIENT, frame, written.length);
 }
 
+/* The frame of an exists of /a, with a watch. */
+static struct zk_written written_exists(int32_t xid, uint8_t *frame, size_t room) {
+    struct zk_field fields[2];
+    uint8_t content[ROOM];
+    struct zk_builder exists = zk_build(fields, 2, content, sizeof content);
+    zk_add_text(&exists, "/a");
+    zk_add_number(&exists, ZK_KIND_BOOL, 1);
+    return zk_write_request(xid, ZK_OP_EXISTS, fields, exists.count, content, exists.length, frame, room);
+}
+
 int main(void) {
     struct zk_talk talk = ZK_ZEROS;
     uint8_t frame[ROOM];
     if (zk_talk_new(&talk, 4096, 4096, 1, ZK_PROFILE_34) != ZK_WELL) return 1;
 
-    struct zk_field hello[] = {a_number(ZK_KIND_INT, 0), a_number(ZK_KIND_LONG, 0), a_number(ZK_KIND_INT, 30000),
-                               a_number(ZK_KIND_LONG, 0), some_bytes(ZK_KIND_BLOB, 0, 16)};
-    uint32_t first = say(&talk, zk_write_first(hello, 5, password, sizeof password, frame, sizeof frame), frame);
+    struct zk_field fields[ROOM];
+    uint8_t content[ROOM];
+    struct zk_builder hello = zk_build(fields, ROOM, content, sizeof content);
+    zk_add_number(&hello, ZK_KIND_INT, 0);     /* the version of the protocol */
+    zk_add_number(&hello, ZK_KIND_LONG, 0);    /* the last zxid that was seen */
+    zk_add_number(&hello, ZK_KIND_INT, 30000); /* the session's milliseconds */
+    zk_add_number(&hello, ZK_KIND_LONG, 0);    /* no earlier session */
+    zk_add_bytes(&hello, ZK_KIND_BLOB, password, sizeof password);
+    uint32_t first = say(&talk, zk_write_first(fields, hello.count, content, hello.length, frame, sizeof frame), frame);
     first = first != ZK_WELL ? first : give(&talk, ZK_SERVER, welcome, sizeof welcome);
 
     /* One request may wait: the second is taken, since the reply to the first has come. */
-    const uint8_t path[] = "/aworldanyone";
-    struct zk_field exists[] = {some_bytes(ZK_KIND_TEXT, 0, 2), a_number(ZK_KIND_BOOL, 1)};
-    uint32_t second = say(&talk, zk_write_request(1, 3, exists, 2, path, 13, frame, sizeof frame), frame);
+    uint32_t second = say(&talk, written_exists(1, frame, sizeof frame), frame);
     second = second != ZK_WELL ? second : give(&talk, ZK_SERVER, no_node, sizeof no_node);
 
-    struct zk_field create[] = {some_bytes(ZK_KIND_TEXT, 0, 2), some_bytes(ZK_KIND_BLOB, 0, 0),
-                                a_number(ZK_KIND_LIST, 1), a_number(ZK_KIND_INT, 31), some_bytes(ZK_KIND_TEXT, 2, 5),
-                                some_bytes(ZK_KIND_TEXT, 7, 6), a_number(ZK_KIND_INT, 0)};
-    uint32_t third = say(&talk, zk_write_request(2, 1, create, 7, path, 13, frame, sizeof frame), frame);
+    struct zk_builder create = zk_build(fields, ROOM, content, sizeof content);
+    zk_add_text(&create, "/a");
+    zk_add_bytes(&create, ZK_KIND_BLOB, NULL, 0);
+    zk_add_number(&create, ZK_KIND_LIST, 1);
+    zk_add_right(&create, ZK_PERMISSION_ALL, "world", "anyone");
+    zk_add_number(&create, ZK_KIND_INT, ZK_CREATE_PERSISTENT);
+    uint32_t third = say(&talk, zk_write_request(2, ZK_OP_CREATE, fields, create.count, content, create.length, frame,
+                                                 sizeof frame), frame);
     third = third != ZK_WELL ? third : give(&talk, ZK_SERVER, created, sizeof created);
 
     struct zk_ending ending = zk_talk_finish(&talk);
-    uint32_t refused = say(&talk, zk_write_request(-1, 3, exists, 2, path, 13, frame, sizeof frame), frame);
+    uint32_t refused = say(&talk, written_exists(-1, frame, sizeof frame), frame);
     zk_talk_free(&talk);
     if (ferror(stdout) || fflush(stdout) != 0) {
         fputs("client_frames: standard output can't be written\n", stderr);

@@ -76,8 +76,7 @@ static uint8_t *text;
 static volatile sig_atomic_t over;
 
 static void stop(int number) {
-    (void)number;
-    over = 1;
+    over = number;
 }
 
 static void fail(const char *what, const char *why) {
@@ -221,6 +220,7 @@ static void see(struct connection *it, uint32_t side) {
             way->seen += passed.used;
             way->offset += passed.used;
             way->frames += passed.went != ZK_WITHIN;
+            if (side == ZK_SERVER) see(it, ZK_CLIENT); /* what waited may be answered in the same piece */
         } else if (!it->ways[ZK_SERVER].ended && it->reader->unanswered > 0) {
             return;
         } else { /* no reply comes */

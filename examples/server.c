@@ -19,31 +19,22 @@
 #include <sys/socket.h>
 #include <unistd.h>
 
-enum { LIMIT = 1 << 20, WAITING = 1024, ROOM = 256, PING = 11, CLOSE_SESSION = -11, NO_NODE = -101 };
-
-static struct zk_field a_number(uint8_t kind, int64_t number) {
-    struct zk_field field = ZK_ZEROS;
-    field.kind = kind;
-    field.number = number;
-    return field;
-}
-
-/* A text or a blob: the first bytes of the content. */
-static struct zk_field some_bytes(uint8_t kind, uint32_t length) {
-    struct zk_field field = ZK_ZEROS;
-    field.kind = kind;
-    field.length = length;
-    return field;
-}
+enum { LIMIT = 1 << 20, WAITING = 1024, ROOM = 256 };
 
 /* The frame that answers a message of the client: a session, and to each request that there is no such node. */
 static struct zk_written answer(struct zk_message asked, uint8_t *out, size_t room) {
+    bool done = asked.operation == ZK_OP_PING || asked.operation == ZK_OP_CLOSE_SESSION;
+    int32_t err = done ? ZK_ERR_OK : ZK_ERR_NO_NODE;
+    if (asked.kind != ZK_CONNECT) return zk_write_reply(asked.xid, 1, err, asked.operation, NULL, 0, NULL, 0, out, room);
     static const uint8_t password[16];
-    struct zk_field session[] = {a_number(ZK_KIND_INT, 0), a_number(ZK_KIND_INT, 30000), a_number(ZK_KIND_LONG, 1),
-                                 some_bytes(ZK_KIND_BLOB, sizeof password)};
-    if (asked.kind == ZK_CONNECT) return zk_write_connected(session, 4, password, sizeof password, out, room);
-    bool done = asked.operation == PING || asked.operation == CLOSE_SESSION;
-    return zk_write_reply(asked.xid, 1, done ? 0 : NO_NODE, asked.operation, NULL, 0, NULL, 0, out, room);
+    struct zk_field fields[4];
+    uint8_t content[sizeof password];
+    struct zk_builder session = zk_build(fields, 4, content, sizeof content);
+    zk_add_number(&session, ZK_KIND_INT, 0);     /* the version of the protocol */
+    zk_add_number(&session, ZK_KIND_INT, 30000); /* the session's milliseconds, its number, and its password */
+    zk_add_number(&session, ZK_KIND_LONG, 1);
+    zk_add_bytes(&session, ZK_KIND_BLOB, password, sizeof password);
+    return zk_write_connected(fields, session.count, content, session.length, out, room);
 }
 
 static bool sent(int client, const uint8_t *bytes, size_t length) {

@@ -4,10 +4,11 @@
     talk.py LIBRARY RECORDING     the listing
     talk.py LIBRARY --say LISTING the recording of a listing's messages, a piece a frame
 
-LIBRARY is libzk.so.1 (docs/LIBRARY.md).
+LIBRARY is libzk.so.2 (docs/LIBRARY.md).
 """
 
 import ctypes
+import functools
 import io
 import sys
 
@@ -93,6 +94,13 @@ class Refused(Exception):
         return f"the library refuses this: status {self.args[0]} of zk.h{where}"
 
 
+def filled(call, kind, *words):
+    """The struct that a call fills, of the size that it has here."""
+    answer = kind()
+    call(*words, answer, ctypes.sizeof(kind))
+    return answer
+
+
 class Library:
     """The calls, with their types."""
 
@@ -147,8 +155,13 @@ class Library:
             ("zk_listing", Line, (ctypes.POINTER(Piece), size, ctypes.c_char_p, size, number, number, number, number,
                                   ctypes.c_char_p, size)),
         ):
-            call = getattr(calls, name)
-            call.restype, call.argtypes = result, words
+            if result in (Message, Ending, Passed):  # structs that may grow
+                call = getattr(calls, f"{name}_into")
+                call.restype, call.argtypes = None, (*words, ctypes.POINTER(result), size)
+                call = functools.partial(filled, call, result)
+            else:
+                call = getattr(calls, name)
+                call.restype, call.argtypes = result, words
             setattr(self, name, call)
 
 

@@ -1,5 +1,8 @@
 /* A conversation of ZooKeeper's client protocol, parsed as its bytes arrive, by the proved library libzk.
  *
+ * The library runs on any x86-64; glibc-hwcaps/x86-64-v2/ beside it has a faster one for processors of that level, which
+ * the loader chooses.
+ *
  * docs/LIBRARY.md says how to link a program with it, and what each call promises. tests/library checks this header
  * against the library's source (crates/zk_c/src).
  *
@@ -13,11 +16,15 @@
 #ifndef ZK_H
 #define ZK_H
 
-#define ZK_VERSION "0.9.0"
+/* The version of this header, in words and as a number: a million for each major release, a thousand for each minor one.
+ * zk_version() has that of the library, which is never below that of a header by which a program was compiled. */
+#define ZK_VERSION "0.10.0"
+#define ZK_VERSION_NUMBER 10000
 
 #include <stdbool.h>
 #include <stddef.h>
 #include <stdint.h>
+#include <string.h>
 
 /* The initializer of an empty handle, in C and in C++. */
 #ifdef __cplusplus
@@ -45,7 +52,7 @@ enum {
     ZK_BAD_BOOL = 2,
     ZK_BAD_LENGTH = 3,
     ZK_BAD_TEXT = 4,
-    ZK_NO_MEMORY = 5,
+    ZK_NO_MEMORY = 5, /* of calls that make a handle, write a line or the listing, or say; of no other */
     ZK_TRAILING = 6,
     ZK_UNKNOWN_OP = 7,
     ZK_XID_OP = 8,
@@ -104,7 +111,8 @@ struct zk_fault {
     int32_t got;
 };
 
-/* What a step returns: the bytes used of the piece, and whether the last of them completed a frame. */
+/* What a step returns: the bytes used of the piece, and whether the last of them completed a frame. Of a step that is
+ * refused, none are used. */
 struct zk_step {
     size_t used;
     uint32_t status;
@@ -122,7 +130,7 @@ enum {
     ZK_UNSEEN = 5    /* a reply to a request that wasn't seen is whole: it is left out (zk_talk_join) */
 };
 
-/* What a passage's step returns: the bytes used of the piece, and what became of them. xid, operation and frame are those
+/* What a passage's step returns: the bytes used of the piece, none of a refused one, and what became of them. xid, operation and frame are those
  * of the request of ZK_ASKED and ZK_ANSWERED: frame is the number of the client's frame, from 0. xid, zxid and err are the
  * header's of ZK_UNSEEN. Else they are 0. */
 struct zk_passed {
@@ -256,6 +264,61 @@ enum {
 };
 /* Up to here. */
 
+/* Numbers that messages have, also of releases that no profile has.
+ * The lines from here on are written by dev/names.py. */
+/* An operation, or of a part of a multi. */
+enum {
+    ZK_OP_CLOSE_SESSION = -11, ZK_OP_CREATE = 1, ZK_OP_DELETE = 2, ZK_OP_EXISTS = 3, ZK_OP_GET_DATA = 4,
+    ZK_OP_SET_DATA = 5, ZK_OP_GET_ACL = 6, ZK_OP_SET_ACL = 7, ZK_OP_GET_CHILDREN = 8, ZK_OP_SYNC = 9, ZK_OP_PING = 11,
+    ZK_OP_GET_CHILDREN2 = 12, ZK_OP_CHECK = 13, ZK_OP_MULTI = 14, ZK_OP_CREATE2 = 15, ZK_OP_RECONFIG = 16,
+    ZK_OP_CHECK_WATCHES = 17, ZK_OP_REMOVE_WATCHES = 18, ZK_OP_CREATE_CONTAINER = 19, ZK_OP_DELETE_CONTAINER = 20,
+    ZK_OP_CREATE_TTL = 21, ZK_OP_MULTI_READ = 22, ZK_OP_AUTH = 100, ZK_OP_SET_WATCHES = 101, ZK_OP_SASL = 102,
+    ZK_OP_GET_EPHEMERALS = 103, ZK_OP_GET_ALL_CHILDREN_NUMBER = 104, ZK_OP_SET_WATCHES2 = 105, ZK_OP_ADD_WATCH = 106,
+    ZK_OP_WHO_AM_I = 107
+};
+
+/* A reply's err. */
+enum {
+    ZK_ERR_OK = 0, ZK_ERR_SYSTEM_ERROR = -1, ZK_ERR_RUNTIME_INCONSISTENCY = -2, ZK_ERR_DATA_INCONSISTENCY = -3,
+    ZK_ERR_CONNECTION_LOSS = -4, ZK_ERR_MARSHALLING_ERROR = -5, ZK_ERR_UNIMPLEMENTED = -6,
+    ZK_ERR_OPERATION_TIMEOUT = -7, ZK_ERR_BAD_ARGUMENTS = -8, ZK_ERR_UNKNOWN_SESSION = -12,
+    ZK_ERR_NEW_CONFIG_NO_QUORUM = -13, ZK_ERR_RECONFIG_IN_PROGRESS = -14, ZK_ERR_API_ERROR = -100,
+    ZK_ERR_NO_NODE = -101, ZK_ERR_NO_AUTH = -102, ZK_ERR_BAD_VERSION = -103, ZK_ERR_NO_CHILDREN_FOR_EPHEMERALS = -108,
+    ZK_ERR_NODE_EXISTS = -110, ZK_ERR_NOT_EMPTY = -111, ZK_ERR_SESSION_EXPIRED = -112, ZK_ERR_INVALID_CALLBACK = -113,
+    ZK_ERR_INVALID_ACL = -114, ZK_ERR_AUTH_FAILED = -115, ZK_ERR_SESSION_MOVED = -118, ZK_ERR_NOT_READ_ONLY = -119,
+    ZK_ERR_EPHEMERAL_ON_LOCAL_SESSION = -120, ZK_ERR_NO_WATCHER = -121, ZK_ERR_REQUEST_TIMEOUT = -122,
+    ZK_ERR_RECONFIG_DISABLED = -123, ZK_ERR_SESSION_CLOSED_REQUIRE_SASL_AUTH = -124, ZK_ERR_QUOTA_EXCEEDED = -125,
+    ZK_ERR_THROTTLED_OP = -127
+};
+
+/* An event's type. */
+enum {
+    ZK_EVENT_NONE = -1, ZK_EVENT_NODE_CREATED = 1, ZK_EVENT_NODE_DELETED = 2, ZK_EVENT_NODE_DATA_CHANGED = 3,
+    ZK_EVENT_NODE_CHILDREN_CHANGED = 4, ZK_EVENT_DATA_WATCH_REMOVED = 5, ZK_EVENT_CHILD_WATCH_REMOVED = 6,
+    ZK_EVENT_PERSISTENT_WATCH_REMOVED = 7
+};
+
+/* An event's state. */
+enum {
+    ZK_STATE_EXPIRED = -112, ZK_STATE_UNKNOWN = -1, ZK_STATE_DISCONNECTED = 0, ZK_STATE_NO_SYNC_CONNECTED = 1,
+    ZK_STATE_SYNC_CONNECTED = 3, ZK_STATE_AUTH_FAILED = 4, ZK_STATE_CONNECTED_READ_ONLY = 5,
+    ZK_STATE_SASL_AUTHENTICATED = 6, ZK_STATE_CLOSED = 7
+};
+
+/* The flags of a create request. */
+enum {
+    ZK_CREATE_PERSISTENT = 0, ZK_CREATE_EPHEMERAL = 1, ZK_CREATE_PERSISTENT_SEQUENTIAL = 2,
+    ZK_CREATE_EPHEMERAL_SEQUENTIAL = 3, ZK_CREATE_CONTAINER = 4, ZK_CREATE_PERSISTENT_WITH_TTL = 5,
+    ZK_CREATE_PERSISTENT_SEQUENTIAL_WITH_TTL = 6
+};
+
+/* What an access right permits. */
+enum {
+    ZK_PERMISSION_READ = 1, ZK_PERMISSION_WRITE = 2, ZK_PERMISSION_CREATE = 4, ZK_PERMISSION_DELETE = 8,
+    ZK_PERMISSION_ADMIN = 16, ZK_PERMISSION_ALL = 31
+};
+/* Up to here. */
+
 /* A field of a message: an item of its payload. Its content is the `length` bytes of the payload from `place` on: for a
  * text or a blob those after its length, for all else the whole item. `number` is that of an int, a long or a boolean
  * (1: true), a list's count, or the operation in a part's header (-1: a result that is an error). `null` is 1 for a text,
@@ -273,7 +336,8 @@ struct zk_field {
  * ZK_WELL, or ZK_ROOM if `count` is more than that. kind is one of ZK_CONNECT to ZK_EVENT; xid, operation (that of a
  * request, or of the request that a reply answers), err and zxid (of a reply or an event) are 0 if the message has none.
  * If the payload is no message's, the status is the reason, `place` the place of the fault, and kind 0; the fields are
- * those of the items that end before it; xid, operation, err and zxid are those of the header, as far as it is there. */
+ * those of the items that end before it; xid, operation, err and zxid are those of the header, as far as it is there. A
+ * reply's header has no operation, so a faulty reply has 0 there, and the caller knows which it asked about. */
 struct zk_read {
     uint32_t status;
     uint32_t place;
@@ -301,6 +365,9 @@ struct zk_piece {
     uint32_t side;
     size_t length;
 };
+
+/* The version of the library, as ZK_VERSION_NUMBER is that of the header. */
+uint32_t zk_version(void);
 
 /* Makes a talk. client and server are the greatest payloads of the sides (64 to 16777216 bytes), waiting is how many
  * requests and parts may wait (1 to 1048576). Returns ZK_WELL, ZK_IN_USE, ZK_RANGE or ZK_NO_MEMORY. */
@@ -341,13 +408,14 @@ struct zk_ending zk_talk_finish(struct zk_talk *talk);
 /* Writes the line of the ending (section 11), without line feed. */
 struct zk_line zk_talk_ending_line(struct zk_talk *talk, uint8_t *out, size_t room);
 
-/* Frees the talk; the handle is then empty. */
+/* Frees the talk; the handle is then empty. An empty handle is freed by doing nothing, so freeing twice is harmless. */
 void zk_talk_free(struct zk_talk *talk);
 
 /* Makes a passage: a talk that goes on where the profile ends. The numbers are those of zk_talk_new. What is judged is the
  * conversation without the requests whose operations the profile lacks, and without the replies to them. Requests under
  * the xids of pings, auths and events are never left out. It holds twice the memory of a talk, and the requests that
- * wait. */
+ * wait. All else that a talk refuses is refused by a passage, too: an auth under an ordinary xid, as the client in Go sends
+ * it, a text that isn't UTF-8, and words of four letters, such as `ruok`. */
 uint32_t zk_through_new(struct zk_through *through, uint32_t client, uint32_t server, uint32_t waiting, uint32_t profile);
 
 /* Makes a passage of a connection that is seen late, for who attaches to one in the middle: as zk_through_new, but a connect
@@ -365,8 +433,9 @@ uint32_t zk_talk_join(struct zk_through *through, uint32_t client, uint32_t serv
 uint32_t zk_through_renew(struct zk_through *through);
 
 /* Takes a piece as zk_talk_step does. A fault's frame and offset are the side's own, those left out counted. After ZK_FULL
- * the server's bytes come first: give the client's piece again when a request has its reply. So no frame is refused with
- * ZK_QUEUE_FULL. Where all requests have their replies, the frame alone weighs more than may wait. */
+ * the server's bytes come first, up to the end of its next reply: then give the client's piece again, before the server's
+ * next bytes, which may answer it. So no frame is refused with ZK_QUEUE_FULL. Where all requests have their replies, the
+ * frame alone weighs more than may wait. */
 struct zk_passed zk_through_step(struct zk_through *through, uint32_t side, const uint8_t *piece, size_t length);
 
 /* The message of the side's newest whole frame, also while bytes of the next one come; ZK_NO_MESSAGE if that was left
@@ -474,11 +543,143 @@ struct zk_written zk_write_connected(const struct zk_field *fields, size_t count
  * needed, and out as it was. It allocates all messages and the text. */
 struct zk_line zk_listing(const struct zk_piece *pieces, size_t count, const uint8_t *bytes, size_t length, uint32_t client, uint32_t server, uint32_t waiting, uint32_t profile, uint8_t *out, size_t room);
 
+/* ---- Structs that may grow
+ *
+ * A later release under the same name of the shared library may have more at the end of struct zk_message, struct
+ * zk_passed and struct zk_ending. So it has no calls that return these: it has those below, which fill the first `size`
+ * bytes of a struct, with zeros where its own ends before. The functions of this header, which are called by the names
+ * above, give the size that the struct has here. */
+#ifndef ZK_BY_VALUE
+void zk_talk_view_into(struct zk_talk *talk, uint32_t side, struct zk_message *out, size_t size);
+void zk_talk_finish_into(struct zk_talk *talk, struct zk_ending *out, size_t size);
+void zk_through_step_into(struct zk_through *through, uint32_t side, const uint8_t *piece, size_t length, struct zk_passed *out, size_t size);
+void zk_through_view_into(struct zk_through *through, uint32_t side, struct zk_message *out, size_t size);
+void zk_through_finish_into(struct zk_through *through, struct zk_ending *out, size_t size);
+#else /* the proved library alone, which returns them: for measurements */
+static inline void zk_talk_view_into(struct zk_talk *talk, uint32_t side, struct zk_message *out, size_t size) {
+    (void)size;
+    *out = zk_talk_view(talk, side);
+}
+static inline void zk_talk_finish_into(struct zk_talk *talk, struct zk_ending *out, size_t size) {
+    (void)size;
+    *out = zk_talk_finish(talk);
+}
+static inline void zk_through_step_into(struct zk_through *through, uint32_t side, const uint8_t *piece, size_t length, struct zk_passed *out, size_t size) {
+    (void)size;
+    *out = zk_through_step(through, side, piece, length);
+}
+static inline void zk_through_view_into(struct zk_through *through, uint32_t side, struct zk_message *out, size_t size) {
+    (void)size;
+    *out = zk_through_view(through, side);
+}
+static inline void zk_through_finish_into(struct zk_through *through, struct zk_ending *out, size_t size) {
+    (void)size;
+    *out = zk_through_finish(through);
+}
+#endif
+
+/* The functions that this marks are the library's, too, for who loads it. */
+#ifndef ZK_ALSO
+#define ZK_ALSO static inline
+#endif
+
+/* ---- Fields to write, for zk_write_request and its like
+ *
+ *     struct zk_builder a = zk_build(fields, 64, content, sizeof content);
+ *     zk_add_text(&a, "/a");
+ *     zk_add_number(&a, ZK_KIND_BOOL, 1);
+ *     if (a.status == ZK_WELL)
+ *         zk_write_request(1, ZK_OP_EXISTS, a.fields, a.count, a.content, a.length, frame, sizeof frame);
+ *
+ * A builder has room for fields, and for the bytes of texts and blobs. Where one has no more, or would be longer than a
+ * payload may be, the status is ZK_ROOM or ZK_TOO_LONG, and nothing is added from then on. */
+struct zk_builder {
+    struct zk_field *fields;
+    size_t room;
+    size_t count;
+    uint8_t *content;
+    size_t size;
+    size_t length;
+    uint32_t status;
+};
+
+/* Begins with no fields, for `room` fields and `size` bytes. */
+ZK_ALSO struct zk_builder zk_build(struct zk_field *fields, size_t room, uint8_t *content, size_t size) {
+    struct zk_builder to = ZK_ZEROS;
+    to.fields = fields;
+    to.room = room;
+    to.content = content;
+    to.size = size;
+    return to;
+}
+
+/* The next field, of this kind; null if there is no room. */
+static inline struct zk_field *zk_added(struct zk_builder *to, uint8_t kind) {
+    static const struct zk_field empty = ZK_ZEROS;
+    if (to->status == ZK_WELL && to->count == to->room) {
+        to->status = ZK_ROOM;
+    }
+    if (to->status != ZK_WELL) {
+        return NULL;
+    }
+    struct zk_field *field = &to->fields[to->count++];
+    *field = empty;
+    field->kind = kind;
+    return field;
+}
+
+/* Adds an int, a long, a boolean, a list's count, or the operation of a part of a multi. */
+ZK_ALSO void zk_add_number(struct zk_builder *to, uint8_t kind, int64_t number) {
+    struct zk_field *field = zk_added(to, kind);
+    if (field != NULL) {
+        field->number = number;
+    }
+}
+
+/* Adds a text, a blob or a list that is null. */
+ZK_ALSO void zk_add_null(struct zk_builder *to, uint8_t kind) {
+    struct zk_field *field = zk_added(to, kind);
+    if (field != NULL) {
+        field->null = 1;
+    }
+}
+
+/* Adds a text or a blob of these bytes. */
+ZK_ALSO void zk_add_bytes(struct zk_builder *to, uint8_t kind, const void *bytes, size_t length) {
+    struct zk_field *field = zk_added(to, kind);
+    if (field == NULL) {
+        return;
+    }
+    if (length > INT32_MAX || to->length > INT32_MAX - length || length > to->size - to->length) {
+        to->status = length > to->size - to->length ? (uint32_t)ZK_ROOM : (uint32_t)ZK_TOO_LONG;
+        to->count--;
+        return;
+    }
+    field->place = (uint32_t)to->length;
+    field->length = (uint32_t)length;
+    if (length > 0) {
+        memcpy(to->content + to->length, bytes, length);
+    }
+    to->length += length;
+}
+
+/* Adds a text that ends with a zero byte. */
+static inline void zk_add_text(struct zk_builder *to, const char *text) {
+    zk_add_bytes(to, ZK_KIND_TEXT, text, strlen(text));
+}
+
+/* Adds the fields of an access right; before those of all rights their list's count is added. */
+static inline void zk_add_right(struct zk_builder *to, int32_t permissions, const char *scheme, const char *id) {
+    zk_add_number(to, ZK_KIND_INT, permissions);
+    zk_add_text(to, scheme);
+    zk_add_text(to, id);
+}
+
 /* ---- Names of numbers; "" where a number has none */
 
 /* The lines from here on are written by dev/names.py. */
 /* Of an operation, or of a part of a multi. */
-static inline const char *zk_operation_name(int32_t number) {
+ZK_ALSO const char *zk_operation_name(int32_t number) {
     switch (number) {
     case -11: return "closeSession";
     case 1: return "create";
@@ -495,14 +696,27 @@ static inline const char *zk_operation_name(int32_t number) {
     case 13: return "check";
     case 14: return "multi";
     case 15: return "create2";
+    case 16: return "reconfig";
+    case 17: return "checkWatches";
+    case 18: return "removeWatches";
+    case 19: return "createContainer";
+    case 20: return "deleteContainer";
+    case 21: return "createTTL";
+    case 22: return "multiRead";
     case 100: return "auth";
     case 101: return "setWatches";
+    case 102: return "sasl";
+    case 103: return "getEphemerals";
+    case 104: return "getAllChildrenNumber";
+    case 105: return "setWatches2";
+    case 106: return "addWatch";
+    case 107: return "whoAmI";
     default: return "";
     }
 }
 
 /* Of a reply's err. */
-static inline const char *zk_error_name(int32_t number) {
+ZK_ALSO const char *zk_error_name(int32_t number) {
     switch (number) {
     case 0: return "OK";
     case -1: return "SYSTEMERROR";
@@ -513,6 +727,9 @@ static inline const char *zk_error_name(int32_t number) {
     case -6: return "UNIMPLEMENTED";
     case -7: return "OPERATIONTIMEOUT";
     case -8: return "BADARGUMENTS";
+    case -12: return "UNKNOWNSESSION";
+    case -13: return "NEWCONFIGNOQUORUM";
+    case -14: return "RECONFIGINPROGRESS";
     case -100: return "APIERROR";
     case -101: return "NONODE";
     case -102: return "NOAUTH";
@@ -526,24 +743,64 @@ static inline const char *zk_error_name(int32_t number) {
     case -115: return "AUTHFAILED";
     case -118: return "SESSIONMOVED";
     case -119: return "NOTREADONLY";
+    case -120: return "EPHEMERALONLOCALSESSION";
+    case -121: return "NOWATCHER";
+    case -122: return "REQUESTTIMEOUT";
+    case -123: return "RECONFIGDISABLED";
+    case -124: return "SESSIONCLOSEDREQUIRESASLAUTH";
+    case -125: return "QUOTAEXCEEDED";
+    case -127: return "THROTTLEDOP";
     default: return "";
     }
 }
 
 /* Of an event's type. */
-static inline const char *zk_event_name(int64_t number) {
+ZK_ALSO const char *zk_event_name(int64_t number) {
     switch (number) {
     case -1: return "None";
     case 1: return "NodeCreated";
     case 2: return "NodeDeleted";
     case 3: return "NodeDataChanged";
     case 4: return "NodeChildrenChanged";
+    case 5: return "DataWatchRemoved";
+    case 6: return "ChildWatchRemoved";
+    case 7: return "PersistentWatchRemoved";
+    default: return "";
+    }
+}
+
+/* Of an event's state. */
+ZK_ALSO const char *zk_state_name(int64_t number) {
+    switch (number) {
+    case -112: return "Expired";
+    case -1: return "Unknown";
+    case 0: return "Disconnected";
+    case 1: return "NoSyncConnected";
+    case 3: return "SyncConnected";
+    case 4: return "AuthFailed";
+    case 5: return "ConnectedReadOnly";
+    case 6: return "SaslAuthenticated";
+    case 7: return "Closed";
+    default: return "";
+    }
+}
+
+/* Of the flags of a create request. */
+ZK_ALSO const char *zk_flags_name(int64_t number) {
+    switch (number) {
+    case 0: return "persistent";
+    case 1: return "ephemeral";
+    case 2: return "persistentSequential";
+    case 3: return "ephemeralSequential";
+    case 4: return "container";
+    case 5: return "persistentWithTTL";
+    case 6: return "persistentSequentialWithTTL";
     default: return "";
     }
 }
 
 /* Of a field's name. */
-static inline const char *zk_field_name(uint16_t number) {
+ZK_ALSO const char *zk_field_name(uint16_t number) {
     switch (number) {
     case ZK_NAME_PATH: return "path";
     case ZK_NAME_DATA: return "data";
@@ -584,7 +841,7 @@ static inline const char *zk_field_name(uint16_t number) {
 }
 
 /* Of a status: that of its number above, without its beginning. */
-static inline const char *zk_status_name(uint32_t number) {
+ZK_ALSO const char *zk_status_name(uint32_t number) {
     switch (number) {
     case ZK_WELL: return "WELL";
     case ZK_SHORT: return "SHORT";
@@ -648,10 +905,10 @@ static inline const void *zk_from(const void *at) {
     return at != NULL ? at : &none;
 }
 
-/* A pointer to write to, which isn't null, aligned likewise. */
+/* A pointer to write nothing to, which isn't null, aligned likewise. */
 static inline void *zk_into(void *at) {
-    static uint64_t none;
-    return at != NULL ? at : &none;
+    static const uint64_t none = 0;
+    return at != NULL ? at : (void *)(uintptr_t)&none;
 }
 
 /* The first of two statuses that isn't ZK_WELL. */
@@ -684,7 +941,10 @@ static inline struct zk_step zk_safe_talk_pass(struct zk_talk *talk, uint32_t si
 static inline struct zk_message zk_safe_talk_view(struct zk_talk *talk, uint32_t side) {
     struct zk_message answer = ZK_ZEROS;
     answer.status = zk_fault_at(talk, 1, sizeof *talk);
-    return answer.status != ZK_WELL ? answer : zk_talk_view(talk, side);
+    if (answer.status == ZK_WELL) {
+        zk_talk_view_into(talk, side, &answer, sizeof answer);
+    }
+    return answer;
 }
 
 static inline struct zk_line zk_safe_talk_line(struct zk_talk *talk, uint32_t side, uint8_t *out, size_t room) {
@@ -720,7 +980,10 @@ static inline struct zk_held zk_safe_talk_held(struct zk_talk *talk, uint32_t si
 static inline struct zk_ending zk_safe_talk_finish(struct zk_talk *talk) {
     struct zk_ending answer = ZK_ZEROS;
     answer.status = zk_fault_at(talk, 1, sizeof *talk);
-    return answer.status != ZK_WELL ? answer : zk_talk_finish(talk);
+    if (answer.status == ZK_WELL) {
+        zk_talk_finish_into(talk, &answer, sizeof answer);
+    }
+    return answer;
 }
 
 static inline struct zk_line zk_safe_talk_ending_line(struct zk_talk *talk, uint8_t *out, size_t room) {
@@ -753,13 +1016,19 @@ static inline uint32_t zk_safe_through_renew(struct zk_through *through) {
 static inline struct zk_passed zk_safe_through_step(struct zk_through *through, uint32_t side, const uint8_t *piece, size_t length) {
     struct zk_passed answer = ZK_ZEROS;
     answer.status = zk_first_of(zk_fault_at(through, 1, sizeof *through), zk_fault_of(piece, length, sizeof *piece));
-    return answer.status != ZK_WELL ? answer : zk_through_step(through, side, (const uint8_t *)zk_from(piece), length);
+    if (answer.status == ZK_WELL) {
+        zk_through_step_into(through, side, (const uint8_t *)zk_from(piece), length, &answer, sizeof answer);
+    }
+    return answer;
 }
 
 static inline struct zk_message zk_safe_through_view(struct zk_through *through, uint32_t side) {
     struct zk_message answer = ZK_ZEROS;
     answer.status = zk_fault_at(through, 1, sizeof *through);
-    return answer.status != ZK_WELL ? answer : zk_through_view(through, side);
+    if (answer.status == ZK_WELL) {
+        zk_through_view_into(through, side, &answer, sizeof answer);
+    }
+    return answer;
 }
 
 static inline struct zk_line zk_safe_through_line(struct zk_through *through, uint32_t side, uint8_t *out, size_t room) {
@@ -783,7 +1052,10 @@ static inline struct zk_line zk_safe_through_payload(struct zk_through *through,
 static inline struct zk_ending zk_safe_through_finish(struct zk_through *through) {
     struct zk_ending answer = ZK_ZEROS;
     answer.status = zk_fault_at(through, 1, sizeof *through);
-    return answer.status != ZK_WELL ? answer : zk_through_finish(through);
+    if (answer.status == ZK_WELL) {
+        zk_through_finish_into(through, &answer, sizeof answer);
+    }
+    return answer;
 }
 
 static inline void zk_safe_through_free(struct zk_through *through) {
@@ -968,6 +1240,71 @@ static inline struct zk_line zk_safe_listing(const struct zk_piece *pieces, size
 #define zk_write_event zk_safe_write_event
 #define zk_write_connected zk_safe_write_connected
 #define zk_listing zk_safe_listing
+
+/* ---- Many messages by one call, for who pays for each call, as from Python */
+
+/* A message, as zk_talk_view has it: its payload is `length` of the bytes from `place` on, its fields are `count` from
+ * `first` on. */
+struct zk_entry {
+    uint32_t kind;
+    int32_t xid;
+    int32_t operation;
+    int32_t err;
+    int64_t zxid;
+    uint64_t frame;
+    uint64_t answers;
+    uint32_t place;
+    uint32_t length;
+    uint32_t first;
+    uint32_t count;
+};
+
+/* What a block has: the bytes used of the piece, and how many messages. If there is more, one more is whole, for which
+ * the rooms were too small: zk_talk_view and its like have it. The status and the fault are those of the last step. */
+struct zk_block {
+    size_t used;
+    size_t entries;
+    uint32_t status;
+    bool more;
+    struct zk_fault fault;
+};
+
+/* Takes a piece by zk_talk_step, up to its end, a fault, or as many messages as there is room for. */
+ZK_ALSO struct zk_block zk_talk_block(struct zk_talk *talk, uint32_t side, const uint8_t *piece, size_t length, struct zk_entry *entries, size_t most, uint8_t *bytes, size_t size, struct zk_field *fields, size_t room) {
+    struct zk_block block = ZK_ZEROS;
+    size_t placed = 0, counted = 0;
+    do {
+        struct zk_step step = zk_talk_step(talk, side, piece + block.used, length - block.used);
+        block.status = step.status;
+        block.fault = step.fault;
+        block.used += step.used;
+        if (step.status != ZK_WELL || !step.whole) {
+            return block;
+        }
+        struct zk_message message = zk_talk_view(talk, side);
+        struct zk_line payload = zk_talk_payload(talk, side, bytes + placed, size - placed);
+        struct zk_read read = zk_talk_fields(talk, side, fields + counted, room - counted);
+        block.more = payload.status != ZK_WELL || read.status != ZK_WELL;
+        if (block.more) {
+            return block;
+        }
+        struct zk_entry *entry = &entries[block.entries++];
+        entry->kind = message.kind;
+        entry->xid = message.xid;
+        entry->operation = message.operation;
+        entry->err = message.err;
+        entry->zxid = message.zxid;
+        entry->frame = message.frame;
+        entry->answers = message.answers;
+        entry->place = (uint32_t)placed;
+        entry->length = (uint32_t)payload.length;
+        entry->first = (uint32_t)counted;
+        entry->count = read.count;
+        placed += payload.length;
+        counted += read.count;
+    } while (block.used < length && block.entries < most);
+    return block;
+}
 
 #ifdef __cplusplus
 }

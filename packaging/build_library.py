@@ -1,12 +1,16 @@
-"""The proved library for C, as `rt lib` makes it, and the toolchain's folder. As a script it proves and builds it."""
+"""The proved library for C, built twice over one proof: for any x86-64, and for x86-64-v2; and the toolchain's folder.
+As a script it proves and builds both."""
 
 import os
 import pathlib
 import subprocess
+import tempfile
 
 TOP = pathlib.Path(__file__).resolve().parent.parent
 CRATE = TOP / "crates" / "zk_c"
-LIBRARY = CRATE / "out" / "libzk_c.a"
+LIBRARY = CRATE / "out" / "libzk_c.a"            # for x86-64-v2, as `rt lib` makes it
+PLAIN = CRATE / "out" / "plain" / "libzk_c.a"    # for any x86-64
+LEVELS = {LIBRARY: (), PLAIN: ("--cpu", "x86-64")}
 
 
 def kit():
@@ -33,26 +37,38 @@ def below(name):
     return own, found, [one for one in uses[name] if one not in uses]
 
 
+def words(own, every, others):
+    """The command that proves and builds the library, but for where and for which processors."""
+    home = kit()
+    yield from (home / "bin" / "rattle", "build", "--crate-name", "zk_c", "src/lib.rt", "--crate-type", "staticlib",
+                "--links", "zk_c=", "--jobs", str(min(4, os.cpu_count() or 1)), "--toolchain", home / "toolchain",
+                "--antt-project", home / "rattle" / "logic" / "antt-project.json", "--logic-built", home / "logic_built",
+                "--backend", "llvm", "-L", f"dependency={home / 'rlibs'}")
+    for name in ["std", *others]:
+        yield from ("--extern", f"{name}={home / 'rlibs' / name}.rlib")
+    for name, path in own.items():
+        yield from ("--extern", f"{name}={path}")
+    for path in every.values():
+        yield from ("-L", f"dependency={path.parent}")
+
+
 def built():
-    """The library, proved and built."""
+    """Both libraries, proved and built. Where the libraries below aren't proved yet, `rt lib` proves them first."""
     own, every, others = below("zk_c")
     if not all(path.is_dir() for path in every.values()):
         subprocess.run(["rt", "lib"], cwd=CRATE, check=True, stdout=subprocess.DEVNULL)
-        return LIBRARY
-    home = kit()
-    words = [home / "bin" / "rattle", "build", "--crate-name", "zk_c", "src/lib.rt", "--crate-type", "staticlib",
-             "--links", "zk_c=", "--jobs", str(min(4, os.cpu_count() or 1)), "--toolchain", home / "toolchain",
-             "--antt-project", home / "rattle" / "logic" / "antt-project.json", "--logic-built", home / "logic_built",
-             "--backend", "llvm", "-o", LIBRARY, "-L", f"dependency={home / 'rlibs'}"]
-    for name in ["std", *others]:
-        words += ["--extern", f"{name}={home / 'rlibs' / name}.rlib"]
-    for name, path in own.items():
-        words += ["--extern", f"{name}={path}"]
-    for path in every.values():
-        words += ["-L", f"dependency={path.parent}"]
-    LIBRARY.parent.mkdir(exist_ok=True)
-    subprocess.run(words, cwd=CRATE, check=True, stdout=subprocess.DEVNULL)
-    return LIBRARY
+        build(list(words(own, every, others)), CRATE / "out" / "incremental")
+        return
+    with tempfile.TemporaryDirectory() as kept:
+        build(list(words(own, every, others)), kept)
+
+
+def build(command, kept):
+    """Builds both libraries over one folder of kept work: the second build proves nothing again."""
+    for path, level in LEVELS.items():
+        path.parent.mkdir(parents=True, exist_ok=True)
+        subprocess.run([*command, *level, "--incremental", kept, "-o", path], cwd=CRATE, check=True,
+                       stdout=subprocess.DEVNULL)
 
 
 if __name__ == "__main__":

@@ -1,4 +1,4 @@
-"""The Debian packages: zkdump, libzk1 and libzk-dev, of what is installed below /usr."""
+"""The Debian packages: zkdump, libzk2 and libzk-dev, of what is installed below /usr."""
 
 import fnmatch
 import hashlib
@@ -11,13 +11,16 @@ import subprocess
 from . import archive, make_columns
 from .build_library import TOP
 from .install import OWN, VERSION, install
+from .make_library import FAST, SONAME
 
 LIBDIR = "lib/x86_64-linux-gnu"
+SHARED = SONAME.replace(".so.", "")  # as Debian names it
 PROGRAMS = ("zkdump", make_columns.NAME)
 TOOLS = ("dpkg-deb", "objdump")
 PYTHON = "/usr/bin/python3"     # that of Debian's packages, which has numpy where python3-numpy is installed
 # Which files below /usr a package has, by the first row that fits; and its fields.
-FILES = (("libzk1", f"{LIBDIR}/libzk.so.*"), ("libzk-dev", f"{LIBDIR}/*"), ("libzk-dev", "include/*"),
+FILES = ((SHARED, f"{LIBDIR}/{SONAME}"), (SHARED, f"{LIBDIR}/{FAST}/{SONAME}"), ("libzk-dev", f"{LIBDIR}/*"),
+         ("libzk-dev", "include/*"),
          ("libzk-dev", "share/man/man3/*"), ("libzk-dev", f"{OWN}/examples/*"),
          ("libzk-dev", f"{OWN}/wireshark/*"), ("zkdump", "*"))
 FIELDS = {
@@ -27,21 +30,24 @@ Recommends: python3, python3-numpy
 Suggests: python3-distributed
 Description: proved dissector of conversations on ZooKeeper's client port
  It shows, checks, builds and migrates recordings of what a ZooKeeper client
- and its server said to each other, and has tools that record them.
+ and its server said to each other, and has tools that record them. It needs
+ a processor with SSE4.1 and POPCNT (x86-64-v2).
 """,
-    "libzk1": """Section: libs
+    SHARED: """Section: libs
 Depends: {libc}
 Multi-Arch: same
 Description: proved codec of ZooKeeper's client protocol, shared library
- It reads, judges and makes conversations on ZooKeeper's client port.
+ It reads, judges and makes conversations on ZooKeeper's client port. It runs
+ on any x86-64, and faster on one with SSE4.1 (x86-64-v2), whose own copy the
+ loader chooses.
 """,
     "libzk-dev": """Section: libdevel
-Depends: libzk1 (= {version})
+Depends: {shared} (= {version})
 Suggests: zkdump
 Description: proved codec of ZooKeeper's client protocol, for development
  It reads, judges and makes conversations on ZooKeeper's client port. This
- package has the header, the static library, examples, and the source of a
- plugin for Wireshark.
+ package has the header, the static library for any x86-64 and one for
+ x86-64-v2, examples, and the source of a plugin for Wireshark.
 """,
 }
 COPYRIGHT = """Format: https://www.debian.org/doc/packaging-manuals/copyright-format/1.0/
@@ -113,14 +119,14 @@ def describe(package, folder):
     files = [path for path in sorted(folder.rglob("*")) if path.is_file() and not path.is_symlink()]
     used = [path for path in files if path.name in PROGRAMS and path.parent.name in ("bin", "zkdump")
             or ".so." in path.name]
-    fields = FIELDS[package].format(libc=libc(*used) if used else "", version=VERSION)
+    fields = FIELDS[package].format(libc=libc(*used) if used else "", version=VERSION, shared=SHARED)
     (control / "control").write_text(f"Package: {package}\nSource: zkdump\nVersion: {VERSION}\nArchitecture: amd64\n"
                                      "Maintainer: the maintainers of zkdump\nPriority: optional\n"
                                      f"Installed-Size: {sum(-(-path.stat().st_size // 1024) for path in files)}\n{fields}")
     (control / "md5sums").write_text("".join(
         f"{hashlib.md5(path.read_bytes()).hexdigest()}  {path.relative_to(folder)}\n" for path in files))
-    if package == "libzk1":
-        (control / "shlibs").write_text(f"libzk 1 libzk1 (>= {VERSION})\n")
+    if package == SHARED:
+        (control / "shlibs").write_text(f"libzk {SONAME.rpartition('.')[2]} {SHARED} (>= {VERSION})\n")
         (control / "triggers").write_text("activate-noawait ldconfig\n")
     if package == "zkdump":
         (control / "prerm").write_text(REMOVAL)

@@ -17,7 +17,7 @@ import tempfile
 from typing import NamedTuple, Union
 
 from . import make_columns, make_completion, make_library, make_manual, pages, tool_words
-from .build_library import LIBRARY, TOP
+from .build_library import LIBRARY, PLAIN, TOP
 
 PROGRAM = TOP / "crates" / "zkdump" / "out" / "zkdump"
 VERSION = (TOP / "VERSION").read_text().strip()
@@ -61,13 +61,13 @@ def layout(libdir="lib"):
     files: "dict[str, Union[pathlib.Path, Made, Link]]" = {
         "bin/zkdump": PROGRAM,
         "include/zk.h": make_library.HEADER,
-        f"{libdir}/libzk.a": Made("libzk.a"),
-        f"{libdir}/libzk.so.1": Made("libzk.so.1"),
-        f"{libdir}/libzk.so": Link("libzk.so.1"),
+        f"{libdir}/libzk.so": Link(make_library.SONAME),
         f"{OWN}/BUILD": Made("BUILD"),
         f"lib/zkdump/{make_columns.NAME}": Made(make_columns.NAME),
         "share/bash-completion/completions/zkdump": TOP / "packaging" / "completion" / "zkdump.bash",
     }
+    libraries = [f"{folder}{name}" for folder in ("", f"{make_library.FAST}/") for name in ("libzk.a", make_library.SONAME)]
+    files.update((f"{libdir}/{name}", Made(name)) for name in libraries)
     files.update((f"{libdir}/{folder}/{name}", Made(name)) for name, folder in TEMPLATES.items())
     files.update((f"share/man/man{page[-1]}/{page}", Made(page)) for page in make_manual.PAGES)
     completions = "share/bash-completion/completions"
@@ -94,15 +94,17 @@ def toolchain():
 
 def make(folder, libdir, gate):
     """Makes in a folder the files that are made. A line for each part that is left out."""
-    if make_library.missing() or not LIBRARY.exists():
-        lacking = ", ".join(make_library.missing()) or LIBRARY.relative_to(TOP)
+    lacking = make_library.missing() or [str(path.relative_to(TOP)) for path in (LIBRARY, PLAIN) if not path.exists()]
+    if lacking:
+        lacking = ", ".join(lacking)
         yield f"the libraries, zk.pc, the CMake files and {make_columns.NAME}, since {lacking} is missing"
     else:
-        make_columns.make(folder, make_library.make(folder)[0])
+        make_library.make(folder)
+        make_columns.make(folder, folder / make_library.FAST / "libzk.a")
         for name, below in TEMPLATES.items():
             text = (TOP / "packaging" / f"{name}.in").read_text()
             values = {"UP": os.path.relpath(".", f"{libdir}/{below}"), "LIBDIR": libdir, "VERSION": VERSION,
-                      "MAJOR": VERSION.split(".")[0]}
+                      "MAJOR": VERSION.split(".")[0], "SONAME": make_library.SONAME}
             for word, value in values.items():
                 text = text.replace(f"@{word}@", value)
             (folder / name).write_text(text)

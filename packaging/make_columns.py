@@ -1,4 +1,5 @@
-"""Makes zkcolumns, the program by which the tools read recordings fast, of its sources in tools and the proved library.
+"""Makes zkcolumns, the program by which the tools read recordings fast, of its sources in tools and the proved library for
+x86-64-v2, on which the program zkdump runs, too.
 
     make_columns.py [FOLDER]
 
@@ -30,7 +31,8 @@ def main():
     try:
         folder.mkdir(exist_ok=True)
         with tempfile.TemporaryDirectory() as work:
-            make(folder, make_library.make(work)[0])
+            make_library.make(work)
+            make(folder, pathlib.Path(work, make_library.FAST, "libzk.a"))
     except (make_library.NotMade, OSError) as fault:
         print(f"make_columns.py: {fault}", file=sys.stderr)
         return 1

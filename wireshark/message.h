@@ -14,12 +14,15 @@
 
 /* Operations that this plugin has to know by their numbers. */
 enum {
-    OP_PING = 11, OP_MULTI = 14, OP_AUTH = 100, OP_SET_WATCHES = 101, OP_SASL = 102, OP_CLOSE = -11, OP_FAILED = -1,
-    OP_CONNECT = -10 /* which a server calls createSession; no message has it */
+    OP_EXISTS = 3, OP_PING = 11, OP_MULTI = 14, OP_AUTH = 100, OP_SET_WATCHES = 101, OP_SASL = 102, OP_CLOSE = -11,
+    OP_FAILED = -1, OP_CONNECT = -10 /* which a server calls createSession; no message has it */
 };
 
 /* The profile that has the most operations. */
 enum { NEWEST_PROFILE = ZK_PROFILE_35 };
+
+/* An error that is no failure where exists hears it. */
+enum { NO_NODE = -101 };
 
 /* Xids of requests that aren't numbered by their client, and of events. */
 enum { XID_EVENT = -1, XID_PING = -2, XID_AUTH = -4, XID_SET_WATCHES = -8 };

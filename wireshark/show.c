@@ -314,6 +314,12 @@ static const char *path_of(const struct shown *shown) {
     return call ? call->path : NULL;
 }
 
+/* Whether a reply with this error says that its request failed: there is no node, where exists asks for one, is an
+ * answer. */
+static bool is_failure(gint32 op, gint32 err) {
+    return err != 0 && !(op == OP_EXISTS && err == NO_NODE);
+}
+
 /* What is said of a frame besides its fields. */
 static void show_more(const struct shown *shown) {
     const struct frame *frame = shown->frame;
@@ -324,7 +330,7 @@ static void show_more(const struct shown *shown) {
     }
     show_info(shown, path_of(shown));
     show_pair(shown);
-    if (err != 0) {
+    if (is_failure(shown->op, err)) {
         expert_add_info_format(shown->pinfo, shown->item, &ei_error, "The server answers %s",
                                error_text(shown->pinfo, err));
     }

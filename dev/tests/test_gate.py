@@ -101,8 +101,8 @@ class Whole(ToolCase):
             path = self.folder / (name if "/" in name else f"{name.replace('.', '/')}/__main__.py")
             path.parent.mkdir(parents=True, exist_ok=True)
             path.write_text(f"print('{PASSED}')\n")
-        for name in ("crates/zkdump/out/zkdump", "crates/zk_c/out/libzk_c.a", "bin/rt"):
-            (self.folder / name).parent.mkdir(parents=True)
+        for name in ("crates/zkdump/out/zkdump", "crates/zk_c/out/libzk_c.a", "crates/zk_c/out/plain/libzk_c.a", "bin/rt"):
+            (self.folder / name).parent.mkdir(parents=True, exist_ok=True)
             (self.folder / name).write_text("#!/bin/sh\n[ \"$1\" != version ] || echo kit 1\n")
             (self.folder / name).chmod(0o700)
         self.git("init", "--quiet")

@@ -43,8 +43,10 @@ endforeach()
 
 def made(folder, *_):
     """Makes the libraries and zkcolumns in the folder, of nothing."""
-    for name in ("libzk.a", "libzk.so.1", make_columns.NAME):
-        pathlib.Path(folder, name).touch()
+    for name in ("libzk.a", make_library.SONAME, make_columns.NAME):
+        for path in (pathlib.Path(folder, name), pathlib.Path(folder, make_library.FAST, name)):
+            path.parent.mkdir(parents=True, exist_ok=True)
+            path.touch()
     return pathlib.Path(folder, "libzk.a"), None
 
 
@@ -56,7 +58,7 @@ class Place(ToolCase):
         self.place, program = self.folder / "a place", self.folder / "program"
         program.touch()
         self.lacking = ["scdoc"]
-        for module, names in ((install, {"PROGRAM": program, "LIBRARY": program, "toolchain": lambda: "rt"}),
+        for module, names in ((install, {"PROGRAM": program, "LIBRARY": program, "PLAIN": program, "toolchain": lambda: "rt"}),
                               (make_library, {"make": made}), (make_columns, {"make": made}),
                               (shutil, {"which": lambda tool: None if tool in self.lacking else f"/bin/{tool}"})):
             patch = unittest.mock.patch.multiple(module, **names)
@@ -134,7 +136,7 @@ class Place(ToolCase):
         self.assertEqual(status, 0, said)
         (self.folder / "CMakeLists.txt").write_text(FOUND)
         usr = (self.place / "usr").resolve()
-        self.assertEqual(self.configured(), [f"-- zk {usr}/lib/libzk.so.1 {usr}/include",
+        self.assertEqual(self.configured(), [f"-- zk {usr}/lib/{make_library.SONAME} {usr}/include",
                                              f"-- zk {usr}/lib/libzk.a {usr}/include"])
 
     @unittest.skipUnless(shutil.which("cmake"), "there is no cmake")
@@ -201,6 +203,30 @@ class Release(ToolCase):
                 unittest.mock.patch.object(release.distribution, "make", make), \
                 unittest.mock.patch.object(sys, "argv", ["release"]), contextlib.redirect_stderr(said):
             return release.main(), said.getvalue()
+
+    @unittest.skipUnless(shutil.which("git"), "git is not on the PATH")
+    def test_a_number_is_that_of_one_commit(self):
+        """A version that CHANGELOG.md had closed was made again from later commits."""
+        def commit(*headings):
+            text = "".join(f"## [{heading}\n\n- A line.\n\n" for heading in ("Unreleased]", *headings))
+            (self.folder / "CHANGELOG.md").write_text(f"{text}{len(history)}\n")
+            who = ("-c", "user.name=one", "-c", "user.email=one@example.org")
+            for words in (("add", "."), (*who, "commit", "--quiet", "--message=one")):
+                subprocess.run(["git", *words], cwd=self.folder, check=True)
+            history.append(self.release.gate.git("rev-parse", "HEAD"))
+            return [*self.release.unclosed("0.10.0")]
+        history = []
+        subprocess.run(["git", "init", "--quiet"], cwd=self.folder, check=True)
+        first, second = "0.9.0] - 2026-11-27", "0.10.0] - 2026-12-01"
+        with unittest.mock.patch.object(self.release.gate, "TOP", self.folder), \
+                unittest.mock.patch.object(self.release, "TOP", self.folder):
+            none = ["CHANGELOG.md hasn't closed 0.10.0: give what is unreleased this number and the date, and commit that"]
+            self.assertEqual(commit(first), none)
+            self.assertEqual(commit(first), none)
+            self.assertEqual(commit(second, first), [])
+            other = [f"the commit {history[-1][:8]} has closed 0.10.0, and this is another: take the next number"]
+            self.assertEqual(commit(second, first), other)
+            self.assertEqual(commit(first), none)
 
     def test_nothing_is_made_where_something_fails(self):
         def fails(fault):

@@ -13,13 +13,13 @@ from .. import lists
 
 FOLDERS = [f"crates/{name}/src" for name in ("zk_records", "zk_asks", "zk_answers", "zk_fields", "zk_items", "zk_lines",
                                              "zk_recordings", "zk_runs", "zk_talk", "zk_c")]
-FILES = (*lists.PARTS, *lists.WHOLE, "dev/__init__.py", "dev/names.py", "dev/lists.py", "dev/source.py", "dev/formats.py",
+FILES = (*lists.PARTS, *lists.WHOLE, "dev/__init__.py", "dev/names.py", "dev/lists.py", "dev/constants.py", "dev/newer.py", "dev/source.py", "dev/formats.py",
          "docs/FORMATS.md", "docs/LIBRARY.md", "docs/REASONS.md", "docs/man/zkdump.1.scd", "docs/man/zkr.5.scd",
          "examples/python/libzk/_messages.py", "examples/python/libzk/_held.py", "examples/server.c",
          "crates/talk_tests/src/tests/earliest/bodies.rt", "wireshark/tree.c", "wireshark/message.h",
          "tools/zkdump_tools/forms.py",
          "bench/make_recording.py")
-ALL_PASSED = (0, ["32 passed, 0 failed"])
+ALL_PASSED = (0, ["34 passed, 0 failed"])
 # A file, what is replaced in it and by what, and what is then said: `{line}` is the line of the change.
 WRITTEN = (
     ("include/zk.h", '    case 8: return "getChildren";\n', "", 'lacks case 8: return "getChildren"'),
@@ -163,16 +163,20 @@ COMPARED = (
      ("docs/FORMATS.md:*: waiting is ('1 to 1,048,576', '65,536'), and in the sources ('1 to 1,048,576', '65,537')",
       "docs/man/zkdump.1.scd: there is no ': 1 to 1048576; 65537 without the option'")),
     ("crates/zk_records/src/names.rt", '-102 => Some("NOAUTH"),', '-102 => Some("NORIGHT"),',
-     ("include/zk.h:*: has case -102: return \"NOAUTH\"; lacks case -102: return \"NORIGHT\"",
+     ("include/zk.h:*: has ZK_ERR_NO_AUTH = -102; lacks ZK_ERR_NORIGHT = -102",
+      "include/zk.h:*: has case -102: return \"NOAUTH\"; lacks case -102: return \"NORIGHT\"",
       "wireshark/names.c:*: has {NUMBER(-102), \"NOAUTH\"}; lacks {NUMBER(-102), \"NORIGHT\"}",
       'examples/python/libzk/_names.py:*: has -102: "NOAUTH"; lacks -102: "NORIGHT"',
+      "examples/python/libzk/_names.py:*: has NO_AUTH = -102; lacks NORIGHT = -102",
       'examples/rust/zk/src/names.rs:*: has -102 => "NOAUTH"; lacks -102 => "NORIGHT"',
+      "examples/rust/zk/src/names.rs:*: has NoAuth = -102; lacks Noright = -102",
+      f"examples/go/names.go:*: has CodeNoAuth{' ' * 23}= -102; lacks CodeNoright{' ' * 22}= -102",
       "docs/FORMATS.md:*: -102 is NOAUTH, and in the sources NORIGHT")),
     ("crates/zk_answers/src/frame.rt", "    Sync { path: T },\n", "",
      ("the crates' sources have no Sync in AskOf or BodyOf",)),
     ("crates/zk_records/src/op.rt", "macro_rules! op_rows", "macro_rules! rows",
      ("the crates' sources have no op_rows!",)),
-    ("include/zk.h", "/* Up to here. */\n", "", ("include/zk.h has 5 marks, not 6",)),
+    ("include/zk.h", "/* Up to here. */\n", "", ("include/zk.h has 7 marks, not 8",)),
 )
 # A page, a row that it has, and what is put before this: another row of the same name.
 TWICE = (
@@ -285,6 +289,7 @@ class Names(ToolCase):
                                   "examples/python/libzk/_names.py", "examples/rust/zk/src/names.rs",
                                   "tools/zkdump_tools/zkcolumns/json.c", "wireshark/names.c", "wireshark/tree.c",
                                   "bench/peer/peer.rs", "wireshark/register.c", "examples/go/libzk.go",
+                                  "examples/go/names.go",
                                   "packaging/completion/zkdump.bash", "crates/talk_tests/src/tests/earliest/bodies.rt",
                                   "docs/man/zkr.5.scd"})
         for name, before, added in PAGE:

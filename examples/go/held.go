@@ -25,6 +25,7 @@ var empty = Fault{Status: C.ZK_EMPTY}
 // talk is what a Talk points to, so that a copy of the Talk has the same handle. One call at a time uses it.
 type talk struct {
 	sync.Mutex
+	store
 	handle C.struct_zk_talk
 }
 
@@ -43,13 +44,14 @@ func NewTalk(limits Limits) (Talk, error) {
 	return Talk{it}, nil
 }
 
-// Close frees the talk, whose calls are then refused.
-func (t Talk) Close() {
+// Close frees the talk, whose calls are then refused. It returns nil, also where it is closed already.
+func (t Talk) Close() error {
 	if t.it != nil {
 		t.it.Lock()
 		defer t.it.Unlock()
 		C.zk_safe_talk_free(&t.it.handle)
 	}
+	return nil
 }
 
 // Renew begins the talk anew with its limits, whatever came before: for one conversation after another.
@@ -113,21 +115,21 @@ func (t Talk) Feed(side Side, piece []byte) ([]*Message, error) {
 // newest returns the message of the side's kept frame.
 func (it *talk) newest(side C.uint32_t) (*Message, error) {
 	view := C.zk_safe_talk_view(&it.handle, side)
-	payload, err := written(int(view.size), func(out *C.uint8_t, room C.size_t) C.struct_zk_line {
-		return C.zk_safe_talk_payload(&it.handle, side, out, room)
-	})
-	if err != nil {
+	if err := fault(view.status, 0); err != nil {
 		return nil, err
 	}
-	return shown(view, payload, func(out *C.struct_zk_field, room C.size_t) C.struct_zk_read {
-		return C.zk_safe_talk_fields(&it.handle, side, out, room)
-	})
-}
-
-// shown returns the message that a handle shows.
-func shown(view C.struct_zk_message, payload []byte,
-	call func(*C.struct_zk_field, C.size_t) C.struct_zk_read) (*Message, error) {
-	message, err := read(payload, call)
+	payload := it.cut(int(view.size) - 4)
+	written := C.zk_safe_talk_payload(&it.handle, side, start(payload), C.size_t(len(payload)))
+	if err := fault(written.status, 0); err != nil {
+		return nil, err
+	}
+	count := it.count()
+	answer := C.zk_safe_talk_fields(&it.handle, side, &it.room[0], count)
+	if answer.status == C.ZK_ROOM {
+		it.grow(answer.count)
+		answer = C.zk_safe_talk_fields(&it.handle, side, &it.room[0], it.count())
+	}
+	message, err := it.read(answer, payload)
 	if err == nil {
 		message.Frame, message.Answers = uint64(view.frame), uint64(view.answers)
 	}
@@ -257,13 +259,14 @@ func NewSpeaker(limits Limits) (Speaker, error) {
 	return Speaker{it}, nil
 }
 
-// Close frees the speaker, whose calls are then refused.
-func (s Speaker) Close() {
+// Close frees the speaker, whose calls are then refused. It returns nil, also where it is closed already.
+func (s Speaker) Close() error {
 	if s.it != nil {
 		s.it.Lock()
 		defer s.it.Unlock()
 		C.zk_safe_speaker_free(&s.it.handle)
 	}
+	return nil
 }
 
 // Renew begins the speaker anew with its limits: it has said nothing.

@@ -16,6 +16,16 @@ import (
 	"unsafe"
 )
 
+// The library that is loaded must not be older than the header by which this package was compiled.
+func init() {
+	if found := Version(); found < C.ZK_VERSION_NUMBER {
+		panic(fmt.Sprintf("libzk is %d, and this package needs %d or later", found, uint32(C.ZK_VERSION_NUMBER)))
+	}
+}
+
+// Version returns that of the library: a million for each major number, a thousand for each minor one.
+func Version() uint32 { return uint32(C.zk_version()) }
+
 // Side is who speaks.
 type Side uint32
 
@@ -117,21 +127,15 @@ type At struct {
 	Got      int32
 }
 
+// Is returns whether this is a fault of the status that the target has alone: errors.Is(err, ErrUnasked).
+func (fault Fault) Is(target error) bool {
+	other, is := target.(Fault)
+	return is && other == Fault{Status: fault.Status}
+}
+
 func (fault Fault) Error() string {
 	return fmt.Sprintf("%s at %d", StatusName(fault.Status), fault.Place)
 }
-
-// StatusName returns a status's name, or "".
-func StatusName(number uint32) string { return C.GoString(C.zk_status_name(C.uint32_t(number))) }
-
-// OperationName returns an operation's name, or "".
-func OperationName(number int32) string { return C.GoString(C.zk_operation_name(C.int32_t(number))) }
-
-// ErrorName returns the name of a reply's err, or "".
-func ErrorName(number int32) string { return C.GoString(C.zk_error_name(C.int32_t(number))) }
-
-// EventName returns the name of an event's type, or "".
-func EventName(number int64) string { return C.GoString(C.zk_event_name(C.int64_t(number))) }
 
 // fault returns nil for a call that did what it is for.
 func fault(status, place C.uint32_t) error {
@@ -158,54 +162,40 @@ func start(bytes []byte) *C.uint8_t {
 	return (*C.uint8_t)(unsafe.Pointer(&bytes[0]))
 }
 
-// read reads fields into a room that is large enough. The message has the payload, which is not copied.
-func read(payload []byte, call func(*C.struct_zk_field, C.size_t) C.struct_zk_read) (*Message, error) {
-	room := make([]C.struct_zk_field, 32)
-	answer := call(&room[0], C.size_t(len(room)))
+// read reads fields into a room that is large enough. The message has a copy of the payload.
+func read(payload []byte, call func(*C.uint8_t, *C.struct_zk_field, C.size_t) C.struct_zk_read) (*Message, error) {
+	var s store
+	payload = append([]byte(nil), payload...)
+	count := s.count()
+	answer := call(start(payload), &s.room[0], count)
 	if answer.status == C.ZK_ROOM {
-		room = make([]C.struct_zk_field, answer.count)
-		answer = call(&room[0], C.size_t(len(room)))
+		s.grow(answer.count)
+		answer = call(start(payload), &s.room[0], s.count())
 	}
-	if err := fault(answer.status, answer.place); err != nil {
-		return nil, err
+	if answer.status == C.ZK_WELL {
+		s.fields, s.messages = make([]Field, 0, answer.count), make([]Message, 0, 1)
 	}
-	message := &Message{Kind(answer.kind), int32(answer.xid), int32(answer.operation), int32(answer.err),
-		int64(answer.zxid), 0, 0, payload, make([]Field, 0, answer.count)}
-	for _, field := range room[:answer.count] {
-		place := int(field.place)
-		end := place + int(field.length) // what is appended to a content goes elsewhere
-		message.Fields = append(message.Fields, Field{C.GoString(C.zk_field_name(field.name)), FieldKind(field.kind),
-			field.null != 0, int64(field.number), place, payload[place:end:end]})
-	}
-	return message, nil
-}
-
-// copied returns bytes that the caller can't change.
-func copied(payload []byte) []byte {
-	return append([]byte(nil), payload...)
+	return s.read(answer, payload)
 }
 
 // ReadFirst reads the payload of a connect request.
 func ReadFirst(payload []byte) (*Message, error) {
-	payload = copied(payload)
-	return read(payload, func(out *C.struct_zk_field, room C.size_t) C.struct_zk_read {
-		return C.zk_safe_read_first(start(payload), C.size_t(len(payload)), out, room)
+	return read(payload, func(at *C.uint8_t, out *C.struct_zk_field, room C.size_t) C.struct_zk_read {
+		return C.zk_safe_read_first(at, C.size_t(len(payload)), out, room)
 	})
 }
 
 // ReadRequest reads the payload of a request.
 func ReadRequest(profile Profile, payload []byte) (*Message, error) {
-	payload = copied(payload)
-	return read(payload, func(out *C.struct_zk_field, room C.size_t) C.struct_zk_read {
-		return C.zk_safe_read_request(C.uint32_t(profile), start(payload), C.size_t(len(payload)), out, room)
+	return read(payload, func(at *C.uint8_t, out *C.struct_zk_field, room C.size_t) C.struct_zk_read {
+		return C.zk_safe_read_request(C.uint32_t(profile), at, C.size_t(len(payload)), out, room)
 	})
 }
 
 // ReadConnected reads the payload of the answer to a connect request.
 func ReadConnected(payload []byte) (*Message, error) {
-	payload = copied(payload)
-	return read(payload, func(out *C.struct_zk_field, room C.size_t) C.struct_zk_read {
-		return C.zk_safe_read_connected(start(payload), C.size_t(len(payload)), out, room)
+	return read(payload, func(at *C.uint8_t, out *C.struct_zk_field, room C.size_t) C.struct_zk_read {
+		return C.zk_safe_read_connected(at, C.size_t(len(payload)), out, room)
 	})
 }
 
@@ -219,18 +209,16 @@ func firstPart(parts []int32) *C.int32_t {
 
 // ReadReply reads the payload of a reply to a request of this operation, for a multi of these parts.
 func ReadReply(operation int32, parts []int32, payload []byte) (*Message, error) {
-	payload = copied(payload)
 	first := firstPart(parts)
-	return read(payload, func(out *C.struct_zk_field, room C.size_t) C.struct_zk_read {
-		return C.zk_safe_read_reply(C.int32_t(operation), first, C.size_t(len(parts)), start(payload),
+	return read(payload, func(at *C.uint8_t, out *C.struct_zk_field, room C.size_t) C.struct_zk_read {
+		return C.zk_safe_read_reply(C.int32_t(operation), first, C.size_t(len(parts)), at,
 			C.size_t(len(payload)), out, room)
 	})
 }
 
 // ReadEvent reads the payload of an event.
 func ReadEvent(payload []byte) (*Message, error) {
-	payload = copied(payload)
-	return read(payload, func(out *C.struct_zk_field, room C.size_t) C.struct_zk_read {
-		return C.zk_safe_read_event(start(payload), C.size_t(len(payload)), out, room)
+	return read(payload, func(at *C.uint8_t, out *C.struct_zk_field, room C.size_t) C.struct_zk_read {
+		return C.zk_safe_read_event(at, C.size_t(len(payload)), out, room)
 	})
 }

@@ -46,25 +46,28 @@ func told(t *testing.T, p Through, side Side, piece []byte) (found []string, use
 		t.Fatal(err)
 	}
 	for _, step := range every {
-		of := fmt.Sprintf("%d %d of frame %d", step.Xid, step.Operation, step.Frame)
-		switch step.Went {
-		case WentWithin:
-			of = "within"
-		case WentFull:
-			of = "full"
-		case WentAsked:
-			of = "asked " + of
-		case WentAnswered:
-			of = "answered " + of
-		case WentUnseen:
-			of = fmt.Sprintf("unseen %d %d %d", step.Xid, step.Zxid, step.Err)
-		default:
-			it := step.Message
-			of = fmt.Sprintf("message %d %d of frame %d answers %d", it.Xid, it.Operation, it.Frame, it.Answers)
-		}
-		found, used = append(found, of), append(used, step.Used)
+		found, used = append(found, became(step)), append(used, step.Used)
 	}
 	return
+}
+
+// became returns what became of a step.
+func became(step Passed) string {
+	of := fmt.Sprintf("%d %d of frame %d", step.Xid, step.Operation, step.Frame)
+	switch step.Went {
+	case WentWithin:
+		return "within"
+	case WentFull:
+		return "full"
+	case WentAsked:
+		return "asked " + of
+	case WentAnswered:
+		return "answered " + of
+	case WentUnseen:
+		return fmt.Sprintf("unseen %d %d %d", step.Xid, step.Zxid, step.Err)
+	}
+	it := step.Message
+	return fmt.Sprintf("message %d %d of frame %d answers %d", it.Xid, it.Operation, it.Frame, it.Answers)
 }
 
 func TestLinesOfPassages(t *testing.T) {
@@ -149,6 +152,92 @@ func TestFull(t *testing.T) {
 		if !reflect.DeepEqual(found, row.told) || !reflect.DeepEqual(used, row.used) {
 			t.Error(found, used, "not", row.told, row.used)
 		}
+	}
+}
+
+// healthy returns what each side says in a healthy conversation of three requests, and what becomes of it.
+func healthy() (pieces [2][]byte, wanted [2][]string) {
+	pieces = [2][]byte{
+		framed(hello, "00000001"+existsTwo[8:], existsTwo, "00000003"+unknown[8:]),
+		framed(welcome, "00000001"+noNodeTwo[8:], noNodeTwo, "00000003"+none[8:])}
+	wanted = [2][]string{
+		{"message 0 0 of frame 0 answers 0", "message 1 3 of frame 1 answers 0", "message 2 3 of frame 2 answers 0",
+			"asked 3 9999 of frame 3"},
+		{"message 0 0 of frame 0 answers 0", "message 1 3 of frame 1 answers 1", "message 2 3 of frame 2 answers 2",
+			"answered 3 9999 of frame 3"}}
+	return
+}
+
+// The server's next bytes come after the client's that had no room, reply by reply.
+func TestAsManyAsMayWait(t *testing.T) {
+	for _, waiting := range []uint32{1, 2, 65536} {
+		p, found := newThrough(t, waiting), [2][]string{}
+		left, wanted := healthy()
+		for len(left[Client])+len(left[Server]) > 0 {
+			for _, side := range []Side{Client, Server} {
+				if len(left[side]) == 0 {
+					continue
+				}
+				every, used := told(t, p, side, left[side])
+				for i, of := range every {
+					left[side] = left[side][used[i]:]
+					if of != "full" {
+						found[side] = append(found[side], of)
+					}
+				}
+				if full := every[len(every)-1] == "full"; full != (len(left[side]) > 0) {
+					t.Fatal(waiting, side, every, len(left[side]))
+				}
+			}
+		}
+		if ending, err := p.Ending(); err != nil || ending != (Ending{Kind: Whole}) || !reflect.DeepEqual(found, wanted) {
+			t.Error(waiting, found, ending, err)
+		}
+		p.Close()
+	}
+}
+
+// What the client sends is kept while it has no room, whatever its pieces, and taken after each reply.
+func TestTake(t *testing.T) {
+	for _, row := range []struct {
+		waiting uint32
+		cut     int
+	}{{1, 1000}, {1, 7}, {2, 1000}, {2, 11}, {65536, 1}} {
+		p, found := newThrough(t, row.waiting), [2][]string{}
+		pieces, wanted := healthy()
+		for side, piece := range pieces {
+			for len(piece) > 0 {
+				cut := row.cut
+				if cut > len(piece) {
+					cut = len(piece)
+				}
+				sent := append([]byte{}, piece[:cut]...)
+				every, err := p.Take(Side(side), sent)
+				if err != nil {
+					t.Fatal(row, err)
+				}
+				for i := range sent {
+					sent[i] = 0xff // the caller's to write over
+				}
+				for _, passed := range every {
+					if passed.Went != WentWithin && passed.Went != WentFull {
+						found[passed.Side] = append(found[passed.Side], became(passed))
+					}
+				}
+				piece = piece[cut:]
+			}
+		}
+		if ending, err := p.Ending(); err != nil || ending != (Ending{Kind: Whole}) || !reflect.DeepEqual(found, wanted) {
+			t.Error(row, found, ending, err)
+		}
+		if err := p.Renew(); err != nil {
+			t.Error(err)
+		}
+		every, err := p.Take(Client, pieces[Client])
+		if last := every[len(every)-1]; err != nil || (last.Went == WentFull) != (row.waiting < 3) {
+			t.Error(row, every, err)
+		}
+		p.Close()
 	}
 }
 

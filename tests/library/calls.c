@@ -81,6 +81,26 @@ static void step(struct played *it) {
     must(zk_talk_view(&it->talk, given.side).status == (passes ? ZK_NO_MESSAGE : ZK_WELL), "the frame kept");
 }
 
+/* Messages by one call: each has its payload and its fields within the rooms. */
+static void take_block(struct played *it) {
+    static struct zk_entry entries[4];
+    struct given given = give(it, 0);
+    size_t room, most = 1 + (size_t)chance(4);
+    struct zk_field *out = room_for(&room);
+    clear(&text, any_room());
+    struct zk_block block = zk_talk_block(&it->talk, given.side, given.at, given.length, entries, most, text.at, text.room, out, room);
+    if (!stepped(it, given, block.status, block.used, block.fault)) return;
+    must(block.entries <= most && (!block.more || block.status == ZK_WELL), "more messages than there is room for");
+    must(block.used == given.length || block.more || block.status != ZK_WELL || block.entries == most, "a block that ends early");
+    size_t placed = 0, counted_fields = 0;
+    for (size_t i = 0; i < block.entries; i++) {
+        must(entries[i].place == placed && entries[i].first == counted_fields, "a message that follows another");
+        placed += entries[i].length;
+        counted_fields += entries[i].count;
+    }
+    must(placed <= text.room && counted_fields <= room, "payloads or fields beyond their room");
+}
+
 /* What waits and is held. */
 static void count_all(struct played *it, uint32_t side) {
     struct zk_waiting waiting = zk_talk_waiting(&it->talk);
@@ -300,6 +320,7 @@ static void call_talk(struct played *it) {
     case 6: case 7: write_text(it, payload, side); break;
     case 8: case 9: show_fields(it, TALK, side); break;
     case 10: count_all(it, side); break;
+    case 11: case 12: take_block(it); break;
     default: step(it);
     }
 }

@@ -287,6 +287,23 @@ def held_up(program):
         yield name, good, f"proxy, {name}: {status}, {proxy.of(1)[-1:]}"
 
 
+def one_waits(program):
+    """Whether a proxy of which one request may wait passes on each when the one before has its reply, and reads all."""
+    with socket.create_server(("127.0.0.1", 0)) as listener:
+        proxy = Proxy(program, listener.getsockname()[1])
+        with proxy.connect() as client, undelayed(listener.accept()[0]) as server:
+            client.sendall(HELLO + EXISTS * 3)
+            good = came(server, len(HELLO + EXISTS)) == HELLO + EXISTS and is_silent(server)
+            answer, reply = small_server.framed(small_server.CONNECTED), small_server.framed(small_server.reply(EXISTS[4:], 5))
+            for wanted in (EXISTS, EXISTS, b""):
+                server.sendall(answer + reply)
+                good &= came(client, len(answer + reply)) == answer + reply and came(server, len(wanted)) == wanted
+                answer = b""
+        status = proxy.end()
+    good &= status == (0, "") and proxy.of(1)[-1] == ". whole unanswered=0" and len(proxy.of(1)) == 9
+    yield "one waits", good, f"proxy of which one may wait: {status}, {proxy.of(1)}"
+
+
 class Unread(Proxy):
     """A proxy of which nobody reads more than the first line."""
 

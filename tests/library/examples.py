@@ -28,7 +28,7 @@ TOP = pathlib.Path(__file__).resolve().parents[2]
 CAPTURES, EXAMPLES = TOP / "captures", TOP / "examples"
 HERE = TOP / "tests" / "library"
 PROGRAMS = {path.stem: path for path in (*sorted(EXAMPLES.glob("*.c")),
-                                         *(HERE / f"{name}.c" for name in ("calls", "nulls", "threads")))}
+                                         *(HERE / f"{name}.c" for name in ("beside", "calls", "nulls", "threads")))}
 STRICT = ("-std=c11", "-Wall", "-Wextra", "-Wpedantic", "-Werror")
 SAID = """connected: time_out=10000
 create: OK path=/a
@@ -126,6 +126,14 @@ def try_addresses(folder, archive, cc):
         status = proxy.end()
         server.shutdown()
     yield "proxy, addresses", (got, status) == (41, (0, "")), f"proxy, addresses: {got} bytes, {status}"
+
+
+def wait_for_replies(folder, archive, cc):
+    """Whether the proxy, made for one request that may wait, passes on each in its turn."""
+    source, program = pathlib.Path(folder, "waits.c"), os.path.join(folder, "proxy_waits")
+    source.write_text((EXAMPLES / "proxy.c").read_text().replace(f"WAITING = {example_proxy.WAITING}", "WAITING = 1"))
+    subprocess.run([cc, *STRICT, f"-I{TOP / 'include'}", "-o", program, source, archive], check=True)
+    yield from example_proxy.one_waits(program)
 
 
 # ---- Listings and fields
@@ -369,9 +377,11 @@ def check(folder, archive, shared, cc):
     yield from example_proxy.check(programs["proxy"])
     yield from run_client(programs["client"])
     yield from try_addresses(folder, archive, cc)
+    yield from wait_for_replies(folder, archive, cc)
     yield ends_well("client frames", programs["client_frames"])
     yield from example_server.check(programs["server"], programs["client"])
     yield ends_well("null pointers", programs["nulls"])
+    yield ends_well("beside the proved calls", programs["beside"])
     yield ends_well("handles that go from thread to thread", programs["threads"])
     yield from measure_memory(folder, archive, cc)
 

@@ -3,7 +3,7 @@
     python3 -m tests.library [--library PATH] [--calls N] [--seed N]
 
 Each call that crates/zk_c/src exports is in include/zk.h with the same parameters, each struct that C sees with the
-same fields, and each number by the same name. Payloads, lines and conversations are judged as tables say (verdicts.py).
+same fields, and each number by the same name. What the last release's header had is there still (frozen.c). Payloads, lines and conversations are judged as tables say (verdicts.py).
 The fields of payloads, and of recordings' messages, are compared with a second reading of docs/FORMATS.md (fields.py,
 messages.py), and those of requests written again (written_frames.py). Handles that are begun anew are compared with new ones
 (reused_handles.py), and passages with a model of them (passages.py). The examples and the tests in C are compiled and run
@@ -12,8 +12,9 @@ thread to thread, the memory that stays of closed ones, and --calls (1,000,000) 
 from a seed. The packages for Python, Rust and Go are built, and run their own tests (packages.py). What is skipped,
 since a compiler or a module is missing, is reported.
 
-Where no other is named, the library is proved and built here, over the libraries below it that `rt ci` left; where it
-left none, `rt lib` proves these too. It prints what failed and one last line. The status is 0 where nothing did.
+Where no other is named, the library is proved and built here for any x86-64 and for x86-64-v2, over the libraries below
+it that `rt ci` left; where it left none, `rt lib` proves these too. The calls of both are compared with the tables, and
+the rest runs over the one for any x86-64. It prints what failed and one last line. The status is 0 where nothing did.
 """
 
 import argparse
@@ -22,9 +23,9 @@ import re
 import sys
 import tempfile
 
-from dev import source
+from dev import newer, source
 from examples import talk
-from packaging import make_library
+from packaging import freeze, make_library
 from packaging.build_library import CRATE, built
 from .. import left_out
 from . import examples, fields, messages, packages, passages, reused_handles, verdicts, written_frames
@@ -42,6 +43,7 @@ C_TYPES = {"u8": "uint8_t", "u16": "uint16_t", "u32": "uint32_t", "u64": "uint64
            "Field": "struct zk_field", "ReadAnswer": "struct zk_read", "WriteAnswer": "struct zk_written",
            "WaitingAnswer": "struct zk_waiting", "HeldAnswer": "struct zk_held"}
 INSIDE = {"TalkBox", "PassageBox", "VoiceBox"}
+OWN = {"struct zk_builder", "struct zk_entry", "struct zk_block"}  # of the header's functions, and of no call
 NAMED = {"uint32_t", "int32_t", "int64_t"}  # parameters of these types have the crate's names
 FIELDS = TOP / "crates" / "zk_fields" / "src"
 LINKED = "what is linked with libzk"        # in CHECKS of left_out.py
@@ -102,7 +104,7 @@ def declared():
     text = source.plain(HEADER.read_text())
     calls, structs = {}, {}
     for result, name, words in re.findall(r"^([a-z][\w ]*?[ *])(zk_\w+)\(([^)]*)\);", text, flags=re.M | re.S):
-        given = [re.fullmatch(r"(.*?)(\w+)", word.strip()).groups() for word in words.split(",")]
+        given = [re.fullmatch(r"(.*?)(\w+)", word.strip()).groups() for word in words.split(",") if word != "void"]
         calls[name] = (joined(result), [named(joined(kind), word) for kind, word in given])
     for name, body in re.findall(r"^(struct zk_\w+) \{(.*?)\n\};", text, flags=re.M | re.S):
         fields = re.findall(r"^\s+(.*?)(\w+);", body, flags=re.M)
@@ -123,10 +125,13 @@ def compare_header():
     """A line for each difference between the crate and its header."""
     (calls, structs), (c_calls, c_structs, c_numbers) = exported(), declared()
     for kind, ours, theirs in (("call", calls, c_calls), ("struct", structs, c_structs)):
-        for name in sorted({*ours, *theirs}):
-            yield (name, ours.get(name) == theirs.get(name),
-                   f"{kind} {name}: the crate has {ours.get(name)}, the header {theirs.get(name)}")
-    ours, theirs = source.names(), header_names(c_numbers)
+        for name in sorted({*ours, *theirs} - OWN):
+            found, wanted = theirs.get(name), ours.get(name)
+            if name.endswith("_into"):  # over the call that returns the struct
+                result, words = ours.get(name[:-5], ("", []))
+                wanted = "void", [*words, f"{result} *", "size_t"]
+            yield name, wanted == found, f"{kind} {name}: the crate has {wanted}, the header {found}"
+    ours, theirs = newer.names(), header_names(c_numbers)
     for kind in sorted({*ours, *theirs}):
         yield (kind, ours.get(kind) == theirs.get(kind),
                f"names of {kind}: {ours.get(kind)}, the header {theirs.get(kind)}")
@@ -135,6 +140,12 @@ def compare_header():
     for name, number in sorted(numbers.items()):
         yield (name, c_numbers.get(name) == number,
                f"number {name}: the crate has {number}, the header {c_numbers.get(name)}")
+
+
+def frozen():
+    """Whether programs that were compiled with the last release's header go on with this one (packaging/freeze.py)."""
+    found = list(freeze.faults())
+    yield "frozen", not found, "\n".join(found[:5])
 
 
 def compare_calls(shared):
@@ -158,11 +169,14 @@ def check(folder, options):
     if lacking or not cc:
         left_out.say(LINKED, left_out.lacking(lacking or ["a compiler for C"]))
         return
+    yield from frozen()
     archive, shared = make_library.make(folder, options.library)
-    yield from compare_calls(shared)
+    for each in (shared, *folder.glob(f"{make_library.FAST}/{make_library.SONAME}")):
+        yield from compare_calls(each)
     yield from examples.check(folder, archive, shared, cc)
     yield examples.call_at_random(folder, options.seed, options.calls)
-    yield from packages.check(folder, archive, shared, declared()[0], header_names(declared()[2]))
+    linked = {name: of for name, of in declared()[0].items() if name in make_library.exports()}
+    yield from packages.check(folder, archive, shared, linked, header_names(declared()[2]))
 
 
 def main():
@@ -172,7 +186,7 @@ def main():
     parser.add_argument("--seed", type=int, default=1)
     options = parser.parse_args()
     if options.library is None:
-        options.library = built()
+        built()
     results = list(compare_header())
     with tempfile.TemporaryDirectory() as folder:
         linked = list(check(pathlib.Path(folder), options))

@@ -21,8 +21,9 @@ PYTHON, RUST, GO = (EXAMPLES / name for name in ("python", "rust", "go"))
 
 def run(name, *words, **environment):
     """Whether a command ends with the status 0, and its output."""
+    given = {name: environment.pop(name) for name in ("user", "group", "extra_groups") if name in environment}
     folder = environment.pop("folder")
-    found = subprocess.run(words, cwd=folder, env={**os.environ, **environment}, capture_output=True, text=True)
+    found = subprocess.run(words, cwd=folder, env={**os.environ, **environment}, capture_output=True, text=True, **given)
     said = found.stdout + found.stderr
     return (name, found.returncode == 0, f"{name}: status {found.returncode}, {said[-2000:]}"), said
 
@@ -35,6 +36,16 @@ def pythons(*modules):
             yield path
 
 
+def another(python):
+    """The words by which a command is run by a user who can't write everywhere, if root runs these tests and that user
+    has this Python."""
+    who = {"user": "nobody", "group": "nogroup", "extra_groups": []}
+    try:
+        return who if os.geteuid() == 0 and subprocess.run([python, "-c", ""], **who).returncode == 0 else {}
+    except (OSError, LookupError):
+        return {}
+
+
 def check_python(folder, shared):
     """The wheel is made and installed in a folder, and the tests run over it."""
     python = next(pythons("pip", "setuptools", "wheel"), None)
@@ -43,9 +54,17 @@ def check_python(folder, shared):
         return
     source, into = folder / "python", folder / "site"
     shutil.copytree(PYTHON, source)
+    for path in (source, *source.rglob("*")):  # as one that is installed, for users who can't write there
+        path.chmod(path.stat().st_mode & ~0o222)
+    who = another(python)
+    folder.chmod(0o755)
+    into.mkdir()
+    into.chmod(0o777)
     result, _ = run("pip install", python, "-m", "pip", "install", "--quiet", "--no-index", "--no-build-isolation",
-                    "--no-deps", "--disable-pip-version-check", "--target", into, ".", folder=source)
+                    "--no-deps", "--disable-pip-version-check", "--target", into, source, folder=folder, HOME=str(into), **who)
     yield result
+    for path in (source, *source.rglob("*")):
+        path.chmod(path.stat().st_mode | 0o200)
     tested = {"folder": folder, "PYTHONPATH": str(into), "LIBZK": str(shared)}
     with_kazoo = next(pythons("kazoo"), None)
     if with_kazoo is None:
@@ -132,7 +151,8 @@ def compare_names(names):
     python = (PYTHON / "libzk" / "_names.py").read_text()
     rust = (RUST / "zk" / "src" / "names.rs").read_text()
     tables = dict(re.findall(r"^(\w+): Dict\[int, str\] = \{(.*?)^\}", python, re.M | re.S))
-    words = {"operation": "OPERATIONS", "error": "ERRORS", "event": "EVENTS", "field": "FIELDS", "status": "STATUSES"}
+    words = {"operation": "OPERATIONS", "error": "ERRORS", "event": "EVENTS", "field": "FIELDS", "status": "STATUSES",
+             "state": "STATES", "flags": "FLAGS"}
     functions = dict(re.findall(r"^pub fn (\w+)_name\(.*?\n(.*?)^\}", rust, re.M | re.S))
     for kind, wanted in names.items():
         for package, text in (("python", tables[words[kind]]), ("rust", functions[kind])):
@@ -144,21 +164,30 @@ def compare_calls(calls):
     header's."""
     python = re.findall(r'"(zk_\w+)": \((.*)\),$', (PYTHON / "libzk" / "_calls.py").read_text(), re.M)
     rust = re.findall(r"pub fn (zk_\w+)\((.*?)\)(?: ->|;)", (RUST / "zk-sys" / "src" / "lib.rs").read_text(), re.S)
-    found = [("python", name, words.count(",")) for name, words in python]
+    found = [("python", name, words.rstrip(",").count(",")) for name, words in python]
     found += [("rust", name, words.count(":")) for name, words in rust]
-    for package, name, count in found:
+    also = {name: words.count(",") + 1 for name, words in re.findall(
+        r"^ZK_ALSO [\w ]+[ *](zk_\w+)\(([^)]*)\) \{$", HEADER.read_text(), re.M)}
+    yield from ((name, count == also[name], f"examples/{package}: {name} has {count} parameters, and {also[name]} in the header")
+                for package, name, count in found if name in also)
+    for package, name, count in (row for row in found if row[1] not in also):
         wanted = len(calls[name][1]) if name in calls else None
         yield name, count == wanted, f"examples/{package}: {name} has {count} parameters, and {wanted} in the header"
-    go = re.findall(r"\bC\.(zk)_safe(_\w+)\(", "".join(path.read_text() for path in sorted(GO.glob("*.go"))))
-    for package, declared in (("python", [name for name, _ in python]), ("rust", [name for name, _ in rust]),
-                              ("go", map("".join, go))):
-        other = {*declared} ^ {*calls}
+    go = re.findall(r"\bC\.(zk)(?:_safe)?(_(?!\w+_name)\w+)\(", "".join(path.read_text() for path in sorted(GO.glob("*.go"))))
+    go = [f"{name}_into" if f"{name}_into" in calls else name for name in map("".join, go)]  # by the header's functions
+    for package, declared in (("python", [name for name, _ in python]), ("rust", [name for name, _ in rust]), ("go", go)):
+        other = ({*declared} - also.keys()) ^ {*calls}
         yield package, not other, f"examples/{package} lacks calls of the header, or has others: {sorted(other)}"
 
 
 def compare_versions():
-    """Whether each package has the version of the release."""
+    """Whether each package has the version of the release, and compares its number with that of the library."""
     wanted = (TOP / "VERSION").read_text().strip()
+    number = re.findall(r"^#define ZK_VERSION_NUMBER (\d+)$", HEADER.read_text(), re.M)
+    for path, row in ((PYTHON / "libzk" / "_calls.py", r"^VERSION = (\d+)"),
+                      (RUST / "zk-sys" / "src" / "lib.rs", r"^pub const VERSION: u32 = ([\d_]+);")):
+        found = [digits.replace("_", "") for digits in re.findall(row, path.read_text(), re.M)]
+        yield path.name, found == number, f"{path.relative_to(TOP)}: the number {found}, not {number}"
     for path in (PYTHON / "pyproject.toml", RUST / "zk-sys" / "Cargo.toml", RUST / "zk" / "Cargo.toml"):
         found = re.findall(r'^version = "(.*)"', path.read_text(), re.M)
         yield path.name, found == [wanted], f"{path.relative_to(TOP)}: the version {found}, not {wanted}"

@@ -2,7 +2,7 @@
 
     python3 -m tests.release
 
-The number in VERSION is that of zk.h and of CHANGELOG.md. The header compiles without a warning as C11 and as C++17.
+The number in VERSION is that of zk.h and of zk_version, and none below the newest of CHANGELOG.md. The header compiles without a warning as C11 and as C++17.
 The archive is unpacked: its program prints the listing of a recording, and examples/listing.c, linked with each of its
 libraries, too. The libraries export the header's functions and no other name. The Debian packages are installed below a
 folder, used and removed. A second release has the same bytes. What is skipped, since a tool is missing, is reported.
@@ -16,6 +16,7 @@ import os
 import pathlib
 import re
 import shutil
+import struct
 import subprocess
 import sys
 import tarfile
@@ -33,8 +34,11 @@ STRICT = ("-Wall", "-Wextra", "-Wpedantic", "-Werror")
 # The functions of the C library that are called, and the data outside of handles: a byte that is never written.
 CALLED = {"malloc", "realloc", "free", "memcpy", "memmove", "memset"}
 KEPT = {"nothing"}
+# Instructions of x86-64-v2, as a compiler uses them.
+LATER = re.compile(r"\t(pshufb|palignr|ptest|popcnt|pmul[hl][dr]\w*|p(?:min|max)(?:s[bd]|u[wd])|pblend\w+|p(?:insr|extr)[bdq]|"
+                   r"pmov[sz]x\w+|pabs[bdw]|phadd\w+|round[sp][sd]|crc32\w*|pcmpgtq|pcmpeqq|packusdw)\b")
 # How many checks these have.
-PACKAGES, LIBRARIES = 6, 13
+PACKAGES, LIBRARIES = 6, 19
 # A program that takes each kind of answer, in C and in C++.
 USES = """#include <zk.h>
 int main(void) {
@@ -107,11 +111,19 @@ def ends_well(name, *words, **options):
 
 def numbers():
     """The version, where else it is written."""
-    header = re.findall(r'^#define ZK_VERSION "(.*)"$', (TOP / "include" / "zk.h").read_text(), re.M)
+    text = (TOP / "include" / "zk.h").read_text()
+    header = re.findall(r'^#define ZK_VERSION "(.*)"$', text, re.M)
     yield "zk.h", header == [install.VERSION], f"zk.h has the version {header}, VERSION {install.VERSION}"
+    digits = [*map(int, install.VERSION.split("."))]
+    number = digits[0] * 1000000 + digits[1] * 1000 + digits[2]
+    for name, row, of in (("zk.h", r"^#define ZK_VERSION_NUMBER (\d+)$", text),
+                          ("version.rt", r"^    ([\d_]+)$", (TOP / "crates/zk_c/src/version.rt").read_text())):
+        found = [int(each) for each in re.findall(row, of, re.M)]
+        yield name, found == [number], f"{name} has the number {found}, and VERSION {number}"
     changes = re.findall(r"^## \[(.*?)\](?: - (\d{4}-\d\d-\d\d))?$", (TOP / "CHANGELOG.md").read_text(), re.M)
-    yield "CHANGELOG.md", [name for name, _ in changes[:2]] == ["Unreleased", install.VERSION] and changes[1][1], \
-        f"CHANGELOG.md begins with {changes[:2]}"
+    closed = [[*map(int, name.split("."))] for name, date in changes[1:] if date]
+    good = changes[0] == ("Unreleased", "") and len(closed) == len(changes) - 1 and closed == sorted(closed, reverse=True)
+    yield "CHANGELOG.md", good and closed[0] <= digits, f"CHANGELOG.md has {changes}, and VERSION {install.VERSION}"
     found = run(sys.executable, TOP / "release", install.VERSION + "0")
     yield "another version", found.returncode == 2, f"release: status {found.returncode} for another version"
     found = run(sys.executable, TOP / "release", "--log", "/no/such/log")
@@ -127,11 +139,12 @@ def logs():
     loader.exec_module(release)
     lines = list(gate.lines())
     passed = "\n".join(["== step", "9 passed, 0 failed", "== python3 -m dev.gate (after 9 s)", *lines, ""])
-    commit, program, library = (line.rpartition(": ")[2] for line in lines)
+    commit, program, library, plain = (line.rpartition(": ")[2] for line in lines)
     cases = {"its own": (passed, 0), "another commit's": (passed.replace(commit, "0" * 40), 1),
              "another program's": (passed.replace(program, "0" * 64), 1),
-             "another library's": (passed.replace(library, "0" * 64), 1), "no log": ("/bin/true\n", 3),
-             "empty": ("", 3),
+             "another library's": (passed.replace(library, "0" * 64), 1),
+             "another plain library's": (passed.replace(plain, "0" * 64), 1), "no log": ("/bin/true\n", 4),
+             "empty": ("", 4),
              "one of another end": (f"{passed}more\n", 1),
              "one that failed": (passed.replace("0 failed", "1 failed"), 1)}
     usual = set(release.faults(None))
@@ -190,15 +203,43 @@ def header(top, work):
                             f"-I{top / 'include'}", "-c", "-o", os.devnull, source)
 
 
+def levels(top, work):
+    """The libraries for any x86-64: they have no instruction of a later level, and run on a processor that has none. The
+    loader takes those of x86-64-v2 where the processor is one."""
+    plain, fast = top / "lib", top / "lib" / make_library.FAST
+    for folder, wanted in ((plain, False), (fast, True)):
+        for name in ("libzk.a", make_library.SONAME):
+            found = set(LATER.findall(run("objdump", "-d", "--no-show-raw-insn", folder / name).stdout.decode()))
+            yield name, bool(found) == wanted, f"{folder.name}/{name} has {sorted(found)[:9]}"
+    where = run("cc", *STRICT, f"-I{top / 'include'}", "-o", work / "fields", TOP / "examples" / "fields.c", f"-L{plain}",
+                "-lzk")
+    if where.returncode != 0:
+        yield "fields.c", False, f"fields.c over {make_library.SONAME}: {where.stderr[-300:]}"
+        return
+    text = "/" + "äöü" * 8
+    payload = struct.pack(">iii", 1, 3, len(text.encode())) + text.encode() + b"\0"
+    words, loaded = (work / "fields", "request", "34", payload.hex()), {**os.environ, "LD_LIBRARY_PATH": str(plain)}
+    debug = run(*words, env={**loaded, "LD_DEBUG": "libs"}).stderr.decode()
+    used = re.findall(rf"calling init: (\S+/{re.escape(make_library.SONAME)})$", debug, re.M)
+    is_later = {"ssse3", "sse4_1", "sse4_2", "popcnt"} <= set(pathlib.Path("/proc/cpuinfo").read_text().split())
+    good = [pathlib.Path(path) for path in used] == [(fast if is_later else plain) / make_library.SONAME]
+    yield "the loader", good, f"the loader takes {used}"
+    if not skip("a processor without SSE4.1", "qemu-x86_64"):
+        found = run("qemu-x86_64", "-cpu", "core2duo", *words, env=loaded)
+        shown = run(*words, env=loaded).stdout
+        good = found.returncode == 0 and found.stdout == shown and b"request exists xid=1" in shown
+        yield "core2duo", good, f"fields.c on core2duo: status {found.returncode}, {found.stdout}{found.stderr[-300:]}"
+
+
 def libraries(top, work):
     """Programs over both libraries of a prefix, and the names that these show."""
-    archive, shared = top / "lib" / "libzk.a", top / "lib" / "libzk.so.1"
+    archive, shared = top / "lib" / "libzk.a", top / "lib" / make_library.SONAME
     example, loaded = TOP / "examples" / "listing.c", {"LD_LIBRARY_PATH": str(top / "lib")}
     for name, words in (("libzk.a", ("-g", "--defined-only", archive)),
-                        ("libzk.so.1", ("-D", "--defined-only", shared))):
+                        (shared.name, ("-D", "--defined-only", shared))):
         shown = {line.split()[2].split("@")[0] for line in run("nm", *words).stdout.decode().splitlines()
                  if len(line.split()) == 3 and line.split()[1] != "A"}
-        yield name, shown == set(make_library.calls()), f"{name} shows {sorted(shown ^ set(make_library.calls()))}"
+        yield name, shown == make_library.exports(), f"{name} shows {sorted(shown ^ make_library.exports())}"
     named = [line.split()[-2:] for line in run("nm", archive).stdout.decode().splitlines() if len(line.split()) > 1]
     called = {name for kind, name in named if kind == "U"} - {"_GLOBAL_OFFSET_TABLE_"}
     yield "called", called == CALLED, f"libzk.a calls {sorted(called)}, and not {sorted(CALLED)}"
@@ -206,18 +247,19 @@ def libraries(top, work):
     kept |= set(re.findall(r" (\.tdata\S*|\.tbss\S*) ", run("readelf", "-SW", archive).stdout.decode()))
     yield "kept", not kept, f"libzk.a keeps {sorted(kept)}"
     needed = re.findall(r"\((NEEDED|SONAME)\).*\[(.*)\]", run("readelf", "-d", shared).stdout.decode())
-    good = set(needed) - {("NEEDED", "ld-linux-x86-64.so.2")} == {("NEEDED", "libc.so.6"), ("SONAME", "libzk.so.1")}
-    yield "needed", good, f"libzk.so.1: {needed}"
+    good = set(needed) - {("NEEDED", "ld-linux-x86-64.so.2")} == {("NEEDED", "libc.so.6"), ("SONAME", shared.name)}
+    yield "needed", good, f"{shared.name}: {needed}"
     stack = re.search(r"GNU_STACK.*", run("readelf", "-lW", shared).stdout.decode())
-    yield "stack", stack is not None and "E" not in stack[0].split()[-2], f"libzk.so.1: {stack and stack[0]}"
+    yield "stack", stack is not None and "E" not in stack[0].split()[-2], f"{shared.name}: {stack and stack[0]}"
     yield ends_well("cc with libzk.a", "cc", *STRICT, f"-I{top / 'include'}", "-o", work / "listing", example, archive)
     yield lists("listing.c over libzk.a", work / "listing", RECORDING)
+    yield from levels(top, work)
     if not skip("zk.pc", "pkg-config", checks=2):
         found = run("pkg-config", "--cflags", "--libs", "zk",
                     env={**os.environ, "PKG_CONFIG_PATH": str(top / "lib/pkgconfig")})
         words = found.stdout.decode().split()
         yield ends_well("cc with zk.pc", "cc", *STRICT, "-o", work / "listing", example, *words)
-        yield lists("listing.c over libzk.so.1", work / "listing", RECORDING, **loaded)
+        yield lists(f"listing.c over {shared.name}", work / "listing", RECORDING, **loaded)
     if not skip("the CMake files", "cmake", checks=4):
         (work / "CMakeLists.txt").write_text(CMAKE.replace("@VERSION@", install.VERSION))
         yield ends_well("cmake", "cmake", "-S", work, "-B", work / "made", f"-DCMAKE_PREFIX_PATH={top}")
@@ -273,7 +315,7 @@ def installed(work):
 
 
 def main():
-    for path in (install.PROGRAM, install.LIBRARY):
+    for path in (install.PROGRAM, install.LIBRARY, install.PLAIN):
         if not path.exists():
             print(f"{path.relative_to(TOP)} is not there: ./test makes it\n0 passed, 1 failed")
             return 1

@@ -43,7 +43,7 @@ LISTS = ("~", "[]", '["a"]', '["a","b"]', "[~]", '["a",~,"\\c3\\a9"]', '["\\22",
 STAT = "(1,-2,3,4,5,6,7,-1,8,9,10)"
 CONNECT = ("C connect version=0 zxid=-3 timeout=30000 session=7 passwd=#00ff ro=-",
            "S connect version=0 timeout=30000 session=72057832419491844 passwd=~ ro=1")
-EVENTS = ("kind=1/NodeCreated", "kind=77", "kind=-1/None", "kind=0")
+EVENTS = ("kind=1/NodeCreated", "kind=77", "kind=-1/None", "kind=0", "kind=7")  # zk.h alone names 7, and the err -125
 
 
 def values():
@@ -58,6 +58,7 @@ def values():
         yield from exchange(f"getACL path={text}", f"acl=[31:{text}:~,-1:\"world\":{text}] stat={STAT}")
         yield from exchange(f"sync path={text}", f"path={text}")
         yield from exchange(f"exists path={text} watch=1", "err=-999")
+        yield from exchange(f"exists path={text} watch=0", "err=-125")
         yield from exchange(f"multi {{create path={text} blob=#61 acl=~ flags=1;check path=\"/a/b\" version=2}}",
                             "{fail err=-101/NONODE;fail err=-2/RUNTIMEINCONSISTENCY}")
         yield from (f"S event zxid=-1 {kind} state=3 path={text}" for kind in EVENTS)

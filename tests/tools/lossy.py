@@ -297,14 +297,14 @@ class Check:
                     self.answered.add(0)
                     connect = None
             elif not made_up and said[side] == 1:
-                self.fault("message", message.number, "is taken for a connect message")
+                self.fault("message", message.number, "is in the place of a connect message")
             elif side == CLIENT:
                 lanes[message.lane()].append(message)
             elif message.of:
                 lane = lanes[message.of.lane()]
                 asked = lane.popleft() if lane else None
                 if asked is not message.of and not (asked and message.of.lane() and self.are_alike(asked, message.of)):
-                    self.fault("reply", message.number, "to", message.of.number, "is beside",
+                    self.fault("reply", message.number, "to", message.of.number, "is paired with",
                                asked and asked.number, "in part", known.part)
                 elif asked:
                     self.answered.add(message.of.number)

@@ -14,7 +14,7 @@ OPERATIONS = {1: "create", 2: "delete", 3: "exists", 4: "getData", 5: "setData",
               16: "reconfig", 17: "checkWatches", 18: "removeWatches", 19: "createContainer", 20: "deleteContainer",
               21: "createTTL", 22: "multiRead", 100: "auth", 101: "setWatches", 102: "sasl", 103: "getEphemerals",
               104: "getAllChildrenNumber", 105: "setWatches2", 106: "addWatch", 107: "whoAmI", -11: "closeSession"}
-CONNECT, MULTI, EVENT = "connect", "multi", -1
+CONNECT, MULTI, EXISTS, EVENT, NONODE = "connect", "multi", "exists", -1, -101
 
 
 class Counts:
@@ -53,9 +53,10 @@ def frames(data):
 
 
 def has_failed(name, payload):
-    """Whether a reply says that its request failed: of a multi, that one of its results is an error."""
-    if struct.unpack_from(">i", payload, 12)[0]:
-        return True
+    """Whether a reply says that its request failed: of a multi, that one of its results is an error. That there is no
+    node is what exists asks."""
+    if err := struct.unpack_from(">i", payload, 12)[0]:
+        return name != EXISTS or err != NONODE
     if name != MULTI or len(payload) < 29 or struct.unpack_from(">i", payload, 16)[0] != -1:
         return False
     # A failed multi has errors alone: a header of nine bytes, and the error again.

@@ -37,7 +37,7 @@ class ColumnsCase(ToolCase):
     @classmethod
     def setUpClass(cls):
         lacking = make_library.missing()
-        if lacking or not make_library.LIBRARY.exists():
+        if lacking or not (make_library.LIBRARY.exists() and make_library.PLAIN.exists()):
             raise unittest.SkipTest(f"{', '.join(lacking) or 'the library libzk_c.a'} is missing")
         folder = tempfile.TemporaryDirectory()
         cls.addClassCleanup(folder.cleanup)

@@ -260,11 +260,11 @@ class AfterLoss(JoinedCase):
     def lose(self, chance, least):
         """Loses packets of each recording with this chance. Every part consists of frames that were said, each reply
         after its request, and at least this share is kept."""
-        lottery, kept, captured, checked = random.Random(5), 0, 0, 0
+        kept, captured, checked = 0, 0, 0
         for path in SMALL:
             if re.search("refused|small|create2", path.name):
                 continue
-            source = path.read_bytes()
+            source, lottery = path.read_bytes(), random.Random(f"5 {path.stem}")   # its own, whatever others there are
             sent = [each for each in wire.conversation(pieces(source))
                     if each.flags & wire.SYN or lottery.random() >= chance]
             captured += sum(len(each.data) for each in sent)

@@ -14,11 +14,11 @@ from 2023-11-14T22:13:20.000Z to 2023-11-14T22:13:25.201Z
 
 Sessions
 session  timeout ms  connections  begun                     ended                     requests  failed  unanswered  longest gap  how it ended
-0x7           10000            2  2023-11-14T22:13:20.000Z  2023-11-14T22:13:25.201Z        10       3           1          5 s  closed by the client
+0x7           10000            2  2023-11-14T22:13:20.000Z  2023-11-14T22:13:25.201Z        10       2           1          5 s  closed by the client
 
 Connections
 connection  session  name        server  begun                      lasted  requests  failed  unanswered  events  closed by             recording
-        #1  0x7      one.json    -       2023-11-14T22:13:20.000Z   0.07 s         5       1           1       1  not recorded          whole
+        #1  0x7      one.json    -       2023-11-14T22:13:20.000Z   0.07 s         5       0           1       1  not recorded          whole
         #2  0x7      other.json  -       2023-11-14T22:13:25.070Z  0.131 s         5       2           0       0  client: closeSession  whole
 
 Operations
@@ -27,16 +27,16 @@ connect           2         2       0           0     1.5       2       2       
 setData           2         1       1           1     100     100     100     100
 closeSession      1         1       0           0       1       1       1       1
 create            1         1       0           0      30      30      30      30
-exists            1         1       1           0    1.25    1.25    1.25    1.25
+exists            1         1       0           0    1.25    1.25    1.25    1.25
 getData           1         1       0           0       1       1       1       1
 multi             1         1       1           0       1       1       1       1
 setWatches        1         1       0           0       4       4       4       4
 
 Errors
-operation  error       count
-exists     NONODE          1
-multi      NONODE          1
-setData    BADVERSION      1
+operation  error       outcome  count
+multi      NONODE      failed       1
+setData    BADVERSION  failed       1
+exists     NONODE      answer       1
 
 Slowest requests
   ms  asked at                  connection  message  operation     error       path

@@ -184,7 +184,12 @@ class InBrowser(PageCase):
     def test_tables_and_picture(self):
         self.small()
         self.assertEqual(self.rows("operations")[0], ["connect", "2", "2", "0", "0", "1.5", "2", "2", "2"])
-        self.assertEqual(self.rows("errors")[0], ["exists", "NONODE", "1"])
+        self.assertEqual(self.rows("errors"), [["multi", "NONODE", "failed", "1"],
+                                               ["setData", "BADVERSION", "failed", "1"],
+                                               ["exists", "NONODE", "answer", "1"]])
+        self.assertEqual(self.browser.run("return [...document.querySelectorAll('#t-errors td.error, #t-slowest td.error')]"
+                                          ".filter(each => each.textContent === 'NONODE')"
+                                          ".map(each => each.classList.contains('failed'))"), [True, False, False, True])
         self.assertEqual(self.rows("paths"), [["5", "2", "100", "/a"], ["1", "0", "–", "/b/\\u{1b}[2J"],
                                               ["1", "1", "1", "/b"]])
         self.assertEqual(self.rows("unanswered"), [["2023-11-14 22:13:20.070", "#1", "10", "setData", "/b/\\u{1b}[2J"]])
@@ -213,7 +218,7 @@ class InBrowser(PageCase):
         for fragment, asked in (("#op=setData", {"setData": "2"}), ("#op=setData&outcome=unanswered", {"setData": "1"}),
                                 ("#from=22:13:25&op=connect", {"connect": "1"}),
                                 ("#to=22:13:20.020&outcome=ok", {"connect": "1", "create": "1"}),
-                                ("#outcome=failed", {"exists": "1", "setData": "1", "multi": "1"})):
+                                ("#outcome=failed", {"setData": "1", "multi": "1"})):
             with self.subTest(fragment=fragment):
                 self.small(fragment)
                 self.assertEqual({row[0]: row[1] for row in self.rows("operations")}, asked)
@@ -332,7 +337,7 @@ def long_run(path):
     lines.connect(0, 1)
     for n in range(1, MESSAGES // 2):
         at, slow = 10 * n, n % 5_000 == 7
-        lines.ask(at, "exists", n, path=f"/node-{n % 1_000:04}", watch=False)
+        lines.ask(at, "getData", n, path=f"/node-{n % 1_000:04}", watch=False)
         lines.answer(at + (900 + n / 1000 if slow else 1 + n % 7), n, zxid="0x1",
                      **(report_lines.NONODE if n % 100 == 3 else {}))
     return lines.write(path, ending="whole", unanswered=0, waiting=[])
@@ -344,7 +349,7 @@ def crowded(path):
     lines.connect(0, 1)
     for n in range(1, MESSAGES // 2):
         at, stalled = 10 * n, 7_500 <= n < 7_505
-        lines.ask(at, "exists", n, path="/a", watch=False)
+        lines.ask(at, "getData", n, path="/a", watch=False)
         lines.answer(at + (3_000 if stalled else 1 + n * n % 101 / 10), n, zxid="0x1",
                      **(report_lines.NONODE if n % 16 == 3 and not stalled else {}))
     return lines.write(path, ending="whole", unanswered=0, waiting=[])

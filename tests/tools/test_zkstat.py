@@ -30,15 +30,15 @@ C 7 multi {}
 NO_TIMES = {"timed": 0, "ms": None}
 COUNTED = {
     "operations": {
-        "exists": {"asked": 3, "answered": 3, "failed": 2, "errors": {"NONODE": 1, "-200": 1}, **NO_TIMES},
-        "multi": {"asked": 3, "answered": 2, "failed": 1, "errors": {"BADVERSION": 1}, **NO_TIMES},
-        "connect": {"asked": 1, "answered": 1, "failed": 0, "errors": {}, **NO_TIMES},
-        "getData": {"asked": 1, "answered": 0, "failed": 0, "errors": {}, **NO_TIMES},
-        "ping": {"asked": 1, "answered": 0, "failed": 0, "errors": {}, **NO_TIMES},
+        "exists": {"asked": 3, "answered": 3, "failed": 1, "errors": {"-200": 1}, "answers": {"NONODE": 1}, **NO_TIMES},
+        "multi": {"asked": 3, "answered": 2, "failed": 1, "errors": {"BADVERSION": 1}, "answers": {}, **NO_TIMES},
+        "connect": {"asked": 1, "answered": 1, "failed": 0, "errors": {}, "answers": {}, **NO_TIMES},
+        "getData": {"asked": 1, "answered": 0, "failed": 0, "errors": {}, "answers": {}, **NO_TIMES},
+        "ping": {"asked": 1, "answered": 0, "failed": 0, "errors": {}, "answers": {}, **NO_TIMES},
     },
     "events": {"NodeDataChanged": 2, "9": 1},
     "connections": [{"connection": "-", "session": "0x100000000000001", "gap": None, "begun": None, "ended": None,
-                     "asked": 9, "answered": 6, "failed": 3, **NO_TIMES, "backwards": 0,
+                     "asked": 9, "answered": 6, "failed": 2, **NO_TIMES, "backwards": 0,
                      "ending": {"ending": "cut", "side": "S", "frame": 8, "got": 3, "messages": 18}}],
     "unanswered": [],
     "notKnown": [{"connection": "-", "n": 16, "xid": 6, "op": "getData", "path": r'"/\c3\a9"'},
@@ -48,14 +48,14 @@ COUNTED = {
 }
 
 TABLE = r"""operation  asked  answered  failed  p50 ms  p95 ms  p99 ms  max ms
-exists         3         3       2       -       -       -       -
+exists         3         3       1       -       -       -       -
 multi          3         2       1       -       -       -       -
 connect        1         1       0       -       -       -       -
 getData        1         0       0       -       -       -       -
 ping           1         0       0       -       -       -       -
-       1 errors: exists NONODE
        1 errors: exists -200
        1 errors: multi BADVERSION
+       1 answers: exists NONODE
        2 events: NodeDataChanged
        1 events: 9
        0 of 6 replies timed
@@ -67,7 +67,7 @@ ping           1         0       0       -       -       -       -
        1 of 1 connections not read to the end
 
 connection  session            begun  ended  asked  answered  failed  p50 ms  p95 ms  p99 ms  max ms  ending
--           0x100000000000001  -      -          9         6       3       -       -       -       -  cut side=S frame=8 got=3 messages=18
+-           0x100000000000001  -      -          9         6       2       -       -       -       -  cut side=S frame=8 got=3 messages=18
 """
 
 # Times of day in milliseconds since 1970, and the frames that came then: of two connections of a session, each a
@@ -171,15 +171,15 @@ class Zkstat(ToolCase):
         self.assertEqual(self.stat(stdin=self.joined()).splitlines(), [
             f"operation  {counts}",
             "connect        2         2       0       2     4.5     4.5     4.5",
-            "exists         2         1       1    1.25    1.25    1.25    1.25",
-            "       1 errors: exists NONODE",
+            "exists         2         1       0    1.25    1.25    1.25    1.25",
+            "       1 answers: exists NONODE",
             "       3 of 3 replies timed",
             "       1 requests unanswered",
             '    second.zkr message 3: 1 exists "/a"',
             "",
             wide.format("connection", "session", "begun", "ended") + f"  {counts}  ending",
             wide.format("first.zkr", SESSION, "2026-11-22T07:30:33.000Z", "2026-11-22T07:30:34.001Z")
-            + "      2         2       1    1.25     4.5     4.5     4.5  whole unanswered=0",
+            + "      2         2       0    1.25     4.5     4.5     4.5  whole unanswered=0",
             "    the same session, 3.99875 s later",
             wide.format("second.zkr", SESSION, "2026-11-22T07:30:38.000Z", "2026-11-22T07:30:38.010Z")
             + "      2         1       0       2       2       2       2  whole unanswered=1",
@@ -292,8 +292,8 @@ class Zkstat(ToolCase):
         listing = "".join(f"C {n} exists path=~ watch=0\n" for n in (1, 2, 3, 4))
         listing += "".join(f"S {n} exists zxid=5 err=-101/NONODE\n" for n in (1, 2, 3, 4))
         found = self.stat("--recording", recording, stdin=listing.encode()).splitlines()
-        self.assertEqual(found[1:5], ["exists         4         4       4   4.001    2335    2335    2335",
-                                      "       4 errors: exists NONODE", "       3 of 4 replies timed",
+        self.assertEqual(found[1:5], ["exists         4         4       0   4.001    2335    2335    2335",
+                                      "       4 answers: exists NONODE", "       3 of 4 replies timed",
                                       "       1 replies have a time before that of their request"])
 
     def test_choices_by_time_where_there_are_no_times(self):

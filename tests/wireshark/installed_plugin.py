@@ -11,7 +11,7 @@ import subprocess
 import xml.etree.ElementTree
 
 from packaging import make_library
-from packaging.build_library import LIBRARY
+from packaging.build_library import PLAIN
 from tools.zkdump_tools import zkr
 from ..tools import wire
 
@@ -35,8 +35,8 @@ def missing(libzk=None):
     found = [tool for tool in ("tshark", "cc", "pkg-config") if not shutil.which(tool)]
     if not found and subprocess.run(["pkg-config", "--exists", "wireshark"], check=False).returncode != 0:
         found = ["wireshark-dev"]
-    if not (libzk or LIBRARY).exists():
-        found.append(f"the proved library {libzk or LIBRARY.relative_to(TOP)}")
+    if not (libzk or PLAIN).exists():
+        found.append(f"the proved library {libzk or PLAIN.relative_to(TOP)}")
     return found
 
 

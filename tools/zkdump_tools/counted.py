@@ -86,9 +86,9 @@ def add_block(found, talk, block, array, latencies):
     keys = (failed["operation"].astype("i8") << 32) + (failed["error"].astype("i8") - LEAST)
     for key, count in grouped(numpy, keys):
         number, error = key >> 32, (key & (1 << 32) - 1) + LEAST
-        name = talk.errors.get(error) or str(error)
-        for each in (found.operations[talk.operations[number]], counts):
-            each.errors[name] += count
+        op, name = talk.operations[number], talk.errors.get(error) or str(error)
+        for each in (found.operations[op], counts):
+            each.of_error(op, name)[name] += count
     timed = replies[replies["microseconds"] == replies["microseconds"]]
     if len(timed):
         latencies.add(numpy, talk, block, timed)

@@ -10,6 +10,14 @@ NAMES = {
     -124: "SESSIONCLOSEDREQUIRESASLAUTH", -125: "QUOTAEXCEEDED", -127: "THROTTLEDOP",
 }
 
+# Errors that are answers, each with its operation: exists says NONODE where there is no node, which is what was asked.
+ANSWERS = frozenset({("exists", "NONODE")})
+
+
+def is_failure(op, error):
+    """Whether a reply with this error, by its name or its number, says that its request failed; None is no error."""
+    return error is not None and (op, error) not in ANSWERS
+
 
 def name(number):
     """The name of an error, or its number as a text."""

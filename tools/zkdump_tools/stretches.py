@@ -154,7 +154,7 @@ class Stretches:
             self.end_first()
 
     def lose_replies(self, size, number, milliseconds, begun):
-        """Bytes of the server are lost; of the client's next frame this many bytes are written."""
+        """Bytes of the server are lost; of the client's next frame `size` bytes are written."""
         for stretch in self.list:
             stretch.lose_replies(number, milliseconds, begun)
         self.list[0].part.lost[zkr.SERVER] += size

@@ -57,6 +57,9 @@ def lines(found):
     for name, counts in operations.items():
         for error, count in counts["errors"].items():
             yield f"{count:>8} errors: {name} {error}"
+    for name, counts in operations.items():
+        for error, count in counts["answers"].items():
+            yield f"{count:>8} answers: {name} {error}"
     for kind, count in found["events"].items():
         yield f"{count:>8} events: {kind}"
     timed, answered = (sum(counts[each] for counts in operations.values()) for each in ("timed", "answered"))

@@ -6,7 +6,8 @@ slowest requests, and those without a reply.
 It reads listings, recordings, whose listings zkdump show makes, and the lines of zkjson, also of several connections;
 without a FILE it reads a listing, or lines of zkjson, from standard input. If there are times, there are latencies:
 from a request's last byte to its reply's. p50, p95 and p99 are those of HdrHistogram with three significant digits, in
-microseconds; max is exact. A multi has failed if one of its parts has. Connections of one session are grouped.
+microseconds; max is exact. A multi has failed if one of its parts has. That exists answers NONODE is no failure, and
+counts by itself. Connections of one session are grouped.
 
 Requests of operations that the profile lacks count, too: they are shown by number, with their errors and latencies, and
 without a path. Where the reading stops before a connection's end, or the facts beside a recording (NAME.facts.json) say
@@ -20,7 +21,7 @@ import itertools
 import json
 import sys
 
-from . import columns, counted, fleet, inputs, listing, passages, pythons, selection, tables, zkr
+from . import columns, counted, errors, fleet, inputs, listing, passages, pythons, selection, tables, zkr
 from .histogram import Histogram
 
 SLOWEST = 20
@@ -32,22 +33,27 @@ class Counts:
 
     def __init__(self):
         self.asked = self.answered = 0
-        self.errors = collections.Counter()
+        self.errors, self.answers = collections.Counter(), collections.Counter()
         self.latencies = Histogram()
 
-    def add(self, error, microseconds):
+    def add(self, op, error, microseconds):
         """Counts a request with its reply."""
         self.asked += 1
         self.answered += 1
         if error:
-            self.errors[error] += 1
+            self.of_error(op, error)[error] += 1
         if microseconds is not None:
             self.latencies.add(microseconds)
+
+    def of_error(self, op, error):
+        """Where an error is counted: those that are answers are no failures."""
+        return self.errors if errors.is_failure(op, error) else self.answers
 
     def merge(self, other):
         """Adds what another has counted."""
         self.asked, self.answered = self.asked + other.asked, self.answered + other.answered
         self.errors.update(other.errors)
+        self.answers.update(other.answers)
         self.latencies.merge(other.latencies)
 
     def summary(self):
@@ -137,8 +143,8 @@ class Statistics:
             if not made.decoded:
                 self.by_number[made.op] += 1
             microseconds = made.microseconds
-            operations[made.op].add(made.error, microseconds)
-            counts.add(made.error, microseconds)
+            operations[made.op].add(made.op, made.error, microseconds)
+            counts.add(made.op, made.error, microseconds)
             if microseconds is not None and microseconds > self.least:
                 self.add_slow(talk.zxid(line), made, asked)
 
@@ -190,8 +196,8 @@ class Statistics:
 
     def summary(self):
         ordered = sorted(self.operations.items(), key=lambda item: -item[1].asked)
-        return {"operations": {name: {**counts.summary(), "errors": dict(counts.errors.most_common())}
-                               for name, counts in ordered},
+        return {"operations": {name: {**counts.summary(), "errors": dict(counts.errors.most_common()),
+                                      "answers": dict(counts.answers.most_common())} for name, counts in ordered},
                 "events": dict(self.events.most_common()), "connections": list(self.rows()),
                 **{fate: found for fate, found in self.waiting.items() if found or fate == listing.UNANSWERED},
                 **({"byNumber": passages.ordered(self.by_number)} if self.by_number else {}),

@@ -59,6 +59,7 @@ mod said;
 mod speaker;
 mod talk;
 mod through;
+mod version;
 mod voice;
 mod write;
 
@@ -80,6 +81,7 @@ pub use through::{
     zk_talk_join, zk_through_fields, zk_through_finish, zk_through_free, zk_through_line,
     zk_through_new, zk_through_payload, zk_through_renew, zk_through_step, zk_through_view,
 };
+pub use version::zk_version;
 pub use write::{
     zk_write_connected, zk_write_event, zk_write_first, zk_write_reply, zk_write_request,
 };

@@ -12,15 +12,16 @@ What comes may be any bytes: what is no message raises Refused. So does a talk, 
 """
 
 from ._held import Cut, Ending, Passed, Speaker, Talk, Through, Waiting, Went
-from ._messages import Fault, Field, FieldKind, Kind, Message, Refused, Side, Value
-from ._names import Profile
-from ._names import ERRORS, EVENTS, FIELDS, OPERATIONS, STATUSES
+from ._messages import Fault, Field, FieldKind, Kind, Message, Part, Refused, Right, Side, Value
+from ._names import (ERRORS, EVENTS, FIELDS, FLAGS, OPERATIONS, STATES, STATUSES, Code, CreateFlags, EventType, Operation,
+                     Permission, Profile, State, Status)
 from ._payloads import (Item, judge_connected, judge_event, judge_first, judge_reply, judge_request, listing,
                         read_connected, read_event, read_first, read_reply, read_request, write_connected, write_event,
                         write_first, write_reply, write_request)
 
-__all__ = ["ERRORS", "EVENTS", "FIELDS", "OPERATIONS", "STATUSES", "Cut", "Ending", "Fault", "Field", "FieldKind",
-           "Item", "Kind", "Message", "Passed", "Profile", "Refused", "Side", "Speaker", "Talk", "Through", "Value",
+__all__ = ["ERRORS", "EVENTS", "FIELDS", "FLAGS", "OPERATIONS", "STATES", "STATUSES", "Code", "CreateFlags", "EventType",
+           "Operation", "Permission", "State", "Status", "Cut", "Ending", "Fault", "Field", "FieldKind",
+           "Item", "Kind", "Message", "Part", "Passed", "Profile", "Right", "Refused", "Side", "Speaker", "Talk", "Through", "Value",
            "Waiting", "Went", "judge_connected", "judge_event", "judge_first", "judge_reply", "judge_request",
            "listing", "read_connected", "read_event", "read_first", "read_reply", "read_request", "write_connected",
            "write_event", "write_first", "write_reply", "write_request"]

@@ -1,12 +1,14 @@
 """Talks, passages and speakers: what holds a handle."""
 
+import collections
 import ctypes
 import enum
-from typing import Callable, Iterator, List, NamedTuple, NoReturn, Optional, Tuple, TypeVar
+from typing import Callable, Deque, Iterable, Iterator, List, NamedTuple, NoReturn, Optional, Tuple, TypeVar
 
 from . import _calls
 from ._calls import library
-from ._messages import RANGE, Fault, Message, Refused, Side, bytes_of, fault_of, message_of, written
+from ._block import Room
+from ._messages import RANGE, Fault, Kind, Message, Refused, Side, bytes_of, fault_of, message_of, written
 from ._names import Profile
 
 _WHOLE, _CUT = 1, 2
@@ -57,9 +59,9 @@ class _Held:
         if status:
             raise Refused(status)
 
-    def _steps(self, take: Callable[..., _Step], side: Side, piece: bytes) -> Iterator[_Step]:
-        """Takes all of the piece: what each step returns, which ends wherever a frame is whole."""
-        begin, length, at = ctypes.cast(ctypes.c_char_p(piece), ctypes.c_void_p).value or 0, len(piece), 0
+    def _steps(self, take: Callable[..., _Step], side: Side, piece: bytes, at: int = 0) -> Iterator[_Step]:
+        """Takes the piece from `at` on: what each step returns, which ends wherever a frame is whole."""
+        begin, length = ctypes.cast(ctypes.c_char_p(piece), ctypes.c_void_p).value or 0, len(piece)
         while True:
             step = take(self._handle, side, begin + at, length - at)
             if step.status:
@@ -102,20 +104,45 @@ class Talk(_Held):
                  profile: Profile = Profile.V34, lines: bool = False):
         super().__init__(library.zk_talk_new, library.zk_talk_renew, library.zk_talk_free,
                          (client, server, waiting, Profile(profile)))
-        self._lines = lines
+        self._lines, self._room = lines, Room()
 
     def feed(self, side: Side, piece: bytes) -> List[Message]:
         """The messages that these bytes of a side complete."""
         messages: List[Message] = []
-        side = Side(side)
         try:
-            for step in self._steps(library.zk_talk_step, side, bytes_of(piece)):
-                if step.whole:
-                    messages.append(self._newest(side))
+            for message in self._messages(Side(side), bytes_of(piece)):
+                messages.append(message)
         except Refused as refused:
             refused.messages = tuple(messages)
             raise
         return messages
+
+    def _messages(self, side: Side, piece: bytes) -> Iterator[Message]:
+        """The messages that the piece completes."""
+        if self._lines:  # a line is asked for while its message is the newest
+            for step in self._steps(library.zk_talk_step, side, piece):
+                if step.whole:
+                    yield self._newest(side)
+            return
+        begin, length, at = ctypes.cast(ctypes.c_char_p(piece), ctypes.c_void_p).value or 0, len(piece), 0
+        while True:
+            block = library.zk_talk_block(self._handle, side, begin + at, length - at, *self._room.words)
+            at += block.used
+            yield from self._room.messages(block.entries)
+            if block.status:
+                raise Refused(block.status, block.fault.place, fault=fault_of(block.fault))
+            if block.more:  # than the room takes
+                yield self._newest(side)
+            if at == length:
+                return
+
+    def read(self, pieces: Iterable[Tuple[Side, bytes]]) -> Iterator[Tuple[Side, Message]]:
+        """The messages of the pieces that both sides sent, in the order in which these came: each with its side, as it
+        becomes whole."""
+        for side, piece in pieces:
+            side = Side(side)
+            for message in self._messages(side, bytes_of(piece)):
+                yield side, message
 
     def skip(self, side: Side, piece: bytes) -> int:
         """Takes bytes of a side and judges them as `feed`, but makes no message: how many they complete."""
@@ -164,9 +191,10 @@ class Passed(NamedTuple):
     """What became of the `used` bytes of a step. WITHIN: no frame is whole. MESSAGE: a frame is, and `message` is its
     message. ASKED: a request is whole whose operation the profile lacks, and is left out; ANSWERED: so is the reply to
     one. Both have the request's xid, the number of its operation, the payload that is left out, and the number of the
-    request's frame. FULL: with this frame more would wait than may, and nothing was used; where all requests have
-    their replies, it alone weighs more. UNSEEN: a reply to a request that wasn't seen is whole, where the passage is
-    `late`, with its xid, zxid, err and payload."""
+    request's frame. FULL: nothing was used, and bytes of the other side come first. With this frame of the client more
+    would wait than may; where all requests have their replies, it alone weighs more. Or the server has replied since,
+    and the client's bytes fit now. UNSEEN: a reply to a request that wasn't seen is whole, where the passage is `late`,
+    with its xid, zxid, err and payload."""
     went: Went
     used: int
     message: Optional[Message] = None
@@ -178,6 +206,11 @@ class Passed(NamedTuple):
     err: Optional[int] = None
 
 
+def _is_reply(passed: Passed) -> bool:
+    """Whether a request has its reply with this step, and waits no more."""
+    return passed.went == Went.ANSWERED or passed.message is not None and passed.message.kind == Kind.REPLY
+
+
 class Through(_Held):
     """A passage: a conversation that goes on where its profile ends. The limits and `lines` are those of a talk. A `late`
     one is seen from the middle on: frame 0 of each side was made up, and each side's first byte is to begin a frame, the
@@ -187,27 +220,82 @@ class Through(_Held):
                  profile: Profile = Profile.V34, lines: bool = False, late: bool = False):
         super().__init__(library.zk_talk_join if late else library.zk_through_new, library.zk_through_renew,
                          library.zk_through_free, (client, server, waiting, Profile(profile)))
-        self._came, self._lines = (bytearray(), bytearray()), lines
+        self._lines = lines
+        self._begin()
+
+    def _begin(self) -> None:
+        self._came, self._full = (bytearray(), bytearray()), False
+        self._later: Deque[Tuple[bytes, int]] = collections.deque()  # pieces of the client, and what was used of each
 
     def renew(self) -> None:
         super().renew()
-        self._came = (bytearray(), bytearray())
+        self._begin()
 
     def feed(self, side: Side, piece: bytes) -> List[Passed]:
-        """What became of these bytes of a side, step by step. Where the last step is FULL, feed the server's bytes, and
-        then again those of the piece that weren't used. A refusal has the messages before it."""
+        """What became of these bytes of a side, step by step. Where the last step is FULL, feed the other side's bytes,
+        and then again those of this piece that weren't used: the server's up to the next reply, then the client's, and
+        so on. `read` does this. A refusal has the messages before it."""
         every: List[Passed] = []
-        side, piece, at = Side(side), bytes_of(piece), 0
         try:
-            for step in self._steps(library.zk_through_step, side, piece):
-                every.append(self._passed(side, step, piece[at:at + step.used]))
-                at += step.used
-                if step.went == Went.FULL:
-                    break
+            for passed in self._take(Side(side), bytes_of(piece)):
+                every.append(passed)
         except Refused as refused:
             refused.messages = tuple(passed.message for passed in every if passed.message)
             raise
         return every
+
+    def read(self, pieces: Iterable[Tuple[Side, bytes]]) -> Iterator[Tuple[Side, Passed]]:
+        """What became of the pieces that both sides sent, in the order in which these came: each step with its side.
+        While more would wait than may, what the client sends is kept, and taken after each reply: the step before is
+        FULL. A piece is taken as its steps are asked for."""
+        for side, piece in pieces:
+            if Side(side) == Side.CLIENT:
+                self._later.append((bytes_of(piece), 0))
+                if len(self._later) == 1:
+                    yield from self._take_later()
+            else:
+                yield from self._take_replies(bytes_of(piece))
+
+    def _take_later(self) -> Iterator[Tuple[Side, Passed]]:
+        """Takes what the client sent, as far as it may come."""
+        while self._later:
+            piece, at = self._later.popleft()
+            for passed in self._take(Side.CLIENT, piece, at):
+                at += passed.used
+                if passed.went == Went.FULL:
+                    self._later.appendleft((piece, at))
+                yield Side.CLIENT, passed
+                if passed.went == Went.FULL:
+                    return
+
+    def _take_replies(self, piece: bytes) -> Iterator[Tuple[Side, Passed]]:
+        """Takes what the server sent, and after each reply what the client sent before."""
+        at = 0
+        while True:
+            for passed in self._take(Side.SERVER, piece, at):
+                if passed.went != Went.FULL:
+                    at += passed.used
+                    yield Side.SERVER, passed
+            if not self._full:
+                yield from self._take_later()
+            if at == len(piece):
+                return
+
+    def _take(self, side: Side, piece: bytes, at: int = 0) -> Iterator[Passed]:
+        """What became of the bytes of a piece from `at` on. It ends with FULL where the other side's come first."""
+        for step in self._steps(library.zk_through_step, side, piece, at):
+            passed = self._passed(side, step, piece[at:at + step.used])
+            at += step.used
+            if side == Side.CLIENT:
+                self._full = passed.went == Went.FULL
+            yield passed
+            if passed.went == Went.FULL:
+                return
+            if self._full and side == Side.SERVER and _is_reply(passed):
+                self._full = False
+                if at < len(piece):
+                    yield Passed(Went.FULL, 0)
+                    return
 
     def _passed(self, side: Side, step: _calls.Passed, used: bytes) -> Passed:
         went, came = Went(step.went), self._came[side]

@@ -2,8 +2,10 @@
 
 import ctypes
 import enum
-from dataclasses import dataclass
-from typing import Any, Callable, Dict, NamedTuple, Optional, Sequence, Tuple, Type, Union
+import functools
+import struct
+from dataclasses import dataclass, field
+from typing import Any, Callable, Dict, List, NamedTuple, Optional, Sequence, Tuple, Type, Union
 
 from . import _calls
 from ._names import FIELDS, OPERATIONS, STATUSES
@@ -38,6 +40,10 @@ class FieldKind(enum.IntEnum):
 
 
 Value = Union[int, bool, str, bytes, None]
+KINDS = {kind.value: kind for kind in Kind}
+_FIELD_KINDS = {kind.value: kind for kind in FieldKind}
+_FIELD_NAMES = [FIELDS.get(number, "") for number in range(256)]
+FIELD = struct.Struct("IIqHBB4x")  # struct zk_field
 
 
 class Field(NamedTuple):
@@ -50,31 +56,71 @@ class Field(NamedTuple):
     length: int
 
 
+class Right(NamedTuple):
+    """An access right: what is permitted (Permission), and to whom."""
+    perms: int
+    scheme: str
+    id: str
+
+
+class _Record:
+    """Fields, in order."""
+    fields: Tuple[Field, ...]
+
+    def __getitem__(self, name: str) -> Any:
+        """The value of the first field of this name: of a list its elements, such as the names of children, or Rights."""
+        for at, field in enumerate(self.fields):
+            if field.name == name:
+                return field.value if field.kind != FieldKind.LIST or field.value is None else self._elements(at)
+        raise KeyError(name)
+
+    def __contains__(self, name: object) -> bool:
+        return any(field.name == name for field in self.fields)
+
+    def _elements(self, at: int) -> List[Any]:
+        """The elements of the list that begins there."""
+        count = int(self.fields[at].value or 0)
+        if self.fields[at].name != "acl":
+            return [field.value for field in self.fields[at + 1:at + 1 + count]]
+        values: List[Any] = [field.value for field in self.fields[at + 1:at + 1 + 3 * count]]
+        return [Right(*values[each:each + 3]) for each in range(0, len(values), 3)]
+
+
 @dataclass(frozen=True)
-class Message:
+class Part(_Record):
+    """A part of a multi, or its result: its operation, and the fields of its record. A result that is an error has the
+    operation "" and the field err."""
+    operation: str
+    fields: Tuple[Field, ...]
+
+
+@dataclass(frozen=True)
+class Message(_Record):
     """A message. The operation of a reply is that of its request. `frame` is the number of its frame among those of its
     side, from 0, and `line` its line, if the talk has lines; both are None for a payload by itself. `answers` is the
-    number of the client's frame that a reply answers, else None."""
+    number of the client's frame that a reply answers, else None. The fields are made when they are asked for."""
     kind: Kind
     xid: int
     operation: str
     err: int
     zxid: int
-    fields: Tuple[Field, ...]
     payload: bytes
     frame: Optional[int] = None
     line: Optional[str] = None
     answers: Optional[int] = None
+    _read: bytes = field(default=b"", repr=False)
 
-    def __getitem__(self, name: str) -> Value:
-        """The value of the first field of this name."""
-        for field in self.fields:
-            if field.name == name:
-                return field.value
-        raise KeyError(name)
+    @functools.cached_property
+    def fields(self) -> Tuple[Field, ...]:  # type: ignore[override]
+        return fields_in(self._read, self.payload)
 
-    def __contains__(self, name: object) -> bool:
-        return any(field.name == name for field in self.fields)
+    @property
+    def parts(self) -> Tuple[Part, ...]:
+        """The parts of a multi, or their results, each with its record."""
+        begins = [at for at, field in enumerate(self.fields) if field.kind == FieldKind.PART]
+        ends = [*begins[1:], len(self.fields)]
+        return tuple(Part(OPERATIONS.get(int(self.fields[at].value or 0), ""), self.fields[at + 1:end])
+                     for at, end in zip(begins, ends))
 
 
 class Fault(NamedTuple):
@@ -121,47 +167,50 @@ def bytes_of(buffer: bytes) -> bytes:
     return buffer if type(buffer) is bytes else memoryview(buffer).tobytes()
 
 
-def number_of(operation: str) -> int:
-    """The number of an operation or of a part of a multi."""
+def number_of(operation: Union[str, int]) -> int:
+    """The number of an operation or of a part of a multi, which may be said by itself."""
+    if isinstance(operation, int):
+        return operation
     for number, name in OPERATIONS.items():
         if name == operation:
             return number
     raise Refused(RANGE)
 
 
-def _value(field: _calls.Field, payload: bytes) -> Value:
-    if field.null:
-        return None
-    if field.kind == FieldKind.TEXT:
-        return payload[field.place:field.place + field.length].decode()
-    if field.kind == FieldKind.BLOB:
-        return payload[field.place:field.place + field.length]
-    number: int = field.number
-    return bool(number) if field.kind == FieldKind.BOOL else number
+def fields_in(read: bytes, payload: bytes) -> Tuple[Field, ...]:
+    """The fields that were read of a payload."""
+    new, names, kinds, found = tuple.__new__, _FIELD_NAMES, _FIELD_KINDS, []
+    text, blob, boolean = int(FieldKind.TEXT), int(FieldKind.BLOB), int(FieldKind.BOOL)
+    for place, length, number, name, kind, null in FIELD.iter_unpack(read):
+        value: Value = number
+        if kind == text or kind == blob or null:
+            value = None if null else payload[place:place + length]
+            if kind == text and value is not None:
+                value = value.decode()
+        elif kind == boolean:
+            value = number != 0
+        found.append(new(Field, (names[name], kinds[kind], value, place, length)))
+    return tuple(found)
 
 
-def fields_of(read: Callable[..., _calls.Read],
-              payload: Callable[[], bytes]) -> Tuple[_calls.Read, Tuple[Field, ...]]:
+def read_into(read: Callable[..., _calls.Read]) -> Tuple[_calls.Read, bytes]:
     """Reads into a room of fields, and once more if there are more of them."""
     room = (_calls.Field * 64)()
     answer = read(room, len(room))
     if answer.count > len(room):
         room = (_calls.Field * answer.count)()
         answer = read(room, len(room))
-    content = payload()
-    return answer, tuple(Field(FIELDS.get(field.name, ""), FieldKind(field.kind), _value(field, content), field.place,
-                               field.length) for field in room[:answer.count])
+    return answer, ctypes.string_at(room, answer.count * FIELD.size)
 
 
 def message_of(view: _calls.Message, read: Callable[..., _calls.Read], payload: bytes,
                line: Optional[str] = None) -> Message:
     """The message that a handle shows."""
-    answer, fields = fields_of(read, lambda: payload)
+    answer, fields = read_into(read)
     if answer.status:  # another thread has renewed or closed it
         raise Refused(answer.status, answer.place)
-    operation = OPERATIONS.get(view.operation, "")
-    return Message(Kind(view.kind), view.xid, operation, view.err, view.zxid, fields, payload, view.frame, line,
-                   view.answers or None)
+    return Message(KINDS[view.kind], view.xid, OPERATIONS.get(view.operation, ""), view.err, view.zxid, payload,
+                   view.frame, line, view.answers or None, fields)
 
 
 def written(write: Callable[..., _calls.Line], room: int = 4096) -> bytes:

@@ -6,22 +6,22 @@ from typing import Callable, List, Sequence, Tuple, Union
 
 from . import _calls
 from ._calls import library
-from ._messages import (LONGEST, RANGE, ROOM, TOO_LONG, Field, FieldKind, Kind, Message, Refused, Side, Value,
-                        bytes_of, fields_of, number_of, written)
+from ._messages import (KINDS, LONGEST, RANGE, ROOM, TOO_LONG, Field, FieldKind, Message, Refused, Side, Value, bytes_of,
+                        fields_in, number_of, read_into, written)
 from ._names import OPERATIONS, Profile
 
 Item = Union[Field, Tuple[FieldKind, Value]]
 
 
 def _read(payload: bytes, read: Callable[..., _calls.Read]) -> Message:
-    answer, fields = fields_of(read, lambda: payload)
+    answer, fields = read_into(read)
     if answer.status:
-        raise Refused(answer.status, answer.place, fields)
-    return Message(Kind(answer.kind), answer.xid, OPERATIONS.get(answer.operation, ""), answer.err, answer.zxid, fields,
-                   payload)
+        raise Refused(answer.status, answer.place, fields_in(fields, payload))
+    return Message(KINDS[answer.kind], answer.xid, OPERATIONS.get(answer.operation, ""), answer.err, answer.zxid, payload,
+                   _read=fields)
 
 
-def _parts(parts: Sequence[str]) -> "Tuple[ctypes.Array[ctypes.c_int32], int]":
+def _parts(parts: Sequence[Union[str, int]]) -> "Tuple[ctypes.Array[ctypes.c_int32], int]":
     return (ctypes.c_int32 * max(len(parts), 1))(*map(number_of, parts)), len(parts)
 
 
@@ -43,7 +43,7 @@ def read_connected(payload: bytes) -> Message:
     return _read(payload, lambda *out: library.zk_read_connected(payload, len(payload), *out))
 
 
-def read_reply(operation: str, payload: bytes, parts: Sequence[str] = ()) -> Message:
+def read_reply(operation: Union[str, int], payload: bytes, parts: Sequence[Union[str, int]] = ()) -> Message:
     """The reply to a request of this operation, for a multi of these parts."""
     payload, number, numbers = bytes_of(payload), number_of(operation), _parts(parts)
     return _read(payload, lambda *out: library.zk_read_reply(number, *numbers, payload, len(payload), *out))
@@ -78,7 +78,7 @@ def judge_connected(payload: bytes) -> None:
     _judged(library.zk_judge_connected(payload, len(payload)))
 
 
-def judge_reply(operation: str, payload: bytes, parts: Sequence[str] = ()) -> None:
+def judge_reply(operation: Union[str, int], payload: bytes, parts: Sequence[Union[str, int]] = ()) -> None:
     """Refuses what is no payload of a reply to a request of this operation, for a multi of these parts."""
     payload = bytes_of(payload)
     _judged(library.zk_judge_reply(number_of(operation), *_parts(parts), payload, len(payload)))
@@ -132,7 +132,7 @@ def _fit(bits: int, *numbers: int) -> None:
         raise Refused(RANGE)
 
 
-def write_request(xid: int, operation: str, items: Sequence[Item] = ()) -> bytes:
+def write_request(xid: int, operation: Union[str, int], items: Sequence[Item] = ()) -> bytes:
     """The frame of a request: of each field, in order, its kind and its value, as of a message's fields. A null is
     None, a list its count, a part of a multi its operation. Whether the frame may come next is judged by a talk."""
     _fit(31, xid)
@@ -144,7 +144,7 @@ def write_first(items: Sequence[Item]) -> bytes:
     return _write(items, library.zk_write_first)
 
 
-def write_reply(xid: int, operation: str, items: Sequence[Item] = (), zxid: int = 0, err: int = 0) -> bytes:
+def write_reply(xid: int, operation: Union[str, int], items: Sequence[Item] = (), zxid: int = 0, err: int = 0) -> bytes:
     """The frame of a reply to a request of this operation, of its fields as for a request. Of a multi a result has its
     part's operation, and an error -1 and its number; a reply whose `err` isn't 0 has no fields."""
     _fit(31, xid, err)

@@ -282,8 +282,8 @@ class Talks(unittest.TestCase):
         self.assertEqual(caught.exception.fault, Fault(Side.CLIENT, 1, 49 + 20, 15, "TRAILING", None, None))
 
     def test_a_talk_that_is_begun_anew_meanwhile(self):
-        """As by another thread, while a message is made: it had no fields."""
-        for name, held in (("talk", Talk()), ("through", Through())):
+        """As by another thread, while a message is made: it had no fields. Without lines one call makes it."""
+        for name, held in (("talk", Talk(lines=True)), ("through", Through())):
             call = f"zk_{name}_fields"
             fields = getattr(_calls.library, call)
             with mock.patch.object(_calls.library, call, lambda *words: (held.renew(), fields(*words))[1]):

@@ -3,6 +3,7 @@
     python3 -m unittest discover examples/python/tests
 """
 
+import itertools
 import unittest
 
 from libzk import Cut, Fault, Kind, Passed, Refused, Side, Through, Went
@@ -69,6 +70,54 @@ class Passages(unittest.TestCase):
             self.assertEqual([passed.went for passed in through.feed(Side.SERVER, frame(NONE))], [Went.ANSWERED])
             (last,) = through.feed(Side.CLIENT, frame(self.SECOND)[9:])
             self.assertEqual((last.used, self.told(last)), (10, (Kind.REQUEST, 2, "exists", self.SECOND, 2, None)))
+
+    def healthy(self):
+        """A healthy conversation of four requests, of which both sides' messages come in one piece each, and what is
+        read of it where one may wait: each side's in its order."""
+        asked = [HELLO] + [xid.to_bytes(4, "big") + EXISTS[4:] for xid in (1, 2)] + [b"\0\0\0\3" + UNKNOWN[4:],
+                                                                                   b"\0\0\0\4" + EXISTS[4:]]
+        answered = [WELCOME] + [xid.to_bytes(4, "big") + NO_NODE[4:] for xid in (1, 2)] + [b"\0\0\0\3" + NONE[4:],
+                                                                                         b"\0\0\0\4" + NO_NODE[4:]]
+        wanted = [[(Kind.CONNECT, 0), (Kind.REQUEST, 1), (Kind.REQUEST, 2), (Went.ASKED, 3), (Kind.REQUEST, 4)],
+                  [(Kind.CONNECTED, 0), (Kind.REPLY, 1), (Kind.REPLY, 2), (Went.ANSWERED, 3), (Kind.REPLY, 4)]]
+        return [b"".join(map(frame, payloads)) for payloads in (asked, answered)], wanted
+
+    def test_as_many_as_may_wait(self):
+        """The server's next bytes come after the client's that had no room, reply by reply."""
+        for waiting in (1, 2, 3, 65536):
+            (client, server), wanted = self.healthy()
+            left, found = {Side.CLIENT: client, Side.SERVER: server}, [[], []]
+            with Through(waiting=waiting) as through:
+                while any(left.values()):
+                    for side in Side:
+                        if left[side]:
+                            every = through.feed(side, left[side])
+                            left[side] = left[side][sum(passed.used for passed in every):]
+                            self.assertEqual(every[-1].went == Went.FULL, bool(left[side]))
+                            found[side] += [self.told(passed)[:2] for passed in every if passed.went != Went.FULL]
+                self.assertEqual(through.ending().unanswered, 0)
+            self.assertEqual(found, wanted)
+
+    def test_read(self):
+        """What the client sends is kept while it has no room, whatever its pieces, and taken after each reply."""
+        for waiting, cut in ((1, 1000), (1, 7), (2, 1000), (3, 11), (65536, 1)):
+            (client, server), wanted = self.healthy()
+            pieces = [(side, sent[at:at + cut]) for side, sent in ((Side.CLIENT, client), (Side.SERVER, server))
+                      for at in range(0, len(sent), cut)]
+            with Through(waiting=waiting) as through:
+                every = [(side, *self.told(passed)[:2]) for side, passed in through.read(pieces)
+                         if passed.went not in (Went.WITHIN, Went.FULL)]
+                self.assertEqual(through.ending().unanswered, 0)
+            for side in Side:
+                self.assertEqual([of for by, *of in every if by == side], [list(pair) for pair in wanted[side]])
+            steps = {Kind.REQUEST: 1, Went.ASKED: 1, Kind.REPLY: -1, Went.ANSWERED: -1}
+            most = max(itertools.accumulate(steps.get(kind, 0) for _, kind, _ in every))
+            self.assertLessEqual(most, waiting)
+        with Through(waiting=1) as through:
+            every = [passed.went for _, passed in through.read([(Side.CLIENT, client), (Side.SERVER, frame(WELCOME))])]
+            self.assertEqual(every, [Went.MESSAGE, Went.MESSAGE, Went.FULL, Went.MESSAGE])
+            through.renew()
+            self.assertEqual([passed.went for _, passed in through.read([(Side.CLIENT, frame(HELLO))])], [Went.MESSAGE])
 
     def test_a_reply_before_its_turn(self):
         with Through() as through:

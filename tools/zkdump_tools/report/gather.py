@@ -4,7 +4,7 @@ import collections
 import json
 
 from . import kept, paths, sources, watching
-from .. import listing, selection, zkjson
+from .. import errors, listing, selection, zkjson
 from ..histogram import Histogram
 
 CLOSE = "closeSession"
@@ -16,13 +16,14 @@ MOST_SILENT = 200       # connections without a message that are kept
 
 class Operation:
     """What is counted of an operation. `slowest` is the latency, the connection and the number of its slowest request,
-    or of its first where there are no times; `failures` has the first request that failed with each error."""
+    or of its first where there are no times. `answers` has the errors that are no failures; `first` has the first
+    request that was answered with each error."""
 
     def __init__(self):
         self.asked = self.answered = 0
         self.left = dict.fromkeys(listing.FATES, 0)     # requests without a reply, by what became of them
-        self.errors, self.latencies = collections.Counter(), Histogram()
-        self.slowest, self.failures = None, {}
+        self.errors, self.answers, self.latencies = collections.Counter(), collections.Counter(), Histogram()
+        self.slowest, self.first = None, {}
 
     unanswered = property(lambda self: self.left[listing.UNANSWERED])
 
@@ -41,11 +42,12 @@ class Operation:
         self.asked, self.answered = self.asked + other.asked, self.answered + other.answered
         self.left = {fate: count + other.left[fate] for fate, count in self.left.items()}
         self.errors.update(other.errors)
+        self.answers.update(other.answers)
         self.latencies.merge(other.latencies)
         if other.slowest and (self.slowest is None or other.slowest[0] > self.slowest[0]):
             self.slowest = other.slowest
-        for error, link in other.failures.items():
-            self.failures.setdefault(error, link)
+        for error, link in other.first.items():
+            self.first.setdefault(error, link)
 
 
 class Path(list):
@@ -300,7 +302,7 @@ class Reading:
         if not hasattr(asked, "seen"):      # the request itself isn't there, or not chosen
             self.name(asked)
             self.name_parts(asked.parts, asked)
-        ms = made.ms
+        ms, has_failed = made.ms, errors.is_failure(made.op, error)
         self.count_by_number(made)
         operation = connection.operations[made.op]
         operation.asked += 1
@@ -310,21 +312,20 @@ class Reading:
         if operation.slowest is None or (ms or 0) > operation.slowest[0]:
             operation.slowest = ms or 0, connection.number, asked.n
         if error:
-            operation.errors[error] += 1
-            operation.failures.setdefault(error, (connection.number, asked.n))
-        if run.kept.takes(ms, error):
+            (operation.errors if has_failed else operation.answers)[error] += 1
+            operation.first.setdefault(error, (connection.number, asked.n))
+        if run.kept.takes(ms, has_failed):
             run.kept.put(kept.Request(connection.number, asked.n, made.n, asked.moment, ms, made.op, error, asked.path))
         if ms is not None and asked.moment is not None:
-            run.density.add(connection.number, asked.moment, ms, 1 if error else 0)
+            run.density.add(connection.number, asked.moment, ms, int(has_failed))
         if asked.path is not None:
-            self.judge_path(asked.path, asked, ms, error is not None)
+            self.judge_path(asked.path, asked, ms, has_failed)
         elif made.op == "multi":
-            self.judge_parts(talk.results(line) if error else (), asked, ms, error is not None)
+            self.judge_parts(talk.results(line) if error else (), asked, ms, has_failed)
         elif made.op == "setWatches" and error is None:
             for path in getattr(asked, "watched", ()):
                 self.set_again(path, asked)
-        # A node that isn't there can be watched by exists alone.
-        if getattr(asked, "is_watching", False) and (error is None or made.op == "exists" and error == "NONODE"):
+        if getattr(asked, "is_watching", False) and not has_failed:    # exists watches a node that isn't there, too
             self.watch(asked.path, asked)[0] += 1
         if self.tracing:
             self.tracing.request(connection, asked, made)

@@ -10,7 +10,7 @@ import math
 import random
 from typing import NamedTuple, Optional
 
-from .. import listing
+from .. import errors, listing
 
 SLOWEST, SLOWEST_FAILED, OTHER_FAILED, MOST_UNANSWERED = 8_000, 1_000, 4_000, 2_000
 MOST_PATHS = 40_000
@@ -29,6 +29,9 @@ class Request(NamedTuple):
     op: str
     error: Optional[str]
     path: object      # as report.paths has it
+
+    def has_failed(self):
+        return errors.is_failure(self.op, self.error)
 
 
 class Slowest:
@@ -78,13 +81,13 @@ class Kept:
         self.left_count = dict.fromkeys(listing.FATES, 0)
         self.least, self.answered = -1, 0
 
-    def takes(self, ms, error):
-        """Whether a request of this latency is to be put."""
-        self.answered += error is None
-        return error is not None or (ms or 0) > self.least
+    def takes(self, ms, has_failed):
+        """Whether an answered request of this latency is to be put."""
+        self.answered += not has_failed
+        return has_failed or (ms or 0) > self.least
 
     def put(self, request):
-        if request.error is None:
+        if not request.has_failed():
             self.slowest.put(request)
             self.least = self.slowest.least()
         elif other := self.failed.put(request):

@@ -41,7 +41,7 @@ class Merged:
             for operation in each.operations.values():
                 if operation.slowest:
                     operation.slowest = moved(operation.slowest, numbers, 1)
-                operation.failures = {error: moved(link, numbers, 0) for error, link in operation.failures.items()}
+                operation.first = {error: moved(link, numbers, 0) for error, link in operation.first.items()}
             if each.is_silent:
                 silent += 1
                 run.silent += 1

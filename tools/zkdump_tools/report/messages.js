@@ -74,7 +74,7 @@ function drawMessage(each, connection) {
     element("span", { class: `side ${each.side}`, text: each.side === "C" ? "client →" : "← server" }),
     element("span", { class: "op", text: `${visible(String(each.op))}${each.xid === undefined ? "" : ` ${each.xid}`}` }),
     element("span", { class: "path", text: path === undefined ? "" : shownText(path) }),
-    element("span", { class: "error", text: error === undefined ? "" : visible(String(error)) }),
+    element("span", { class: isFailure(each.op, error) ? "error failed" : "error", text: error === undefined ? "" : visible(String(error)) }),
     element("span", { class: "ms", text: each.ms === undefined ? "" : duration(each.ms) }));
   const made = element("details", { class: `message ${chosen ? "chosen" : ""} ${each.side}`, id: `m-${connection + 1}-${each.n}` }, line);
   const fill = () => { if (made.children.length === 1) made.append(fieldsOf(each, connection)); };

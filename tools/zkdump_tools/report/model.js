@@ -33,9 +33,15 @@ function unpack(columns) {
     hasDigits: columns.ms.some(each => typeof each === "string") };
 }
 
+// Whether a reply with this error, null or undefined for none, says that its request failed; errors.py has the errors that
+// are answers.
+function isFailure(op, error) {
+  return error !== null && error !== undefined && !data.answers.some(each => each[0] === op && each[1] === error);
+}
+
 function outcome(i) {
   if (requests.reply[i] === null) return UNANSWERED + (requests.lost?.[i] ?? 0);
-  return requests.error[i] >= 0 ? FAILED : OK;
+  return requests.error[i] >= 0 && isFailure(data.ops[requests.op[i]], data.errors[requests.error[i]]) ? FAILED : OK;
 }
 
 // The part of the run that is drawn when no time is chosen.
@@ -159,10 +165,11 @@ const derive = {
     }).sort((a, b) => b[1] - a[1] || (a[0] < b[0] ? -1 : 1));
   },
   errors(indices) {
-    const failed = indices.filter(i => outcome(i) === FAILED);
-    return [...groups(failed, i => `${requests.op[i]} ${requests.error[i]}`).values()].map(all =>
-      [data.ops[requests.op[all[0]]], data.errors[requests.error[all[0]]], all.length, ...link(all[0])])
-      .sort((a, b) => b[2] - a[2]);
+    const found = indices.filter(i => requests.reply[i] !== null && requests.error[i] >= 0);
+    return [...groups(found, i => `${requests.op[i]} ${requests.error[i]}`).values()].map(all =>
+      [data.ops[requests.op[all[0]]], data.errors[requests.error[all[0]]], outcome(all[0]) === FAILED ? "failed" : "answer",
+        all.length, ...link(all[0])])
+      .sort((a, b) => (a[2] !== "failed") - (b[2] !== "failed") || b[3] - a[3]);
   },
   slowest(indices) {
     return indices.filter(i => !Number.isNaN(requests.ms[i])).sort((a, b) => byRequest(b, a))

@@ -7,7 +7,7 @@ import json
 import pathlib
 import re
 
-from .. import listing
+from .. import errors, listing
 from . import kept, paths, summary, text
 from .messages import exact
 
@@ -55,6 +55,7 @@ def data_of(title, found):
         "connections": [connection_of(each) for each in run.connections],
         "sessions": [session_of(each) for each in found.sessions],
         "requests": requests, "ops": names.ops, "errors": names.errors, "paths": names.paths,
+        "answers": sorted(errors.ANSWERS),
         "density": density_of(found),
         "bySession": [] if run.kept.is_complete() else by_session(found),
     }

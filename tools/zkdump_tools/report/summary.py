@@ -42,7 +42,8 @@ COLUMNS = {
         Column("failed", "failed", "count"), Column("unanswered", "unanswered", "count"),
         *(Column(name, f"{name} ms", "ms") for name in tables.TIMES)],
     "errors": [
-        Column("op", "operation", "op"), Column("error", "error", "error"), Column("count", "count", "count")],
+        Column("op", "operation", "op"), Column("error", "error", "error"), Column("outcome", "outcome", "text"),
+        Column("count", "count", "count")],
     "slowest": [
         Column("ms", "ms", "ms"), Column("at", "asked at", "time"), Column("connection", "connection", "connection"),
         Column("n", "message", "count"), Column("op", "operation", "op"), Column("error", "error", "error"),
@@ -181,9 +182,11 @@ def operation_rows(operations, run):
 
 
 def error_rows(operations):
-    rows = [[name, error, count, *operation.failures[error]] for name, operation in operations.items()
-            for error, count in operation.errors.items()]
-    return sorted(rows, key=lambda row: (-row[2], row[0], row[1]))
+    """The rows of errors, those that are answers after the failures."""
+    rows = [[name, error, outcome, count, *operation.first[error]] for name, operation in operations.items()
+            for outcome, found in (("failed", operation.errors), ("answer", operation.answers))
+            for error, count in found.items()]
+    return sorted(rows, key=lambda row: (row[2] != "failed", -row[3], row[0], row[1]))
 
 
 def session_rows(sessions):

@@ -5,6 +5,7 @@ const NUMBERS = new Set(["count", "ms", "length", "connection"]);
 const TIMES = new Set(["time", "ms", "length"]);    // a text of these has the digits of a number
 const HELP = {
   operations: "p50, p95 and p99: the latency that 50, 95 or 99 of a hundred replies didn't exceed.",
+  errors: "An answer is no failure: exists says NONODE where there is no node.",
   paths: "A part of a multi counts as a request of its path.",
   watches: "Set: by a request that asked for a watch and could set one, or again by setWatches after a reconnection.",
   unanswered: "Requests that had no reply when the recording or the connection ended.",
@@ -109,9 +110,10 @@ function header(name, title, kind, at) {
 function drawRow(columns, row) {
   const [connection, n] = row.slice(-2);
   const leads = connection !== null && n !== null;
+  const op = row[columns.findIndex(each => each[2] === "op")];
   const cells = columns.map(([name, , kind], at) => {
     const value = row[at], text = cellText(kind, value);
-    const alert = value && (name.startsWith("unanswered") ? "unanswered" : name.startsWith("failed") || kind === "error" ? "failed" : "");
+    const alert = value && (name.startsWith("unanswered") ? "unanswered" : name.startsWith("failed") || kind === "error" && isFailure(op, value) ? "failed" : "");
     const cell = element("td", { class: [NUMBERS.has(kind) && "number", kind, alert].filter(Boolean).join(" ") });
     if (at === 0 && leads) cell.append(element("a", { href: hashOf({ m: `${connection + 1}:${n}` }), text }));
     else cell.textContent = text;

@@ -51,9 +51,9 @@ static void write_names(struct state *state) {
     put_text(out, "{\"operations\":{");
     put_name(out, "", OP_CONNECT, "connect");
     put_name(out, ",", OP_EVENT, "event");
-    for (int32_t number = -200; number <= 200; number++) put_name(out, ",", number, zk_operation_name(number));
+    for (int32_t number = -200; number <= 200; number++) put_name(out, ",", number, line_operation_name(number));
     put_text(out, "},\"events\":{\"\":\"\"");
-    for (int32_t number = -200; number <= 200; number++) put_name(out, ",", number, zk_event_name(number));
+    for (int32_t number = -200; number <= 200; number++) put_name(out, ",", number, line_event_name(number));
     put_text(out, "}}");
     write_block(state, BLOCK_NAMES);
 }

@@ -3,6 +3,7 @@
 #ifndef COLUMNS_H
 #define COLUMNS_H
 
+#include "in_lines.h"
 #include "zk.h"
 
 #include <math.h>

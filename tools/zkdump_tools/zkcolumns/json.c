@@ -105,7 +105,7 @@ static void put_hexadecimal(struct bytes *out, int64_t number) {
 
 /* The kind of an event and, where it has a name, that under a name of its own. */
 static void put_kind(struct bytes *out, int64_t number) {
-    const char *name = zk_event_name(number);
+    const char *name = line_event_name(number);
     put_text(out, ", \"kind\": ");
     put_number(out, number);
     if (*name == 0) return;
@@ -289,7 +289,7 @@ static void put_parts(struct walk *walk) {
         int32_t length = -1;
         const uint8_t *path = left > 0 ? next_path(&paths, &length) : NULL;
         put_text(walk->out, first ? "{\"op\": \"" : ", {\"op\": \"");
-        put_text(walk->out, part->number == -1 ? "fail" : zk_operation_name((int32_t)part->number));
+        put_text(walk->out, part->number == -1 ? "fail" : line_operation_name((int32_t)part->number));
         put_text(walk->out, "\"");
         if (part->number == -1) {
             put_err(walk->out, (int32_t)message->fields[walk->next++].number);

@@ -18,7 +18,7 @@ static bool put_listed(struct bytes *out, const char *before, const char *list, 
 }
 
 bool put_error(struct bytes *out, const char *before, int32_t number) {
-    const char *name = zk_error_name(number);
+    const char *name = line_error_name(number);
     if (*name == 0) return put_listed(out, before, more_errors, number);
     put_text(out, before);
     put_text(out, name);
@@ -26,7 +26,7 @@ bool put_error(struct bytes *out, const char *before, int32_t number) {
 }
 
 void put_operation(struct bytes *out, int32_t number) {
-    const char *name = zk_operation_name(number);
+    const char *name = line_operation_name(number);
     if (*name != 0) put_text(out, name);
     else if (!put_listed(out, "", more_operations, number)) put_number(out, number);
 }

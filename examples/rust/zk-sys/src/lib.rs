@@ -5,6 +5,9 @@
 #![no_std]
 #![allow(non_camel_case_types)]
 
+/// The version of these calls, as `ZK_VERSION_NUMBER` of `include/zk.h`.
+pub const VERSION: u32 = 10_000;
+
 /// A talk, or none.
 #[repr(C)]
 pub struct zk_talk {
@@ -164,6 +167,7 @@ pub struct zk_read {
 }
 
 extern "C" {
+    pub fn zk_version() -> u32;
     pub fn zk_talk_new(
         talk: *mut zk_talk,
         client: u32,
@@ -175,9 +179,9 @@ extern "C" {
     pub fn zk_talk_pass(talk: *mut zk_talk, side: u32, piece: *const u8, length: usize) -> zk_step;
     pub fn zk_talk_waiting(talk: *mut zk_talk) -> zk_waiting;
     pub fn zk_talk_held(talk: *mut zk_talk, side: u32) -> zk_held;
-    pub fn zk_talk_finish(talk: *mut zk_talk) -> zk_ending;
+    pub fn zk_talk_finish_into(talk: *mut zk_talk, out: *mut zk_ending, size: usize);
     pub fn zk_talk_step(talk: *mut zk_talk, side: u32, piece: *const u8, length: usize) -> zk_step;
-    pub fn zk_talk_view(talk: *mut zk_talk, side: u32) -> zk_message;
+    pub fn zk_talk_view_into(talk: *mut zk_talk, side: u32, out: *mut zk_message, size: usize);
     pub fn zk_talk_line(talk: *mut zk_talk, side: u32, out: *mut u8, room: usize) -> zk_line;
     pub fn zk_talk_payload(talk: *mut zk_talk, side: u32, out: *mut u8, room: usize) -> zk_line;
     pub fn zk_talk_fields(
@@ -203,13 +207,20 @@ extern "C" {
         profile: u32,
     ) -> u32;
     pub fn zk_through_renew(through: *mut zk_through) -> u32;
-    pub fn zk_through_step(
+    pub fn zk_through_step_into(
         through: *mut zk_through,
         side: u32,
         piece: *const u8,
         length: usize,
-    ) -> zk_passed;
-    pub fn zk_through_view(through: *mut zk_through, side: u32) -> zk_message;
+        out: *mut zk_passed,
+        size: usize,
+    );
+    pub fn zk_through_view_into(
+        through: *mut zk_through,
+        side: u32,
+        out: *mut zk_message,
+        size: usize,
+    );
     pub fn zk_through_line(
         through: *mut zk_through,
         side: u32,
@@ -228,7 +239,7 @@ extern "C" {
         out: *mut u8,
         room: usize,
     ) -> zk_line;
-    pub fn zk_through_finish(through: *mut zk_through) -> zk_ending;
+    pub fn zk_through_finish_into(through: *mut zk_through, out: *mut zk_ending, size: usize);
     pub fn zk_through_free(through: *mut zk_through);
     pub fn zk_speaker_new(
         speaker: *mut zk_speaker,

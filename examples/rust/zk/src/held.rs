@@ -2,9 +2,11 @@
 
 use crate::ending::refusal;
 use crate::message::{Message, Reader};
-use crate::{well, Ending, Fault, Profile, Side, Waiting, ROOM};
+use crate::{loaded, well, Ending, Fault, Profile, Side, Waiting, ROOM};
+use std::cell::UnsafeCell;
+use std::mem::{size_of, MaybeUninit};
 use std::ptr::null_mut;
-use zk_sys::{zk_fault, zk_line, zk_piece, zk_speaker, zk_talk};
+use zk_sys::{zk_fault, zk_line, zk_message, zk_piece, zk_speaker, zk_talk};
 
 /// The greatest payloads of the sides in bytes, how many requests may wait, and the operations.
 #[derive(Clone, Copy, Debug)]
@@ -38,6 +40,7 @@ impl Limits {
             waiting,
             profile,
         } = self;
+        loaded();
         let status = unsafe { make(handle, client, server, waiting, profile as u32) };
         well(status, 0)
     }
@@ -45,7 +48,8 @@ impl Limits {
 
 /// A conversation as it comes.
 pub struct Talk {
-    handle: zk_talk,
+    /// Also calls that only look write there.
+    handle: UnsafeCell<zk_talk>,
     payload: Vec<u8>,
     reader: Reader,
 }
@@ -55,24 +59,23 @@ unsafe impl Send for Talk {}
 
 impl Talk {
     pub fn new(limits: Limits) -> Result<Talk, Fault> {
-        let handle = zk_talk {
-            held: null_mut(),
-            live: false,
-        };
         let mut talk = Talk {
-            handle,
+            handle: UnsafeCell::new(zk_talk {
+                held: null_mut(),
+                live: false,
+            }),
             payload: Vec::new(),
             reader: Reader::new(),
         };
         limits
-            .make(zk_sys::zk_talk_new, &mut talk.handle)
+            .make(zk_sys::zk_talk_new, talk.handle.get_mut())
             .map(|()| talk)
     }
 
     /// Begins anew with the same limits, whatever came before: for one conversation after another.
     pub fn renew(&mut self) {
         // It is refused for an empty handle alone, and this one has a talk.
-        unsafe { zk_sys::zk_talk_renew(&mut self.handle) };
+        unsafe { zk_sys::zk_talk_renew(self.handle.get()) };
     }
 
     /// Takes bytes of a side away from the front of `piece`, up to the end of the first message. Returns that message.
@@ -86,13 +89,15 @@ impl Talk {
             payload,
             reader,
         } = self;
-        let side = side as u32;
+        let (handle, side) = (handle.get(), side as u32);
         let step = unsafe { zk_sys::zk_talk_step(handle, side, piece.as_ptr(), piece.len()) };
         take(piece, step.used, step.status, &step.fault)?;
         if !step.whole {
             return Ok(None);
         }
-        let view = unsafe { zk_sys::zk_talk_view(handle, side) };
+        let view: zk_message = filled(|out, size| unsafe {
+            zk_sys::zk_talk_view_into(handle, side, out, size);
+        });
         written(payload, |out, room| unsafe {
             zk_sys::zk_talk_payload(handle, side, out, room)
         })?;
@@ -107,14 +112,14 @@ impl Talk {
     /// The same, and it makes no message. Returns whether one is whole.
     pub fn pass(&mut self, side: Side, piece: &mut &[u8]) -> Result<bool, Fault> {
         let (bytes, length) = (piece.as_ptr(), piece.len());
-        let step = unsafe { zk_sys::zk_talk_pass(&mut self.handle, side as u32, bytes, length) };
+        let step = unsafe { zk_sys::zk_talk_pass(self.handle.get(), side as u32, bytes, length) };
         take(piece, step.used, step.status, &step.fault)?;
         Ok(step.whole)
     }
 
     /// What waits for replies; after a fault, before the byte that decided it.
-    pub fn waiting(&mut self) -> Waiting {
-        let waiting = unsafe { zk_sys::zk_talk_waiting(&mut self.handle) };
+    pub fn waiting(&self) -> Waiting {
+        let waiting = unsafe { zk_sys::zk_talk_waiting(self.handle.get()) };
         Waiting {
             requests: waiting.requests,
             weight: waiting.weight,
@@ -122,33 +127,45 @@ impl Talk {
     }
 
     /// How many bytes the side has sent of a frame that isn't whole, its length included.
-    pub fn held(&mut self, side: Side) -> u32 {
-        unsafe { zk_sys::zk_talk_held(&mut self.handle, side as u32) }.bytes
+    pub fn held(&self, side: Side) -> u32 {
+        unsafe { zk_sys::zk_talk_held(self.handle.get(), side as u32) }.bytes
     }
 
     /// How the conversation ends if nothing more comes.
-    pub fn ending(&mut self) -> Ending {
-        Ending::of(&unsafe { zk_sys::zk_talk_finish(&mut self.handle) })
+    pub fn ending(&self) -> Ending {
+        Ending::of(&filled(|out, size| unsafe {
+            zk_sys::zk_talk_finish_into(self.handle.get(), out, size);
+        }))
     }
 
     /// Writes the line of the side's newest message into `text`, in place of what is there.
-    pub fn line(&mut self, side: Side, text: &mut Vec<u8>) -> Result<(), Fault> {
+    pub fn line(&self, side: Side, text: &mut Vec<u8>) -> Result<(), Fault> {
         written(text, |out, room| unsafe {
-            zk_sys::zk_talk_line(&mut self.handle, side as u32, out, room)
+            zk_sys::zk_talk_line(self.handle.get(), side as u32, out, room)
         })
     }
 
+    /// The line of the side's newest message, written into `text`.
+    pub fn line_str<'b>(&self, side: Side, text: &'b mut Vec<u8>) -> Result<&'b str, Fault> {
+        self.line(side, text).map(|()| shown(text))
+    }
+
     /// Writes the line of how the conversation ends if nothing more comes.
-    pub fn ending_line(&mut self, text: &mut Vec<u8>) -> Result<(), Fault> {
+    pub fn ending_line(&self, text: &mut Vec<u8>) -> Result<(), Fault> {
         written(text, |out, room| unsafe {
-            zk_sys::zk_talk_ending_line(&mut self.handle, out, room)
+            zk_sys::zk_talk_ending_line(self.handle.get(), out, room)
         })
+    }
+
+    /// The line of how the conversation ends if nothing more comes, written into `text`.
+    pub fn ending_line_str<'b>(&self, text: &'b mut Vec<u8>) -> Result<&'b str, Fault> {
+        self.ending_line(text).map(|()| shown(text))
     }
 }
 
 impl Drop for Talk {
     fn drop(&mut self) {
-        unsafe { zk_sys::zk_talk_free(&mut self.handle) }
+        unsafe { zk_sys::zk_talk_free(self.handle.get()) }
     }
 }
 
@@ -213,6 +230,14 @@ impl Drop for Speaker {
     }
 }
 
+/// What a call writes into a struct, of the size that it has here: a newer library may have more of it.
+pub(crate) fn filled<T>(call: impl FnOnce(*mut T, usize)) -> T {
+    let mut answer = MaybeUninit::uninit();
+    call(answer.as_mut_ptr(), size_of::<T>());
+    // The call has written all of it.
+    unsafe { answer.assume_init() }
+}
+
 /// Takes away what a step used, and returns it; or why the step was refused.
 pub(crate) fn take<'p>(
     piece: &mut &'p [u8],
@@ -232,6 +257,7 @@ pub(crate) fn take<'p>(
 /// Writes the listing of a whole conversation into `text`, in place of what is there: the line of each message and of the
 /// ending, each with a line feed. The pieces are in the order in which they came.
 pub fn listing(limits: Limits, pieces: &[(Side, &[u8])], text: &mut Vec<u8>) -> Result<(), Fault> {
+    loaded();
     let cut: Vec<zk_piece> = pieces
         .iter()
         .map(|(side, piece)| zk_piece {
@@ -257,6 +283,11 @@ pub fn listing(limits: Limits, pieces: &[(Side, &[u8])], text: &mut Vec<u8>) -> 
             room,
         )
     })
+}
+
+/// A line, which is UTF-8.
+pub(crate) fn shown(text: &[u8]) -> &str {
+    std::str::from_utf8(text).unwrap_or_default()
 }
 
 /// Has a text written into the room that it has, and once more if that is too small.

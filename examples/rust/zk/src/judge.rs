@@ -1,9 +1,10 @@
 //! Payloads by themselves, judged without their fields.
 
-use crate::{well, Fault, Profile};
+use crate::{loaded, well, Fault, Profile};
 use zk_sys::zk_payload;
 
 fn judged(answer: zk_payload) -> Result<(), Fault> {
+    loaded();
     well(answer.status, answer.place)
 }
 
@@ -24,7 +25,8 @@ pub fn judge_connected(payload: &[u8]) -> Result<(), Fault> {
 }
 
 /// Whether the payload is that of a reply to a request of this operation, for a multi of these parts.
-pub fn judge_reply(operation: i32, parts: &[i32], payload: &[u8]) -> Result<(), Fault> {
+pub fn judge_reply(operation: impl Into<i32>, parts: &[i32], payload: &[u8]) -> Result<(), Fault> {
+    let operation = operation.into();
     let (bytes, length) = (payload.as_ptr(), payload.len());
     judged(unsafe { zk_sys::zk_judge_reply(operation, parts.as_ptr(), parts.len(), bytes, length) })
 }

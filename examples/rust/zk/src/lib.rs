@@ -1,11 +1,11 @@
 //! ZooKeeper's client protocol by the proved library libzk: the fields of payloads, conversations, and requests.
 //!
 //! ```
-//! use zk::{Profile, Reader, Value};
+//! use zk::{Operation, Profile, Reader, Value};
 //! let payload = [0, 0, 0, 1, 0, 0, 0, 3, 0, 0, 0, 2, b'/', b'a', 1];
 //! let mut reader = Reader::new();
 //! let message = reader.request(Profile::V34, &payload)?;
-//! assert_eq!((message.xid, zk::operation_name(message.operation)), (1, "exists"));
+//! assert_eq!((message.xid, message.operation()), (1, Some(Operation::Exists)));
 //! assert_eq!(message.get("path"), Some(Value::Text("/a")));
 //! # Ok::<(), zk::Fault>(())
 //! ```
@@ -13,13 +13,13 @@
 //! A request is written from its values, and judged by a talk before it is sent:
 //!
 //! ```
-//! use zk::{Limits, Side, Talk, Value, Writer};
+//! use zk::{Limits, Operation, Side, Talk, Value, Writer};
 //! # let mut talk = Talk::new(Limits::default())?;
 //! # let mut writer = Writer::new();
 //! # let hello = writer.first([Value::Int(0), Value::Long(0), Value::Int(1), Value::Long(0), Value::Null])?.to_vec();
 //! # talk.step(Side::Client, &mut &hello[..])?;
 //! let mut writer = Writer::new();
-//! let frame = writer.request(1, 3, [Value::Text("/a"), Value::Bool(true)])?;
+//! let frame = writer.request(1, Operation::Exists, [Value::Text("/a"), Value::Bool(true)])?;
 //! let message = talk.step(Side::Client, &mut &frame[..])?.expect("a whole frame");
 //! assert_eq!(message.get("path"), Some(Value::Text("/a")));
 //! # Ok::<(), zk::Fault>(())
@@ -34,10 +34,61 @@
 //! drop(one);
 //! ```
 //!
+//! `Message::to_owned` makes a copy that can be. Of a payload that is refused, `Reader::faulty` has what comes before the
+//! fault.
+//!
 //! Talks, passages and speakers are freed when they are dropped. They may go to another thread, but can't be shared or
-//! copied.
+//! copied. The first call of a program whose library is older than this crate panics.
 
 use std::fmt;
+use std::sync::Once;
+
+/// Numbers that have names, as an enum.
+macro_rules! numbered {
+    ($(#[$doc:meta])* $kind:ident: $of:ty, $named:ident { $($name:ident = $number:literal,)* }) => {
+        $(#[$doc])*
+        #[non_exhaustive]
+        #[derive(Clone, Copy, Debug, PartialEq, Eq, Hash)]
+        pub enum $kind {
+            $($name,)*
+        }
+
+        impl $kind {
+            /// What has this number, if it is known here.
+            pub fn of(number: $of) -> Option<$kind> {
+                match number {
+                    $($number => Some($kind::$name),)*
+                    _ => None,
+                }
+            }
+
+            /// Its number.
+            pub fn number(self) -> $of {
+                match self {
+                    $($kind::$name => $number,)*
+                }
+            }
+
+            /// Its name.
+            pub fn name(self) -> &'static str {
+                $named(self.number())
+            }
+        }
+
+        impl std::fmt::Display for $kind {
+            fn fmt(&self, out: &mut std::fmt::Formatter<'_>) -> std::fmt::Result {
+                out.write_str(self.name())
+            }
+        }
+
+        impl From<$kind> for $of {
+            fn from(kind: $kind) -> $of {
+                kind.number()
+            }
+        }
+    };
+}
+pub(crate) use numbered;
 
 mod ending;
 mod held;
@@ -50,11 +101,14 @@ mod write;
 pub use ending::{Ending, Waiting};
 pub use held::{listing, Limits, Speaker, Talk};
 pub use judge::{judge_connected, judge_event, judge_first, judge_reply, judge_request};
-pub use message::{Field, Kind, Message, Reader, Value};
+pub use message::{Faulty, Field, Kind, Message, OwnedMessage, Reader, Value};
 pub use through::{LeftOut, Through, Unseen, Went};
 pub use write::Writer;
 
-pub use names::{error_name, event_name, field_name, operation_name, status_name, Profile};
+pub use names::{
+    error_name, event_name, field_name, flags_name, operation_name, permission, state_name,
+    status_name, Code, CreateFlags, EventType, Operation, Profile, State, Status,
+};
 
 /// Who speaks.
 #[derive(Clone, Copy, Debug, PartialEq, Eq)]
@@ -93,6 +147,13 @@ pub struct Order {
     pub got: i32,
 }
 
+impl Fault {
+    /// The status, if it is known here.
+    pub fn status(&self) -> Option<Status> {
+        Status::of(self.status)
+    }
+}
+
 impl fmt::Display for Fault {
     fn fmt(&self, out: &mut fmt::Formatter<'_>) -> fmt::Result {
         write!(out, "{} at {}", status_name(self.status), self.place)
@@ -102,6 +163,24 @@ impl fmt::Display for Fault {
 impl std::error::Error for Fault {}
 
 pub(crate) const ROOM: u32 = 68;
+
+/// The version of the library: a million for each major number, a thousand for each minor one.
+pub fn version() -> u32 {
+    // It takes nothing.
+    unsafe { zk_sys::zk_version() }
+}
+
+/// Stops a program whose library is older than this crate.
+pub(crate) fn loaded() {
+    static ONCE: Once = Once::new();
+    ONCE.call_once(|| {
+        let (found, wanted) = (version(), zk_sys::VERSION);
+        assert!(
+            found >= wanted,
+            "libzk is {found}, and this crate needs {wanted} or later"
+        );
+    });
+}
 
 /// Nothing, or why the call did nothing.
 pub(crate) fn well(status: u32, place: u32) -> Result<(), Fault> {

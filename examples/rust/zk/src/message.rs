@@ -1,6 +1,6 @@
 //! Messages and their fields, borrowed from a payload.
 
-use crate::{field_name, well, Fault, Profile, ROOM};
+use crate::{field_name, loaded, well, Code, Fault, Operation, Profile, ROOM};
 use zk_sys::{zk_field, zk_read};
 
 /// Kinds of messages.
@@ -63,11 +63,46 @@ impl<'p> Message<'p> {
             .map(move |field| field_of(field, payload))
     }
 
+    /// The operation, if it is known here.
+    pub fn operation(&self) -> Option<Operation> {
+        Operation::of(self.operation)
+    }
+
+    /// What `err` means, if it is known here.
+    pub fn code(&self) -> Option<Code> {
+        Code::of(self.err)
+    }
+
     /// The value of the first field of this name.
     pub fn get(&self, name: &str) -> Option<Value<'p>> {
         self.fields()
             .find(|field| field.name == name)
             .map(|field| field.value)
+    }
+
+    /// A copy that is kept.
+    pub fn to_owned(&self) -> OwnedMessage {
+        let Message {
+            kind,
+            xid,
+            operation,
+            err,
+            zxid,
+            frame,
+            answers,
+            ..
+        } = *self;
+        OwnedMessage {
+            kind,
+            xid,
+            operation,
+            err,
+            zxid,
+            frame,
+            answers,
+            payload: self.payload.to_vec(),
+            fields: self.fields.to_vec(),
+        }
     }
 
     pub(crate) fn of(read: &zk_read, payload: &'p [u8], fields: &'p [zk_field]) -> Message<'p> {
@@ -99,6 +134,76 @@ impl<'p> Message<'p> {
     }
 }
 
+/// A message that has its payload, and may be kept.
+#[derive(Clone, Debug)]
+pub struct OwnedMessage {
+    pub kind: Kind,
+    pub xid: i32,
+    pub operation: i32,
+    pub err: i32,
+    pub zxid: i64,
+    pub frame: u64,
+    pub answers: u64,
+    pub payload: Vec<u8>,
+    fields: Vec<zk_field>,
+}
+
+impl OwnedMessage {
+    /// The message, borrowed.
+    pub fn borrow(&self) -> Message<'_> {
+        let OwnedMessage {
+            kind,
+            xid,
+            operation,
+            err,
+            zxid,
+            frame,
+            answers,
+            ..
+        } = *self;
+        Message {
+            kind,
+            xid,
+            operation,
+            err,
+            zxid,
+            frame,
+            answers,
+            payload: &self.payload,
+            fields: &self.fields,
+        }
+    }
+}
+
+impl From<Message<'_>> for OwnedMessage {
+    fn from(message: Message<'_>) -> OwnedMessage {
+        message.to_owned()
+    }
+}
+
+/// What was read of a payload that is no message's: the numbers of its header, as far as it is there, and the fields of
+/// the items before the fault.
+#[derive(Clone, Copy, Debug)]
+pub struct Faulty<'p> {
+    pub fault: Fault,
+    pub xid: i32,
+    pub operation: i32,
+    pub err: i32,
+    pub zxid: i64,
+    payload: &'p [u8],
+    fields: &'p [zk_field],
+}
+
+impl<'p> Faulty<'p> {
+    /// The fields before the fault, in order.
+    pub fn fields(&self) -> impl Iterator<Item = Field<'p>> + 'p {
+        let payload = self.payload;
+        self.fields
+            .iter()
+            .map(move |field| field_of(field, payload))
+    }
+}
+
 fn field_of<'p>(field: &zk_field, payload: &'p [u8]) -> Field<'p> {
     let (place, length) = (field.place as usize, field.length as usize);
     let content = payload.get(place..place + length).unwrap_or_default();
@@ -124,6 +229,8 @@ fn field_of<'p>(field: &zk_field, payload: &'p [u8]) -> Field<'p> {
 #[derive(Debug, Default)]
 pub struct Reader {
     room: Vec<zk_field>,
+    /// What was read last, if it was refused.
+    refused: Option<zk_read>,
 }
 
 impl Reader {
@@ -160,10 +267,11 @@ impl Reader {
     /// The reply to a request of this operation, for a multi of these parts.
     pub fn reply<'a>(
         &'a mut self,
-        operation: i32,
+        operation: impl Into<i32>,
         parts: &[i32],
         payload: &'a [u8],
     ) -> Result<Message<'a>, Fault> {
+        let operation = operation.into();
         self.read(payload, |out, room| unsafe {
             let (bytes, length) = (payload.as_ptr(), payload.len());
             zk_sys::zk_read_reply(
@@ -185,20 +293,43 @@ impl Reader {
         })
     }
 
+    /// What was read of the payload that was refused last, which is given again; `None` where the last one was a
+    /// message's.
+    pub fn faulty<'a>(&'a self, payload: &'a [u8]) -> Option<Faulty<'a>> {
+        let read = self.refused.as_ref()?;
+        let fields = self.room.get(..read.count as usize).unwrap_or_default();
+        let (status, place) = (read.status, read.place);
+        Some(Faulty {
+            fault: Fault {
+                status,
+                place,
+                at: None,
+            },
+            xid: read.xid,
+            operation: read.operation,
+            err: read.err,
+            zxid: read.zxid,
+            payload,
+            fields,
+        })
+    }
+
     /// Reads into the room, and once more if there are more fields.
     pub(crate) fn read<'a>(
         &'a mut self,
         payload: &'a [u8],
         mut call: impl FnMut(*mut zk_field, usize) -> zk_read,
     ) -> Result<Message<'a>, Fault> {
+        loaded();
         if self.room.is_empty() {
             self.room.resize(32, zk_field::default());
         }
         let mut read = call(self.room.as_mut_ptr(), self.room.len());
-        if read.status == ROOM {
+        if read.status == ROOM || read.count as usize > self.room.len() {
             self.room.resize(read.count as usize, zk_field::default());
             read = call(self.room.as_mut_ptr(), self.room.len());
         }
+        self.refused = (read.status != 0).then_some(read);
         well(read.status, read.place)?;
         Ok(Message::of(
             &read,

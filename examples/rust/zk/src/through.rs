@@ -1,11 +1,12 @@
 //! Passages: conversations that go on where their profile ends.
 
-use crate::held::{take, written, Limits, Make};
+use crate::held::{filled, shown, take, written, Limits, Make};
 use crate::message::{Message, Reader};
-use crate::{Ending, Fault, Side};
+use crate::{Ending, Fault, Operation, Side};
+use std::cell::UnsafeCell;
 use std::mem::swap;
 use std::ptr::null_mut;
-use zk_sys::{zk_passed, zk_through};
+use zk_sys::{zk_message, zk_passed, zk_through};
 
 const MESSAGE: u32 = 1;
 const ASKED: u32 = 2;
@@ -51,6 +52,11 @@ pub struct Unseen<'t> {
 }
 
 impl<'t> LeftOut<'t> {
+    /// The operation, if it is known here.
+    pub fn operation(&self) -> Option<Operation> {
+        Operation::of(self.operation)
+    }
+
     fn went(step: &zk_passed, payload: &'t [u8]) -> Went<'t> {
         let left = LeftOut {
             xid: step.xid,
@@ -74,7 +80,8 @@ impl<'t> LeftOut<'t> {
 /// A passage: a conversation as it comes, of which the requests whose operations the profile lacks are left out, and the
 /// replies to them. The limits are those of a talk.
 pub struct Through {
-    handle: zk_through,
+    /// Also calls that only look write there.
+    handle: UnsafeCell<zk_through>,
     /// What came of each side after its last whole frame.
     came: [Vec<u8>; 2],
     /// The frame that the last step completed, or the payload of the one that it left out.
@@ -98,32 +105,37 @@ impl Through {
 
     fn made(limits: Limits, make: Make<zk_through>) -> Result<Through, Fault> {
         let mut through = Through {
-            handle: zk_through {
+            handle: UnsafeCell::new(zk_through {
                 held: null_mut(),
                 live: false,
-            },
+            }),
             came: [Vec::new(), Vec::new()],
             newest: Vec::new(),
             reader: Reader::new(),
         };
         limits
-            .make(make, &mut through.handle)
+            .make(make, through.handle.get_mut())
             .map(|()| through)
     }
 
     /// Begins anew with the same limits, whatever came before: for one conversation after another.
     pub fn renew(&mut self) {
         // As for a talk.
-        unsafe { zk_sys::zk_through_renew(&mut self.handle) };
+        unsafe { zk_sys::zk_through_renew(self.handle.get()) };
         self.came.iter_mut().for_each(Vec::clear);
     }
 
     /// Writes the line of the side's newest message into `text`, in place of what is there. It has none if the side's
     /// newest frame is left out.
-    pub fn line(&mut self, side: Side, text: &mut Vec<u8>) -> Result<(), Fault> {
+    pub fn line(&self, side: Side, text: &mut Vec<u8>) -> Result<(), Fault> {
         written(text, |out, room| unsafe {
-            zk_sys::zk_through_line(&mut self.handle, side as u32, out, room)
+            zk_sys::zk_through_line(self.handle.get(), side as u32, out, room)
         })
+    }
+
+    /// That line, written into `text`.
+    pub fn line_str<'b>(&self, side: Side, text: &'b mut Vec<u8>) -> Result<&'b str, Fault> {
+        self.line(side, text).map(|()| shown(text))
     }
 
     /// Takes bytes of a side away from the front of `piece`, up to the end of the first frame. Returns what became of
@@ -139,14 +151,19 @@ impl Through {
             Side::Client => client,
             Side::Server => server,
         };
-        let side = side as u32;
-        let step = unsafe { zk_sys::zk_through_step(handle, side, piece.as_ptr(), piece.len()) };
+        let (handle, side) = (handle.get(), side as u32);
+        let (bytes, length) = (piece.as_ptr(), piece.len());
+        let step: zk_passed = filled(|out, size| unsafe {
+            zk_sys::zk_through_step_into(handle, side, bytes, length, out, size);
+        });
         came.extend_from_slice(take(piece, step.used, step.status, &step.fault)?);
         match step.went {
             MESSAGE => {
                 swap(came, newest);
                 came.clear();
-                let view = unsafe { zk_sys::zk_through_view(handle, side) };
+                let view: zk_message = filled(|out, size| unsafe {
+                    zk_sys::zk_through_view_into(handle, side, out, size);
+                });
                 let payload = newest.get(4..).unwrap_or_default();
                 let mut message = reader.read(payload, |out, room| unsafe {
                     zk_sys::zk_through_fields(handle, side, out, room)
@@ -168,13 +185,15 @@ impl Through {
     }
 
     /// How the conversation ends if nothing more comes, with all frames that came.
-    pub fn ending(&mut self) -> Ending {
-        Ending::of(&unsafe { zk_sys::zk_through_finish(&mut self.handle) })
+    pub fn ending(&self) -> Ending {
+        Ending::of(&filled(|out, size| unsafe {
+            zk_sys::zk_through_finish_into(self.handle.get(), out, size);
+        }))
     }
 }
 
 impl Drop for Through {
     fn drop(&mut self) {
-        unsafe { zk_sys::zk_through_free(&mut self.handle) }
+        unsafe { zk_sys::zk_through_free(self.handle.get()) }
     }
 }

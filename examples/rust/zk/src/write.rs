@@ -1,6 +1,6 @@
 //! Frames, written from values.
 
-use crate::{well, Fault, Value, ROOM};
+use crate::{loaded, well, Fault, Value, ROOM};
 use zk_sys::{zk_field, zk_written};
 
 const TOO_LONG: u32 = 83;
@@ -25,9 +25,10 @@ impl Writer {
     pub fn request<'v>(
         &mut self,
         xid: i32,
-        operation: i32,
+        operation: impl Into<i32>,
         values: impl IntoIterator<Item = Value<'v>>,
     ) -> Result<&[u8], Fault> {
+        let operation = operation.into();
         self.take(values)?;
         // Each pointer is a vector's, with its length.
         self.write(|fields, content, out| unsafe {
@@ -68,10 +69,11 @@ impl Writer {
         &mut self,
         xid: i32,
         zxid: i64,
-        err: i32,
-        operation: i32,
+        err: impl Into<i32>,
+        operation: impl Into<i32>,
         values: impl IntoIterator<Item = Value<'v>>,
     ) -> Result<&[u8], Fault> {
+        let (err, operation) = (err.into(), operation.into());
         self.take(values)?;
         self.write(|fields, content, out| unsafe {
             zk_sys::zk_write_reply(
@@ -177,6 +179,7 @@ impl Writer {
         &mut self,
         call: impl Fn(&[zk_field], &[u8], &mut [u8]) -> zk_written,
     ) -> Result<&[u8], Fault> {
+        loaded();
         let room = self.content.len() + 16 * self.fields.len() + 64;
         self.frame.resize(room, 0);
         let mut written = call(&self.fields, &self.content, &mut self.frame);

@@ -173,6 +173,46 @@ fn full() {
     );
 }
 
+/// A healthy conversation whose sides' messages come in one piece each: after each reply the client's bytes are given
+/// again.
+#[test]
+fn as_many_as_may_wait() {
+    for waiting in [1, 2, 65_536] {
+        let (mut through, mut found) = (passage(waiting), [Vec::new(), Vec::new()]);
+        let first = [&[0, 0, 0, 1], &EXISTS[4..]].concat();
+        let answer = [&[0, 0, 0, 1], &NO_NODE[4..]].concat();
+        let client = [&HELLO[..], &first, &EXISTS].map(frame).concat();
+        let server = [&WELCOME[..], &answer, &NO_NODE].map(frame).concat();
+        let (mut client, mut server) = (&client[..], &server[..]);
+        while !(client.is_empty() && server.is_empty()) {
+            let went = through.step(Side::Client, &mut client).expect("a step");
+            if !matches!(went, Went::Full | Went::Within) {
+                found[0].push(told(went));
+            } else {
+                let went = through.step(Side::Server, &mut server);
+                found[1].push(told(went.expect("a step")));
+            }
+        }
+        assert_eq!(through.ending(), Ending::Whole { unanswered: 0 });
+        assert_eq!(
+            found[0],
+            [
+                "message 0 0 45 frame 0 answers 0",
+                "message 1 3 15 frame 1 answers 0",
+                "message 2 3 15 frame 2 answers 0"
+            ]
+        );
+        assert_eq!(
+            found[1],
+            [
+                "message 0 0 37 frame 0 answers 0",
+                "message 1 3 16 frame 1 answers 1",
+                "message 2 3 16 frame 2 answers 2"
+            ]
+        );
+    }
+}
+
 #[test]
 fn endings() {
     let mut through = passage(65_536);
