@@ -25,9 +25,11 @@ def listings():
 
 
 def objects_of(path, profile):
-    """The messages of a recording, as zkjson has them."""
+    """The messages of a recording, as zkjson has them, which ends with status 1 where the recording is refused."""
     done = subprocess.run([TOP / "tools" / "zkjson.py", dict(listings_of(path))[profile]], capture_output=True,
-                          text=True, check=True)
+                          text=True, check=False)
+    if done.returncode not in (0, 1):
+        raise OSError(f"zkjson.py ended with status {done.returncode}: {done.stderr}")
     return [json.loads(line) for line in done.stdout.splitlines()][:-1]
 
 
