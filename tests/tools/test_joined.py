@@ -32,11 +32,11 @@ class Joined(ToolCase):
         for session, asked in ((SESSION, 2), ("0x7", None)):
             found = json.loads(self.said("zkstat.py", "--json", "--session", session, lines=lines))
             self.assertEqual([(each["asked"], each["answered"], each["failed"]) for each in found["connections"]],
-                             [(2, 1, 1)] if asked else [])
+                             [(2, 1, 0)] if asked else [])
             self.assertEqual(found["operations"].get("exists", {}).get("asked"), asked)
             self.assertEqual([each["n"] for each in found["unanswered"]], [5] if asked else [])
         found = self.said("zkreport.py", "--text", "--session", SESSION, lines=lines)
-        self.assertIn("1 connections, 1 sessions, 3 messages, 2 requests, 1 failed, 1 unanswered, 0 events\n", found)
+        self.assertIn("1 connections, 1 sessions, 3 messages, 2 requests, 0 failed, 1 unanswered, 0 events\n", found)
         self.assertIn('        5  exists     "/b"\n', found)
 
     def test_connections_of_a_session_are_in_order(self):

@@ -138,7 +138,7 @@ class Reading(ReadingCase):
 
     def test_operations_of_no_profile(self):
         """However the pieces are cut: with their latencies, errors and xids."""
-        wanted = {"connect": (1, 1, 0), "createTTL": (1, 1, 1), str(NUMBER): (1, 1, 1), "exists": (1, 1, 1),
+        wanted = {"connect": (1, 1, 0), "createTTL": (1, 1, 1), str(NUMBER): (1, 1, 1), "exists": (1, 1, 0),
                   "setWatches2": (1, 1, 0), "-77": (1, 1, 0), "whoAmI": (1, 0, 0)}
         for cut in (None, 1, 7):
             path = self.write(recording(NEWER, ">cqI", zkr2(), cut), f"{cut}.zkr")
@@ -257,7 +257,7 @@ class Reading(ReadingCase):
         for made in (recording(large), recording(large, ">cqI", zkr2(35)), recording(large, ">cqI", zkr2(34, 64, 3))):
             path = self.write(made)
             wanted = reckoned.Reckoned(made)
-            self.assertEqual(wanted.counts(), {"connect": (1, 1, 0), "setData": (1, 1, 1), "exists": (99, 99, 99)})
+            self.assertEqual(wanted.counts(), {"connect": (1, 1, 0), "setData": (1, 1, 1), "exists": (99, 99, 0)})
             self.assert_counted(path, wanted)
             self.assertEqual(self.each_way("zkfleet.py", "check", path)[0], 0)
             limited = reckoned.Reckoned(made, 2)
