@@ -230,7 +230,8 @@ class Zkplay(ToolCase):
         player, address = self.play(RUN, "--delay", "0.3")
         words = argparse.Namespace(client=True, connections=2, wait=SECONDS, record=None, delay=0, flip=(), cut_at=None,
                                    reset_at=None)
-        with contextlib.redirect_stdout(io.StringIO()) as out, contextlib.redirect_stderr(io.StringIO()) as err:
+        with contextlib.redirect_stdout(io.StringIO()) as out, contextlib.redirect_stderr(io.StringIO()) as err, \
+                unittest.mock.patch.object(sys, "argv", ["zkplay.py"]):
             status = zkplay.Bench([(RUN, lambda: open(RUN, "rb"))], words).run(connections())
         self.assertEqual((status, out.getvalue(), err.getvalue()),
                          (3, "#1 played: 68 bytes of the client, 61 of the server\n",

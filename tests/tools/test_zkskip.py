@@ -153,7 +153,8 @@ class Zkskip(ToolCase):
     def test_every_capture(self):
         left_out = {"refused_go_auth_under_an_ordinary_xid": (1, 1), "refused_java_ttl_node": (2, 2),
                     "refused_kazoo_create2": (35, 35), "java_create2": (5, 5),
-                    "kazoo_create2_and_others": (11, 11)}
+                    "kazoo_create2_and_others": (11, 11), "curator_service": (17, 17),
+                    "java_containers_and_ttl": (8, 8)}
         for capture in CAPTURES:
             data = capture.read_bytes()
             found, lines = self.skip(data)
