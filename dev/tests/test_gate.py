@@ -147,7 +147,7 @@ class Whole(ToolCase):
         self.assertEqual(self.whole(), (0, self.git("rev-parse", "HEAD")))
         toolchain = self.told.index("== toolchain: kit 1")
         self.assertEqual(self.told[toolchain + 1:toolchain + 4], ["== left out: 1201 checks", *lines])
-        self.assertEqual(len(self.told) - toolchain, 8)     # with those of the step that has the commit
+        self.assertEqual(len(self.told) - toolchain, 9)     # with those of the step that has the commit
         (self.folder / "tests" / "wireshark" / "__main__.py").write_text(f"print('{nothing}')\n")
         self.git("commit", "--quiet", "--all", "--message=nothing")
         self.assertEqual(self.whole(), (1, None))
