@@ -205,7 +205,7 @@ class Odd:
         pieces += [piece(zkr.SERVER, f"{xid:08x} 0000000000000005 fffffffa") for xid in (1, 2, 3)]
         times = self.plugin.read(capture_of([*HEADS, *pieces]), "-q", "-z", "zookeeper,srt")
         found = re.findall(r"^ +-?\d+ +(\w+) +(\d+) .* ([\d.]+)$", times, re.M)
-        yield found == [("exists", "1", "0.003000"), ("others", "2", "0.006000")], f"{found}"
+        yield found == [("connect", "1", "0.001000"), ("exists", "1", "0.003000"), ("others", "2", "0.006000")], f"{found}"
 
     def test_a_frame_far_in_a_segment(self):
         """After a loss, a frame is found that begins at byte 1,156 of a segment of 1,448 and goes on in the next ones.
