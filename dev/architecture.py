@@ -7,6 +7,10 @@ the other src/*.rt, or the comment that a file of specs/ begins with. What a cra
 written between two marks of the page. With --check nothing is written, and it fails where the page isn't current,
 where a file has no such comment, or where crates.txt lacks a crate.
 
+A library's lib.rt shows an example, a block of code in its comment. Its lines have to be lines, one after another, of a
+test or a program: of a file examples.rt of the crates of tests, or of examples/*.c. How far they are indented makes no
+difference.
+
 The status is 0 if the page is current or was written, 1 if something is wrong, 2 for invalid arguments.
 """
 
@@ -18,6 +22,8 @@ TOP = pathlib.Path(__file__).resolve().parent.parent
 BEGIN, END = "<!-- The lines from here on are written by dev/architecture.py. -->", "<!-- Up to here. -->"
 HEAD = {".rt": r"(?://!(?: .*)?\n)+", ".antt": r"(?:-- .*\n)+"}
 ROOTS = ("lib.rt", "main.rt")
+EXAMPLE = re.compile(r"^//! ```\w*\n(.*?)^//! ```$", re.M | re.S)
+RUN = ("crates/*_tests/src/tests/examples.rt", "examples/*.c")
 
 
 def crates():
@@ -64,6 +70,29 @@ def crate_table():
     return "\n".join(["| Crate | What it has | Uses |", "|---|---|---|", *rows])
 
 
+def lines(text):
+    """The lines of code, without the blanks on their left."""
+    return [line.strip() for line in text.splitlines() if line.strip()]
+
+
+def are_in(wanted, found):
+    return wanted != [] and any(found[at:at + len(wanted)] == wanted for at in range(len(found)))
+
+
+def examples():
+    """What is wrong with the examples of the libraries' own pages."""
+    run = [lines(path.read_text()) for pattern in RUN for path in sorted(TOP.glob(pattern))]
+    for crate, _ in crates():
+        if root(crate).name != ROOTS[0] or crate.endswith("_tests"):
+            continue
+        where, shown = root(crate).relative_to(TOP), EXAMPLE.findall(root(crate).read_text())
+        if not shown:
+            yield f"{where} shows no example"
+        for example in (lines(re.sub("^//!", "", each, flags=re.M)) for each in shown):
+            if not any(are_in(example, found) for found in run):
+                yield f"{where}: no test has the lines of its example: {example[0] if example else 'there are none'}"
+
+
 PAGE = TOP / "docs" / "ARCHITECTURE.md"
 
 
@@ -75,6 +104,7 @@ def main():
     wrong = [f"{path.relative_to(TOP)} doesn't say what it has" for path in every if not head(path)]
     wrong += [f"crates/{name} is not in crates.txt" for name in sorted(
         {path.parent.name for path in TOP.glob("crates/*/src")} - {crate for crate, _ in crates()})]
+    wrong += examples()
     page = PAGE.read_text()
     before, _, rest = page.partition(BEGIN)
     current = f"{before}{BEGIN}\n\n{layers()}\n\n{crate_table()}\n\n{END}{rest.partition(END)[2]}"

@@ -28,8 +28,9 @@ LINES = {"int": "num", "long": "num", "bool": "bit", "texts": "list of text", "a
 SIZES = {"int": 4, "long": 8, "bool": 1}
 # Items of more than a kind: numbers that may have a name, and a bit that may be absent.
 ITEMS = {"kcode": "num", "ecode": "num", "ro": "bit"}
-# The enumerations of the package for Python: how each name begins in the header.
+# The enumerations of the package for Python: how each name begins in the header; and what the package alone has.
 ENUMERATIONS = {"Side": "ZK_", "Profile": "ZK_PROFILE_", "Kind": "ZK_", "FieldKind": "ZK_KIND_", "Went": "ZK_"}
+OF_PYTHON = ("Went", "PASSED_OVER")
 CONSTANTS = ("bench/make_recording.py", "wireshark/message.h", "examples/server.c")
 
 
@@ -227,7 +228,8 @@ def compare_enumerations():
     for path in sorted((TOP / "examples" / "python" / "libzk").glob("*.py")):
         text = path.read_text()
         for each in re.finditer(r"^class (\w+)\(enum.IntEnum\):\n(?:^(?:    .*)?\n)*", text, re.M):
-            rows = dict(re.findall(r"^    V?(\w+) = (\S+)", each[0], re.M))
+            rows = {name: number for name, number in re.findall(r"^    V?(\w+) = (\S+)", each[0], re.M)
+                    if (each[1], name) != OF_PYTHON}
             found[each[1]] = f"{path.relative_to(TOP)}:{text.count(chr(10), 0, each.start()) + 1}", rows
     for kind, begin in ENUMERATIONS.items():
         where, rows = found.get(kind, ("examples/python/libzk", {}))

@@ -114,7 +114,7 @@ def source_modules():
     """The files of the folders src/: their types and traits, with the views that contracts see."""
     found = {}
     for path in sorted(TOP.glob("crates/*/src/**/*.rt")):
-        crate = path.parts[path.parts.index("crates") + 1]
+        crate = path.relative_to(TOP).parts[1]
         text = re.sub(r"//.*", "", path.read_text())
         module = Module(path, dict(imports(text, "ghost use")))
         for use in re.finditer(r"^use (crate|zk\w*)(?:::(\w+))?::(?:\{(.*?)\}|(\w+));", text, re.M | re.S):

@@ -109,7 +109,7 @@ def profiles():
 
 def xids():
     """By variant, the rule of its xids; by "", that of all others."""
-    return some(re.findall(r"(?:Op::(\w+)|_) => (xid .*?),$", body(text_of("zk_asks", "codes"), "fn allowed"), re.M),
+    return some(re.findall(r"(?:Op::(\w+)|_) => (xid .*?),$", body(text_of("zk_asks", "allowed_xids"), "fn allowed"), re.M),
                 "rules of xids")
 
 

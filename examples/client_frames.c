@@ -3,7 +3,8 @@
  *     client_frames
  *
  * Prints a line for each message: what the client says, and what a server would send. The status is 0 if all may be
- * said, nothing waits at the end, a request with the xid of an event is refused, and all is written. */
+ * said but a request with the xid of an event, which is refused and not sent, nothing waits at the end, and all is
+ * written. */
 #include "zk.h"
 
 #include <inttypes.h>
@@ -19,10 +20,9 @@ static const uint8_t welcome[40] = {0, 0, 0, 36, 0, 0, 0, 0, 0, 0, 0x75, 0x30, 0
 static const uint8_t no_node[] = {0, 0, 0, 16, 0, 0, 0, 1, 0, 0, 0, 0, 0, 0, 0, 5, 0xff, 0xff, 0xff, 0x9b};
 static const uint8_t created[] = {0, 0, 0, 22, 0, 0, 0, 2, 0, 0, 0, 0, 0, 0, 0, 6, 0, 0, 0, 0, 0, 0, 0, 2, '/', 'a'};
 
-/* Gives a side's bytes to the talk, and prints the line of the message that they complete. */
-static uint32_t give(struct zk_talk *talk, uint32_t side, const uint8_t *bytes, size_t length) {
+/* Prints the line of the message that the side's step or offer completed, or why it was refused. */
+static uint32_t show(struct zk_talk *talk, uint32_t side, struct zk_step step) {
     uint8_t text[ROOM];
-    struct zk_step step = zk_talk_step(talk, side, bytes, length);
     if (step.status != ZK_WELL) {
         printf("refused: %s at byte %" PRIu32 " of the payload\n", zk_status_name(step.status), step.fault.place);
         return step.status;
@@ -32,10 +32,15 @@ static uint32_t give(struct zk_talk *talk, uint32_t side, const uint8_t *bytes, 
     return line.status;
 }
 
-/* Says what was written: it is sent if the talk takes it. */
+/* Gives the server's bytes to the talk. */
+static uint32_t hear(struct zk_talk *talk, const uint8_t *bytes, size_t length) {
+    return show(talk, ZK_SERVER, zk_talk_step(talk, ZK_SERVER, bytes, length));
+}
+
+/* Says what was written: it is sent if the talk takes it. What is refused isn't, and the talk goes on. */
 static uint32_t say(struct zk_talk *talk, struct zk_written written, const uint8_t *frame) {
     if (written.status != ZK_WELL) return written.status;
-    return give(talk, ZK_CLIENT, frame, written.length);
+    return show(talk, ZK_CLIENT, zk_talk_offer(talk, ZK_CLIENT, frame, written.length));
 }
 
 /* The frame of an exists of /a, with a watch. */
@@ -62,11 +67,13 @@ int main(void) {
     zk_add_number(&hello, ZK_KIND_LONG, 0);    /* no earlier session */
     zk_add_bytes(&hello, ZK_KIND_BLOB, password, sizeof password);
     uint32_t first = say(&talk, zk_write_first(fields, hello.count, content, hello.length, frame, sizeof frame), frame);
-    first = first != ZK_WELL ? first : give(&talk, ZK_SERVER, welcome, sizeof welcome);
+    first = first != ZK_WELL ? first : hear(&talk, welcome, sizeof welcome);
 
     /* One request may wait: the second is taken, since the reply to the first has come. */
     uint32_t second = say(&talk, written_exists(1, frame, sizeof frame), frame);
-    second = second != ZK_WELL ? second : give(&talk, ZK_SERVER, no_node, sizeof no_node);
+    second = second != ZK_WELL ? second : hear(&talk, no_node, sizeof no_node);
+
+    uint32_t refused = say(&talk, written_exists(-1, frame, sizeof frame), frame);
 
     struct zk_builder create = zk_build(fields, ROOM, content, sizeof content);
     zk_add_text(&create, "/a");
@@ -76,10 +83,9 @@ int main(void) {
     zk_add_number(&create, ZK_KIND_INT, ZK_CREATE_PERSISTENT);
     uint32_t third = say(&talk, zk_write_request(2, ZK_OP_CREATE, fields, create.count, content, create.length, frame,
                                                  sizeof frame), frame);
-    third = third != ZK_WELL ? third : give(&talk, ZK_SERVER, created, sizeof created);
+    third = third != ZK_WELL ? third : hear(&talk, created, sizeof created);
 
     struct zk_ending ending = zk_talk_finish(&talk);
-    uint32_t refused = say(&talk, written_exists(-1, frame, sizeof frame), frame);
     zk_talk_free(&talk);
     if (ferror(stdout) || fflush(stdout) != 0) {
         fputs("client_frames: standard output can't be written\n", stderr);

@@ -5,8 +5,9 @@
  *
  * It passes over the recording's first COUNT pieces; the next of each side has to begin with a frame. Replies to requests
  * in what it passed over have their xid, zxid and err; requests whose operation the profile lacks, and their replies, xid
- * and operation. The recording has the format ZKR1 (docs/FORMATS.md, section 12). The status is 0 if it was read to its
- * end, or up to a refusal, and all is written; else 2. */
+ * and operation. A frame that is refused is passed over, with a line. The recording
+ * has the format ZKR1 (docs/FORMATS.md, section 12). The status is 0 if it was read to its end, or up to a length that
+ * no frame has, and all is written; else 2. */
 #include "zk.h"
 
 #include <ctype.h>
@@ -39,12 +40,40 @@ static void put_message(struct zk_through *through, uint32_t side) {
     free(text);
 }
 
-/* Prints what these bytes of a side complete. False at a fault. */
+/* What each side has begun of a frame. */
+enum { LIMIT = 4194304 };
+static uint8_t begun[2][4 + LIMIT];
+static size_t held[2];
+
+static void keep(uint32_t side, struct zk_passed step, const uint8_t *bytes) {
+    if (step.went == ZK_WITHIN) memcpy(begun[side] + held[side], bytes, step.used);
+    held[side] = step.went == ZK_WITHIN ? held[side] + step.used : 0;
+}
+
+/* Goes on after a refused frame of the side, and gives again what the other one has begun. How many bytes of the piece
+ * the refused frame has; 0 if it has no end. */
+static size_t go_on(struct zk_through *through, uint32_t side, struct zk_fault fault) {
+    struct zk_step resumed = zk_through_resume(through);
+    if (resumed.status != ZK_WELL) return 0;
+    printf("%c refused %s at %" PRIu32 ", passed over\n", "CS"[side], zk_status_name(fault.reason), fault.place);
+    held[side] = 0;
+    zk_through_step(through, !side, begun[!side], held[!side]);
+    return resumed.used;
+}
+
+/* Prints what these bytes of a side complete. False at a fault that stays. */
 static bool put_frames(struct zk_through *through, uint32_t side, const uint8_t *bytes, size_t length) {
     while (length > 0) {
         struct zk_passed step = zk_through_step(through, side, bytes, length);
-        if (step.status != ZK_WELL) return false;
+        if (step.status != ZK_WELL) {
+            size_t used = go_on(through, side, step.fault);
+            if (used == 0) return false;
+            bytes += used;
+            length -= used;
+            continue;
+        }
         if (step.went == ZK_FULL) fail("more requests wait than may");
+        keep(side, step, bytes);
         if (step.went == ZK_MESSAGE) put_message(through, side);
         else if (step.went == ZK_UNSEEN)
             printf("S %" PRId32 " zxid=%" PRId64 " err=%" PRId32 ", not seen asked\n", step.xid, step.zxid, step.err);
@@ -93,7 +122,7 @@ int main(int count, char **words) {
         return 2;
     }
     struct zk_through through = ZK_ZEROS;
-    uint32_t status = zk_talk_join(&through, 4194304, 4194304, 65536, ZK_PROFILE_35);
+    uint32_t status = zk_through_join(&through, LIMIT, LIMIT, 65536, ZK_PROFILE_35);
     if (status != ZK_WELL) fail(zk_status_name(status));
     list(&through, recording, first);
     put_ending(&through);

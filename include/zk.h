@@ -65,7 +65,7 @@ enum {
     ZK_STREAM_END = 15,
     ZK_EMPTY = 65,     /* the handle holds nothing */
     ZK_IN_USE = 66,    /* the handle holds something already */
-    ZK_RANGE = 67,     /* a limit, a profile, a side or a length is out of its range */
+    ZK_RANGE = 67,     /* a limit, a profile, a side or a length is out of its range; or what is offered isn't one frame */
     ZK_ROOM = 68,      /* the text is longer than the room */
     ZK_NO_MESSAGE = 69, /* no frame is kept on the side */
     ZK_NULL = 70,      /* a pointer is null */
@@ -112,7 +112,7 @@ struct zk_fault {
 };
 
 /* What a step returns: the bytes used of the piece, and whether the last of them completed a frame. Of a step that is
- * refused, none are used. */
+ * refused, none are used; zk_through_resume returns how many of them are the refused frame's. */
 struct zk_step {
     size_t used;
     uint32_t status;
@@ -127,12 +127,12 @@ enum {
     ZK_ASKED = 2,    /* a request is whole whose operation the profile lacks: it is left out */
     ZK_ANSWERED = 3, /* the reply to such a request is whole: it is left out */
     ZK_FULL = 4,     /* with the client's frame more would wait than may: nothing of its piece was used */
-    ZK_UNSEEN = 5    /* a reply to a request that wasn't seen is whole: it is left out (zk_talk_join) */
+    ZK_UNSEEN = 5    /* a reply to a request that wasn't seen is whole: it is left out (zk_through_join) */
 };
 
-/* What a passage's step returns: the bytes used of the piece, none of a refused one, and what became of them. xid, operation and frame are those
- * of the request of ZK_ASKED and ZK_ANSWERED: frame is the number of the client's frame, from 0. xid, zxid and err are the
- * header's of ZK_UNSEEN. Else they are 0. */
+/* What a passage's step, or an offer, returns: the bytes used of the piece, none of a refused one, and what became of them. xid,
+ * operation and frame are those of the request of ZK_ASKED and ZK_ANSWERED: frame is the number of the client's frame,
+ * from 0. xid, zxid and err are the header's of ZK_UNSEEN. Else they are 0. */
 struct zk_passed {
     size_t used;
     uint32_t status;
@@ -384,7 +384,13 @@ struct zk_step zk_talk_step(struct zk_talk *talk, uint32_t side, const uint8_t *
  * first look at it is undecided. */
 struct zk_step zk_talk_pass(struct zk_talk *talk, uint32_t side, const uint8_t *piece, size_t length);
 
-/* The message whose frame the side keeps: the one that its last step completed. */
+/* Offers the side's next frame, whole, its length included. It is taken if it may come next, as a step would take it
+ * (ZK_WELL, whole, and all bytes used), and kept. Else nothing changes, and another may be offered: the status is the reason
+ * with which a step would refuse it, and fault says where. ZK_RANGE, and nothing is judged, if the bytes aren't just one
+ * frame, or if the side has begun another. It never allocates. */
+struct zk_step zk_talk_offer(struct zk_talk *talk, uint32_t side, const uint8_t *frame, size_t length);
+
+/* The message whose frame the side keeps: the one that its last step, or an offer since, completed. */
 struct zk_message zk_talk_view(struct zk_talk *talk, uint32_t side);
 
 /* Writes that message's line (docs/FORMATS.md, section 9), without line feed. */
@@ -412,10 +418,11 @@ struct zk_line zk_talk_ending_line(struct zk_talk *talk, uint8_t *out, size_t ro
 void zk_talk_free(struct zk_talk *talk);
 
 /* Makes a passage: a talk that goes on where the profile ends. The numbers are those of zk_talk_new. What is judged is the
- * conversation without the requests whose operations the profile lacks, and without the replies to them. Requests under
- * the xids of pings, auths and events are never left out. It holds twice the memory of a talk, and the requests that
- * wait. All else that a talk refuses is refused by a passage, too: an auth under an ordinary xid, as the client in Go sends
- * it, a text that isn't UTF-8, and words of four letters, such as `ruok`. */
+ * conversation without the requests whose operations the profile lacks, without multis with a part create2, createContainer
+ * or createTTL after good parts, and without the replies to them. Requests under the xids of pings, auths and events are
+ * never left out. It holds twice the memory of a talk, and the requests that wait. All else that a talk refuses is refused
+ * by a passage, too: an auth under an ordinary xid, as the client in Go sends it, a text that isn't UTF-8, and words of four
+ * letters, such as `ruok`. */
 uint32_t zk_through_new(struct zk_through *through, uint32_t client, uint32_t server, uint32_t waiting, uint32_t profile);
 
 /* Makes a passage of a connection that is seen late, for who attaches to one in the middle: as zk_through_new, but a connect
@@ -427,7 +434,7 @@ uint32_t zk_through_new(struct zk_through *through, uint32_t client, uint32_t se
  * then on another xid than that of the oldest that waits is ZK_XID_ORDER, and a reply where none waits ZK_UNASKED, as ever.
  * Before, ZK_XID_ORDER is a reply to a request that was seen, but isn't the oldest. Pings (-2) have one xid, and so have
  * auths (-4) and setWatches (-8): a reply of theirs is ZK_UNSEEN where none of theirs waits. */
-uint32_t zk_talk_join(struct zk_through *through, uint32_t client, uint32_t server, uint32_t waiting, uint32_t profile);
+uint32_t zk_through_join(struct zk_through *through, uint32_t client, uint32_t server, uint32_t waiting, uint32_t profile);
 
 /* Begins anew with the same limits, as zk_through_new makes it; it never allocates. Returns ZK_WELL or ZK_EMPTY. */
 uint32_t zk_through_renew(struct zk_through *through);
@@ -438,8 +445,30 @@ uint32_t zk_through_renew(struct zk_through *through);
  * frame alone weighs more than may wait. */
 struct zk_passed zk_through_step(struct zk_through *through, uint32_t side, const uint8_t *piece, size_t length);
 
+/* The same, and the side shows no message and keeps no payload then: for who needs neither. */
+struct zk_passed zk_through_pass(struct zk_through *through, uint32_t side, const uint8_t *piece, size_t length);
+
+/* Offers the side's next frame, whole, its length included. It is taken if it may come next, as zk_through_step would take
+ * it: all bytes are used, and what became of them is ZK_MESSAGE, ZK_ASKED, ZK_ANSWERED or ZK_UNSEEN. Else nothing changes,
+ * also what the side shows, and another may be offered. The status is the reason with which a step would refuse it, and fault
+ * says where. Or it is ZK_WELL with ZK_FULL: with the client's frame more would wait than may, and after the next reply it
+ * may be offered again. ZK_RANGE, and nothing is judged, if the bytes aren't just one frame, or if the side has begun
+ * another. It never allocates. */
+struct zk_passed zk_through_offer(struct zk_through *through, uint32_t side, const uint8_t *frame, size_t length);
+
+/* Goes on after a refusal, from the end of the refused frame on, as a connection that is seen late: as zk_through_join, with
+ * the passage's own limits and memory. It never allocates. `used` is how many bytes of the refused piece the refused frame
+ * has: give those after them next. Each side begins anew at the beginning of a frame. So what the other side had begun of
+ * one, as many bytes as zk_through_held returned before this call, is to be given again, from its beginning on. Frame 0 of
+ * each side and its first 32 and 24 bytes are those that nobody sent, no request waits, and a reply to a request before the
+ * end of the refused frame is ZK_UNSEEN. After a refused connect request its answer is taken for a reply.
+ *
+ * The status is the fault's reason, with the fault, where the refused frame has no end: ZK_LENGTH_RANGE and ZK_STREAM_END.
+ * Then nothing is changed. Where nothing is refused nothing is changed either: ZK_WELL, with 0 used. */
+struct zk_step zk_through_resume(struct zk_through *through);
+
 /* The message of the side's newest whole frame, also while bytes of the next one come; ZK_NO_MESSAGE if that was left
- * out. */
+ * out, or if the side's last step was refused. A step of no bytes keeps it. */
 struct zk_message zk_through_view(struct zk_through *through, uint32_t side);
 
 /* Writes that message's line, as zk_talk_line. */
@@ -448,12 +477,23 @@ struct zk_line zk_through_line(struct zk_through *through, uint32_t side, uint8_
 /* The fields of that message, as zk_talk_fields writes them. */
 struct zk_read zk_through_fields(struct zk_through *through, uint32_t side, struct zk_field *out, size_t room);
 
-/* Writes the payload of the frame that the side's last step left out, also of ZK_UNSEEN; ZK_NO_MESSAGE if it left none out. */
+/* Writes the payload of the frame that the side's last step left out, also of ZK_UNSEEN; else that of the message which
+ * zk_through_view returns, as zk_talk_payload does. ZK_NO_MESSAGE if there is neither. */
 struct zk_line zk_through_payload(struct zk_through *through, uint32_t side, uint8_t *out, size_t room);
+
+/* How many requests wait for their replies, also those left out, which weigh 1 each; after a fault, those before the refused
+ * frame. */
+struct zk_waiting zk_through_waiting(struct zk_through *through);
+
+/* How many bytes the side has sent of a frame that isn't whole, or is refused. */
+struct zk_held zk_through_held(struct zk_through *through, uint32_t side);
 
 /* How the conversation ends if nothing more comes. Frames that are left out count: as unanswered, a request without its
  * reply; as cut, a frame that isn't whole. */
 struct zk_ending zk_through_finish(struct zk_through *through);
+
+/* Writes the line of that ending, as zk_talk_ending_line. */
+struct zk_line zk_through_ending_line(struct zk_through *through, uint8_t *out, size_t room);
 
 /* Frees the passage; the handle is then empty. */
 void zk_through_free(struct zk_through *through);
@@ -467,8 +507,8 @@ uint32_t zk_speaker_renew(struct zk_speaker *speaker);
 /* Says the message of a line, without line feed, if it may come next; its frame is kept until the next call that says. */
 struct zk_say zk_speaker_say(struct zk_speaker *speaker, const uint8_t *line, size_t length);
 
-/* The same for the side's message of which the bytes are the payload. What a talk would find in the payload is returned
- * with its place; ZK_TOO_LONG, ZK_QUEUE_FULL and ZK_NO_MEMORY as for the message's line. Only the frame is allocated. */
+/* The same for the side's message of which the bytes are the payload. The payload's own fault is returned with its place,
+ * however long it is; ZK_TOO_LONG, ZK_QUEUE_FULL and ZK_NO_MEMORY as for the message's line. Only the frame is allocated. */
 struct zk_payload zk_speaker_say_payload(struct zk_speaker *speaker, uint32_t side, const uint8_t *bytes, size_t length);
 
 /* Writes that frame; no bytes where none is kept. */
@@ -517,9 +557,10 @@ struct zk_read zk_read_event(const uint8_t *payload, size_t length, struct zk_fi
  * the fields that were read of a payload, and that payload as content, its frame is written again. Nothing is allocated,
  * and where the status isn't ZK_WELL the room is unchanged; it doesn't overlap the content.
  *
- * Whether a frame may come next is judged by a talk: give it to zk_talk_step as the client's bytes, send it if the step
- * is ZK_WELL, and give the talk all that the server sends. So one talk judges both sides, gives each reply its
- * request's operation, and its queue empties as replies come. examples/client_frames.c does this. */
+ * Whether a frame may come next is judged by a talk: give it to zk_talk_offer as the client's, send it if that is ZK_WELL,
+ * and give the talk all that the server sends by zk_talk_step. A frame that is refused isn't sent, and the talk goes on as
+ * if it had never been (a passage, by zk_through_offer, also where operations are asked that the profile lacks). So one talk judges both sides, gives each reply its request's operation, and its queue empties as
+ * replies come. examples/client_frames.c does this. */
 struct zk_written zk_write_request(int32_t xid, int32_t operation, const struct zk_field *fields, size_t count, const uint8_t *content, size_t length, uint8_t *out, size_t room);
 
 /* The same for a connect request, which has no header. */
@@ -553,6 +594,8 @@ struct zk_line zk_listing(const struct zk_piece *pieces, size_t count, const uin
 void zk_talk_view_into(struct zk_talk *talk, uint32_t side, struct zk_message *out, size_t size);
 void zk_talk_finish_into(struct zk_talk *talk, struct zk_ending *out, size_t size);
 void zk_through_step_into(struct zk_through *through, uint32_t side, const uint8_t *piece, size_t length, struct zk_passed *out, size_t size);
+void zk_through_pass_into(struct zk_through *through, uint32_t side, const uint8_t *piece, size_t length, struct zk_passed *out, size_t size);
+void zk_through_offer_into(struct zk_through *through, uint32_t side, const uint8_t *frame, size_t length, struct zk_passed *out, size_t size);
 void zk_through_view_into(struct zk_through *through, uint32_t side, struct zk_message *out, size_t size);
 void zk_through_finish_into(struct zk_through *through, struct zk_ending *out, size_t size);
 #else /* the proved library alone, which returns them: for measurements */
@@ -567,6 +610,14 @@ static inline void zk_talk_finish_into(struct zk_talk *talk, struct zk_ending *o
 static inline void zk_through_step_into(struct zk_through *through, uint32_t side, const uint8_t *piece, size_t length, struct zk_passed *out, size_t size) {
     (void)size;
     *out = zk_through_step(through, side, piece, length);
+}
+static inline void zk_through_pass_into(struct zk_through *through, uint32_t side, const uint8_t *piece, size_t length, struct zk_passed *out, size_t size) {
+    (void)size;
+    *out = zk_through_pass(through, side, piece, length);
+}
+static inline void zk_through_offer_into(struct zk_through *through, uint32_t side, const uint8_t *frame, size_t length, struct zk_passed *out, size_t size) {
+    (void)size;
+    *out = zk_through_offer(through, side, frame, length);
 }
 static inline void zk_through_view_into(struct zk_through *through, uint32_t side, struct zk_message *out, size_t size) {
     (void)size;
@@ -938,6 +989,12 @@ static inline struct zk_step zk_safe_talk_pass(struct zk_talk *talk, uint32_t si
     return answer.status != ZK_WELL ? answer : zk_talk_pass(talk, side, (const uint8_t *)zk_from(piece), length);
 }
 
+static inline struct zk_step zk_safe_talk_offer(struct zk_talk *talk, uint32_t side, const uint8_t *frame, size_t length) {
+    struct zk_step answer = ZK_ZEROS;
+    answer.status = zk_first_of(zk_fault_at(talk, 1, sizeof *talk), zk_fault_of(frame, length, sizeof *frame));
+    return answer.status != ZK_WELL ? answer : zk_talk_offer(talk, side, (const uint8_t *)zk_from(frame), length);
+}
+
 static inline struct zk_message zk_safe_talk_view(struct zk_talk *talk, uint32_t side) {
     struct zk_message answer = ZK_ZEROS;
     answer.status = zk_fault_at(talk, 1, sizeof *talk);
@@ -1003,9 +1060,9 @@ static inline uint32_t zk_safe_through_new(struct zk_through *through, uint32_t 
     return fault != ZK_WELL ? fault : zk_through_new(through, client, server, waiting, profile);
 }
 
-static inline uint32_t zk_safe_talk_join(struct zk_through *through, uint32_t client, uint32_t server, uint32_t waiting, uint32_t profile) {
+static inline uint32_t zk_safe_through_join(struct zk_through *through, uint32_t client, uint32_t server, uint32_t waiting, uint32_t profile) {
     uint32_t fault = zk_fault_at(through, 1, sizeof *through);
-    return fault != ZK_WELL ? fault : zk_talk_join(through, client, server, waiting, profile);
+    return fault != ZK_WELL ? fault : zk_through_join(through, client, server, waiting, profile);
 }
 
 static inline uint32_t zk_safe_through_renew(struct zk_through *through) {
@@ -1020,6 +1077,30 @@ static inline struct zk_passed zk_safe_through_step(struct zk_through *through, 
         zk_through_step_into(through, side, (const uint8_t *)zk_from(piece), length, &answer, sizeof answer);
     }
     return answer;
+}
+
+static inline struct zk_passed zk_safe_through_pass(struct zk_through *through, uint32_t side, const uint8_t *piece, size_t length) {
+    struct zk_passed answer = ZK_ZEROS;
+    answer.status = zk_first_of(zk_fault_at(through, 1, sizeof *through), zk_fault_of(piece, length, sizeof *piece));
+    if (answer.status == ZK_WELL) {
+        zk_through_pass_into(through, side, (const uint8_t *)zk_from(piece), length, &answer, sizeof answer);
+    }
+    return answer;
+}
+
+static inline struct zk_passed zk_safe_through_offer(struct zk_through *through, uint32_t side, const uint8_t *frame, size_t length) {
+    struct zk_passed answer = ZK_ZEROS;
+    answer.status = zk_first_of(zk_fault_at(through, 1, sizeof *through), zk_fault_of(frame, length, sizeof *frame));
+    if (answer.status == ZK_WELL) {
+        zk_through_offer_into(through, side, (const uint8_t *)zk_from(frame), length, &answer, sizeof answer);
+    }
+    return answer;
+}
+
+static inline struct zk_step zk_safe_through_resume(struct zk_through *through) {
+    struct zk_step answer = ZK_ZEROS;
+    answer.status = zk_fault_at(through, 1, sizeof *through);
+    return answer.status != ZK_WELL ? answer : zk_through_resume(through);
 }
 
 static inline struct zk_message zk_safe_through_view(struct zk_through *through, uint32_t side) {
@@ -1049,6 +1130,18 @@ static inline struct zk_line zk_safe_through_payload(struct zk_through *through,
     return answer.status != ZK_WELL ? answer : zk_through_payload(through, side, (uint8_t *)zk_into(out), room);
 }
 
+static inline struct zk_waiting zk_safe_through_waiting(struct zk_through *through) {
+    struct zk_waiting answer = ZK_ZEROS;
+    answer.status = zk_fault_at(through, 1, sizeof *through);
+    return answer.status != ZK_WELL ? answer : zk_through_waiting(through);
+}
+
+static inline struct zk_held zk_safe_through_held(struct zk_through *through, uint32_t side) {
+    struct zk_held answer = ZK_ZEROS;
+    answer.status = zk_fault_at(through, 1, sizeof *through);
+    return answer.status != ZK_WELL ? answer : zk_through_held(through, side);
+}
+
 static inline struct zk_ending zk_safe_through_finish(struct zk_through *through) {
     struct zk_ending answer = ZK_ZEROS;
     answer.status = zk_fault_at(through, 1, sizeof *through);
@@ -1056,6 +1149,12 @@ static inline struct zk_ending zk_safe_through_finish(struct zk_through *through
         zk_through_finish_into(through, &answer, sizeof answer);
     }
     return answer;
+}
+
+static inline struct zk_line zk_safe_through_ending_line(struct zk_through *through, uint8_t *out, size_t room) {
+    struct zk_line answer = ZK_ZEROS;
+    answer.status = zk_first_of(zk_fault_at(through, 1, sizeof *through), zk_fault_of(out, room, sizeof *out));
+    return answer.status != ZK_WELL ? answer : zk_through_ending_line(through, (uint8_t *)zk_into(out), room);
 }
 
 static inline void zk_safe_through_free(struct zk_through *through) {
@@ -1199,6 +1298,7 @@ static inline struct zk_line zk_safe_listing(const struct zk_piece *pieces, size
 #define zk_talk_renew zk_safe_talk_renew
 #define zk_talk_step zk_safe_talk_step
 #define zk_talk_pass zk_safe_talk_pass
+#define zk_talk_offer zk_safe_talk_offer
 #define zk_talk_view zk_safe_talk_view
 #define zk_talk_line zk_safe_talk_line
 #define zk_talk_payload zk_safe_talk_payload
@@ -1209,14 +1309,20 @@ static inline struct zk_line zk_safe_listing(const struct zk_piece *pieces, size
 #define zk_talk_ending_line zk_safe_talk_ending_line
 #define zk_talk_free zk_safe_talk_free
 #define zk_through_new zk_safe_through_new
-#define zk_talk_join zk_safe_talk_join
+#define zk_through_join zk_safe_through_join
 #define zk_through_renew zk_safe_through_renew
 #define zk_through_step zk_safe_through_step
+#define zk_through_pass zk_safe_through_pass
+#define zk_through_offer zk_safe_through_offer
+#define zk_through_resume zk_safe_through_resume
 #define zk_through_view zk_safe_through_view
 #define zk_through_line zk_safe_through_line
 #define zk_through_fields zk_safe_through_fields
 #define zk_through_payload zk_safe_through_payload
+#define zk_through_waiting zk_safe_through_waiting
+#define zk_through_held zk_safe_through_held
 #define zk_through_finish zk_safe_through_finish
+#define zk_through_ending_line zk_safe_through_ending_line
 #define zk_through_free zk_safe_through_free
 #define zk_speaker_new zk_safe_speaker_new
 #define zk_speaker_renew zk_safe_speaker_renew

@@ -57,10 +57,8 @@ static void judge(struct connection *connection, packet_info *pinfo, const struc
         return;
     }
     frame->verdict = judge_take(judge, piece->side, piece->bytes, size, &frame->fault);
-    if (frame->verdict == VERDICT_REFUSED && frame->fault.reason == ZK_BAD_PART && is_asking(frame) &&
-        frame->call->later_part) {
-        frame->verdict = VERDICT_NONE;
-        judge_no_more(connection, pinfo, "has a multi with an operation of a later release");
+    if (frame->verdict == VERDICT_REFUSED && judge->judges) {
+        frame->passed_over = TRUE;
     } else if (frame->verdict == VERDICT_REFUSED) {
         connection->refused = pinfo->num;
     } else if (frame->verdict == VERDICT_WELL) {

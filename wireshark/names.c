@@ -69,7 +69,7 @@ const value_string event_state_names[] = {
 
 const value_string verdict_names[] = {
     {VERDICT_WELL, "well so far"}, {VERDICT_REFUSED, "refused here"}, {VERDICT_NONE, "not judged"},
-    {VERDICT_LEFT_OUT, "left out"}, {0, NULL},
+    {VERDICT_LEFT_OUT, "left out"}, {VERDICT_UNSEEN, "its request was before a refused message"}, {0, NULL},
 };
 
 const value_string side_names[] = {{ZK_CLIENT, "C"}, {ZK_SERVER, "S"}, {0, NULL}};

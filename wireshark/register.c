@@ -17,8 +17,9 @@ int hf_length = -1, hf_side = -1, hf_kind = -1, hf_frame = -1, hf_unread = -1, h
 int hf_response_in = -1, hf_response_to = -1, hf_response_time = -1, hf_expected_xid = -1;
 int hf_verdict = -1, hf_reason = -1, hf_place = -1, hf_line = -1;
 gint ett_message = -1, ett_list = -1, ett_stat = -1, ett_part = -1, ett_acl = -1, ett_bits = -1;
-expert_field ei_refused = EI_INIT, ei_unread = EI_INIT, ei_newer = EI_INIT, ei_order = EI_INIT, ei_unasked = EI_INIT,
-             ei_error = EI_INIT, ei_no_frame = EI_INIT, ei_again = EI_INIT, ei_cut = EI_INIT, ei_many = EI_INIT;
+expert_field ei_refused = EI_INIT, ei_passed_over = EI_INIT, ei_unread = EI_INIT, ei_newer = EI_INIT,
+             ei_order = EI_INIT, ei_unasked = EI_INIT, ei_error = EI_INIT, ei_no_frame = EI_INIT, ei_again = EI_INIT,
+             ei_cut = EI_INIT, ei_many = EI_INIT;
 
 flag pref_desegment = TRUE, pref_strict = TRUE, pref_hide = TRUE;
 guint pref_limit = 4194304;
@@ -123,6 +124,8 @@ static hf_register_info fields[] = {
 
 static ei_register_info experts[] = {
     EI(ei_refused, "refused", PI_MALFORMED, PI_ERROR, "Refused"),
+    EI(ei_passed_over, "passed_over", PI_MALFORMED, PI_NOTE,
+       "Passed over: what follows is judged as of a connection that is seen late"),
     EI(ei_unread, "malformed", PI_MALFORMED, PI_WARN, "Not all of it can be read; the connection isn't judged here"),
     EI(ei_newer, "newer", PI_UNDECODED, PI_NOTE, "An operation not of the profile"),
     EI(ei_order, "order", PI_SEQUENCE, PI_NOTE, "Requests before this one have no reply yet"),

@@ -135,6 +135,14 @@ static void show_refusal(const struct shown *shown) {
     expert_add_info_format(shown->pinfo, item, &ei_refused, "Refused: side=%s frame=%" PRIu64 " offset=%" PRIu64
                            " place=%u reason=%s%s", side_names[fault->side].strptr, fault->frame, fault->offset,
                            fault->place, val_to_str_const(fault->reason, reason_names, "?"), xids);
+    if (shown->frame->passed_over) {
+        expert_add_info(shown->pinfo, item, &ei_passed_over);
+    }
+}
+
+/* Whether a verdict says nothing of a payload. */
+static gboolean is_unjudged(enum verdict verdict) {
+    return verdict == VERDICT_NONE || verdict == VERDICT_UNSEEN;
 }
 
 /* The strict verdict; and, where there is none, why not, and what couldn't be read. */
@@ -162,7 +170,7 @@ static void show_verdict(const struct shown *shown) {
                                op_text(pinfo, shown->op));
     } else if (status == ZK_BAD_PART && shown->frame->call && shown->frame->call->later_part) {
         expert_add_info(pinfo, verdict, &ei_newer);
-    } else if (said == VERDICT_NONE && status != ZK_WELL && (status != ZK_SHORT || shown->there == shown->size)) {
+    } else if (is_unjudged(said) && status != ZK_WELL && (status != ZK_SHORT || shown->there == shown->size)) {
         expert_add_info(pinfo, show_fault(shown, status, shown->message.read.place), &ei_unread);
     }
 }

@@ -18,6 +18,7 @@ void judge_begin(struct judge *judge, uint32_t limit, uint32_t profile) {
     if (spare_count > 0) {
         *judge = spares[--spare_count];
         judge->judges = zk_through_renew(&judge->through) == ZK_WELL;
+        judge->frames[ZK_CLIENT] = judge->frames[ZK_SERVER] = judge->bytes[ZK_CLIENT] = judge->bytes[ZK_SERVER] = 0;
         return;
     }
     judge->limit = limit;
@@ -26,7 +27,7 @@ void judge_begin(struct judge *judge, uint32_t limit, uint32_t profile) {
 }
 
 void judge_end(struct judge *judge) {
-    static const struct judge none = {ZK_ZEROS, false, 0, 0};
+    static const struct judge none = {ZK_ZEROS, false, 0, 0, {0, 0}, {0, 0}};
     if (!judge->judges) {
         return;
     }
@@ -39,24 +40,42 @@ void judge_end(struct judge *judge) {
     *judge = none; /* a handle isn't used twice */
 }
 
+/* What a step of a whole frame says. */
+static enum verdict verdict_of(struct zk_passed passed) {
+    if (passed.fault.reason != 0) {
+        return VERDICT_REFUSED;
+    }
+    if (passed.status != ZK_WELL) {
+        return VERDICT_NONE;
+    }
+    switch (passed.went) {
+    case ZK_MESSAGE: return VERDICT_WELL;
+    case ZK_ASKED: case ZK_ANSWERED: return VERDICT_LEFT_OUT;
+    case ZK_UNSEEN: return VERDICT_UNSEEN;
+    default: return VERDICT_NONE;
+    }
+}
+
 enum verdict judge_take(struct judge *judge, uint32_t side, const uint8_t *frame, size_t length,
                         struct zk_fault *fault) {
     if (!judge->judges) {
         return VERDICT_NONE;
     }
     struct zk_passed passed = zk_through_step(&judge->through, side, frame, length);
-    if (passed.status == ZK_WELL && passed.went == ZK_MESSAGE) {
-        return VERDICT_WELL;
+    enum verdict verdict = verdict_of(passed);
+    bool begun = side == ZK_CLIENT || judge->frames[ZK_CLIENT] > 0;
+    if (verdict == VERDICT_REFUSED) {
+        *fault = passed.fault;
+        fault->frame = judge->frames[side];
+        fault->offset = judge->bytes[side] + length; /* the passage counts from the last refusal on */
     }
-    if (passed.status == ZK_WELL && (passed.went == ZK_ASKED || passed.went == ZK_ANSWERED)) {
-        return VERDICT_LEFT_OUT;
+    judge->frames[side]++;
+    judge->bytes[side] += length;
+    if (verdict == VERDICT_NONE ||
+        (verdict == VERDICT_REFUSED && !(begun && zk_through_resume(&judge->through).status == ZK_WELL))) {
+        judge_end(judge);
     }
-    judge_end(judge);
-    if (passed.status == ZK_WELL || passed.status == ZK_NO_MEMORY || passed.status > ZK_STREAM_END) {
-        return VERDICT_NONE;
-    }
-    *fault = passed.fault;
-    return VERDICT_REFUSED;
+    return verdict;
 }
 
 size_t judge_line_length(struct judge *judge, uint32_t side) {

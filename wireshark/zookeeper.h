@@ -53,6 +53,7 @@ struct frame {
     struct call *call;       /* of a request and of a reply */
     enum verdict verdict;
     struct zk_fault fault;
+    gboolean passed_over;    /* it is refused, and what follows it is judged */
     const char *line;
     guint64 session;
     gboolean unasked, disordered;
@@ -120,7 +121,7 @@ struct connection {
     guint32 frames;
     guint64 session;
     struct judge judge;
-    guint32 refused;         /* in this packet; 0: nowhere */
+    guint32 refused;         /* in this packet, and judged no more; 0: nowhere */
     struct call *connect;    /* the connect request, or that which its response answers */
     wmem_map_t *waiting;     /* by xid, a queue */
     struct calls calls, passed; /* that wait, with xids of their own: those that weren't passed, and those that were */
@@ -223,7 +224,7 @@ extern int hf_length, hf_side, hf_kind, hf_frame, hf_unread, hf_no_frame, hf_wor
 extern int hf_response_in, hf_response_to, hf_response_time, hf_expected_xid;
 extern int hf_verdict, hf_reason, hf_place, hf_line;
 extern gint ett_message, ett_list, ett_stat, ett_part, ett_acl, ett_bits;
-extern expert_field ei_refused, ei_unread, ei_newer, ei_order, ei_unasked, ei_error, ei_no_frame, ei_again, ei_cut,
+extern expert_field ei_refused, ei_passed_over, ei_unread, ei_newer, ei_order, ei_unasked, ei_error, ei_no_frame, ei_again, ei_cut,
     ei_many;
 
 /* These bytes of a text as a field's value, which in Wireshark ends at a zero byte: where there is one, that is \00,

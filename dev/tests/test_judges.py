@@ -109,14 +109,14 @@ print(messages.ending_so_far((b"", b""), lanes))"""
 from examples import talk
 from tests.library import messages
 class Library:
-    zk_talk_new = zk_through_new = zk_talk_join = lambda *_: 0
+    zk_talk_new = zk_through_new = zk_through_join = lambda *_: 0
     zk_talk_step = zk_talk_pass = lambda *_: talk.Step(status=1)
     zk_through_step = lambda *_: talk.Passed(status=1)
     zk_talk_free = zk_through_free = lambda *_: None
 for name in ("kazoo_basic", "refused_c_path_not_utf8"):
     path = pathlib.Path(f"captures/{name}.zkr")
     print(*(good for _, good, _ in messages.compare(talk, Library(), {}, [path])))"""
-        self.assertEqual(self.run_inside(script), (0, "False False False False\nFalse False True False\n"))
+        self.assertEqual(self.run_inside(script), (0, "False False False False False\nFalse False False True False\n"))
 
     def test_a_plugin_that_shows_nothing(self):
         wanted = ("False False False", "True True False True True False False", "False True False True",

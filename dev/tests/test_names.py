@@ -15,7 +15,7 @@ FOLDERS = [f"crates/{name}/src" for name in ("zk_records", "zk_asks", "zk_answer
                                              "zk_recordings", "zk_runs", "zk_talk", "zk_c")]
 FILES = (*lists.PARTS, *lists.WHOLE, "dev/__init__.py", "dev/names.py", "dev/lists.py", "dev/constants.py", "dev/newer.py", "dev/source.py", "dev/formats.py",
          "docs/FORMATS.md", "docs/LIBRARY.md", "docs/REASONS.md", "docs/man/zkdump.1.scd", "docs/man/zkr.5.scd",
-         "examples/python/libzk/_messages.py", "examples/python/libzk/_held.py", "examples/server.c",
+         "examples/python/libzk/_messages.py", "examples/python/libzk/_through.py", "examples/server.c",
          "crates/talk_tests/src/tests/earliest/bodies.rt", "wireshark/tree.c", "wireshark/message.h",
          "tools/zkdump_tools/forms.py", "tools/zkdump_tools/errors.py",
          "bench/make_recording.py")
@@ -132,8 +132,8 @@ COMPARED = (
      ("examples/python/libzk/_messages.py:*: FieldKind.BLOB is 6, and ZK_KIND_BLOB 5",)),
     ("examples/python/libzk/_messages.py", "    PART = 7\n", "",
      ("examples/python/libzk/_messages.py:*: FieldKind.PART is None, and ZK_KIND_PART 7",)),
-    ("examples/python/libzk/_held.py", "    UNSEEN = 5", "    UNSEEN = 5\n    UNHEARD = 6",
-     ("examples/python/libzk/_held.py:*: Went.UNHEARD is 6, and ZK_UNHEARD None",)),
+    ("examples/python/libzk/_through.py", "    UNSEEN = 5", "    UNSEEN = 5\n    UNHEARD = 6",
+     ("examples/python/libzk/_through.py:*: Went.UNHEARD is 6, and ZK_UNHEARD None",)),
     ("crates/zk_fields/src/kind.rt", "TEXT: u8 = 4", "TEXT: u8 = 5",
      ("include/zk.h: ZK_KIND_TEXT is 4, and in the sources 5",)),
     ("crates/talk_tests/src/tests/earliest/bodies.rt", "Layout::Answered(Op::Sync),", "Layout::Answered(Op::Ping),",

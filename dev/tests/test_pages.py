@@ -6,7 +6,7 @@ import sys
 
 from tests.tools.support import TOP, ToolCase
 
-from tests.pages import stored_cases
+from tests.pages import clauses, stored_cases
 from .. import proved, words
 
 PAGE = """| What holds | Clauses |
@@ -45,6 +45,16 @@ class Clauses(ToolCase):
         done = subprocess.run([sys.executable, "-m", "tests.pages.clauses", page], cwd=TOP, capture_output=True, text=True,
                               check=False)
         self.assertEqual((done.returncode, done.stdout), (1, "0 passed, 0 failed\n"))
+
+    def test_edits_that_are_not_in_their_crates_table(self):
+        """One of another crate, one that a clause's column has, and one that no table has."""
+        page = (TOP / "docs" / "MUST_FAIL.md").read_text()
+        self.assertEqual(clauses.edits(page), [])
+        row = "| reads | `null_is_empty`, `only_the_first_part` | `size_at` |\n"
+        told = clauses.edits(f"## zk_jute: values\n\n{row}\n## zk_answers\n\n| a | b | `any_operation_fits` |\n")
+        self.assertEqual(told[0], "there is no edit zk_jute/only_the_first_part")
+        self.assertIn("no table has the edit zk_answers/any_operation_fits", told)
+        self.assertNotIn("no table has the edit zk_jute/null_is_empty", told)
 
 
 CASES = """# Cases

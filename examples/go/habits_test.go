@@ -48,7 +48,8 @@ func TestStrings(t *testing.T) {
 		wanted string
 	}{
 		{Client, "client"}, {Server, "server"}, {Side(2), "2"}, {Profile35, "3.5"}, {Connected, "connect response"},
-		{List, "list"}, {WentUnseen, "unseen"}, {Cut, "cut"}, {request, "request 2 exists"}, {reply, "reply 2 exists NONODE"},
+		{List, "list"}, {WentUnseen, "unseen"}, {WentPassedOver, "passed over"},
+		{Cut, "cut"}, {request, "request 2 exists"}, {reply, "reply 2 exists NONODE"},
 		{first, "connect request"}, {odd, "reply 1 addWatch err -99"}, {&Message{Kind: Event, Zxid: -1}, "event zxid -1"},
 		{Ending{Kind: Whole, Unanswered: 2}, "whole, unanswered 2"},
 		{Ending{Kind: Cut, Side: Client, Frame: 3, Got: 9}, "cut in frame 3 of the client, of which 9 bytes came"},

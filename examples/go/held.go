@@ -112,6 +112,22 @@ func (t Talk) Feed(side Side, piece []byte) ([]*Message, error) {
 	}
 }
 
+// Offer takes the side's next frame, whole, its length included, if it may come next, and returns its message: for who asks
+// before a frame is sent. An error says why it may not, and the talk is as it was, so that another may be offered. It is
+// ErrRange if the bytes aren't one frame, or the side has begun another.
+func (t Talk) Offer(side Side, frame []byte) (*Message, error) {
+	if t.it == nil {
+		return nil, empty
+	}
+	t.it.Lock()
+	defer t.it.Unlock()
+	step := C.zk_safe_talk_offer(&t.it.handle, C.uint32_t(side), start(frame), C.size_t(len(frame)))
+	if err := refusal(step.status, step.fault); err != nil {
+		return nil, err
+	}
+	return t.it.newest(C.uint32_t(side))
+}
+
 // newest returns the message of the side's kept frame.
 func (it *talk) newest(side C.uint32_t) (*Message, error) {
 	view := C.zk_safe_talk_view(&it.handle, side)
@@ -147,7 +163,7 @@ func (t Talk) Waiting() (requests, weight uint32, err error) {
 	return uint32(waiting.requests), uint32(waiting.weight), fault(waiting.status, 0)
 }
 
-// Held returns how many bytes the side has sent of a frame that isn't whole, its length included.
+// Held returns how many bytes the side has sent of a frame that isn't whole, or is refused, its length included.
 func (t Talk) Held(side Side) (uint32, error) {
 	if t.it == nil {
 		return 0, empty

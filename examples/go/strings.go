@@ -27,6 +27,9 @@ func (kind FieldKind) String() string {
 }
 
 func (went Went) String() string {
+	if went == WentPassedOver {
+		return "passed over"
+	}
 	return named([]string{"within", "message", "asked", "answered", "full", "unseen"}, uint32(went))
 }
 

@@ -63,6 +63,9 @@ func became(step Passed) string {
 		return "asked " + of
 	case WentAnswered:
 		return "answered " + of
+	case WentPassedOver:
+		at := step.Fault.At
+		return fmt.Sprintf("passed over %v, byte %d of frame %d of the %v", step.Fault, at.Offset, at.Frame, at.Side)
 	case WentUnseen:
 		return fmt.Sprintf("unseen %d %d %d", step.Xid, step.Zxid, step.Err)
 	}
@@ -282,26 +285,30 @@ func TestLate(t *testing.T) {
 
 func TestEndingsOfPassages(t *testing.T) {
 	p := newThrough(t, 65536)
-	ends := func(wanted Ending) {
+	ends := func(wanted Ending, wantedLine string) {
 		t.Helper()
 		if found, err := p.Ending(); err != nil || found != wanted {
 			t.Error(found, err, "not", wanted)
 		}
+		if line, err := p.EndingLine(); err != nil || line != wantedLine {
+			t.Error(line, err, "not", wantedLine)
+		}
 	}
-	ends(Ending{Kind: Whole})
+	ends(Ending{Kind: Whole}, ". whole unanswered=0")
 	for _, row := range came[:4] {
 		told(t, p, row.side, framed(row.payload))
 	}
-	ends(Ending{Kind: Whole, Unanswered: 2})
+	ends(Ending{Kind: Whole, Unanswered: 2}, ". whole unanswered=2")
 	told(t, p, Server, framed(none)[:9])
-	ends(Ending{Kind: Cut, Side: Server, Frame: 1, Got: 9})
+	ends(Ending{Kind: Cut, Side: Server, Frame: 1, Got: 9}, ". cut side=S frame=1 got=9")
 	told(t, p, Server, framed(none)[9:])
-	ends(Ending{Kind: Whole, Unanswered: 1})
+	ends(Ending{Kind: Whole, Unanswered: 1}, ". whole unanswered=1")
 	wanted := Fault{Status: 14, Refused: true, At: At{Server, 2, 89, 2, 1}}
 	if _, err := p.Feed(Server, framed(none)); err != wanted {
 		t.Error(err)
 	}
-	ends(Ending{Kind: Refused, Fault: wanted})
+	ends(Ending{Kind: Refused, Fault: wanted},
+		". refused side=S frame=2 offset=89 place=0 reason=XidOrder expected=2 got=1")
 }
 
 func TestClosedPassages(t *testing.T) {
@@ -321,7 +328,22 @@ func TestClosedPassages(t *testing.T) {
 		if _, err := it.Ending(); err != empty {
 			t.Error(err)
 		}
+		if _, err := it.EndingLine(); err != empty {
+			t.Error(err)
+		}
+		if _, err := it.Pass(Client, []byte{0}); err != empty {
+			t.Error(err)
+		}
+		if _, _, err := it.Waiting(); err != empty {
+			t.Error(err)
+		}
+		if _, err := it.Held(Client); err != empty {
+			t.Error(err)
+		}
 		it.Close()
+	}
+	if err := (Through{}).SetResume(true); err != empty {
+		t.Error(err)
 	}
 	if _, err := NewThrough(Limits{63, 64, 1, Profile34}); err != (Fault{Status: 67}) {
 		t.Error(err)

@@ -7,49 +7,12 @@
  * or wrong; rooms are ample, exact, too small or none; pointers are null with 0 and without (chosen.h). What is read and
  * written is between guard pages (calls.h). It prints the first answer that can't be, and how often each status came,
  * and what became of passages' bytes; the status is 0 if all could. */
-#include "handles.h"
+#include "offers.h"
 
 /* ---- Steps */
 
-/* Whether the handle's recording goes on, and its next bytes. */
-static bool goes_on(const struct played *it, uint32_t *side, const uint8_t **from, size_t *length) {
-    if (!it->live || it->broken || it->piece >= it->recording->count) return false;
-    const struct piece *piece = &pieces[it->recording->first + it->piece];
-    *side = piece->side;
-    *from = piece->bytes + it->used;
-    *length = piece->length - it->used;
-    return true;
-}
-
 /* How often each of ZK_WITHIN to ZK_UNSEEN came. */
 static unsigned long wents[ZK_UNSEEN + 1];
-
-/* What a step is given. */
-struct given {
-    uint32_t side, expected;
-    const uint8_t *at;
-    size_t length;
-    bool next; /* the bytes are the recording's next ones */
-};
-
-/* The recording's next bytes or any payload, as they are or damaged. Once in `foreign` times, if that isn't 0, the
- * client asks what no profile has. */
-static struct given give(struct played *it, uint64_t foreign) {
-    struct given given = {any_side(), 0, NULL, 0, false};
-    const struct payload *any = &payloads[chance(payload_count)];
-    const uint8_t *from = any->bytes;
-    size_t length = any->length;
-    given.next = !one_in(60) && goes_on(it, &given.side, &from, &length);
-    if (length > 0 && one_in(3)) length = 1 + (size_t)chance(length);
-    memcpy(bytes.copy, from, length);
-    bool asks = given.next && given.side == ZK_CLIENT && it->used == 0 && it->piece > 0 && length >= 12;
-    if (foreign > 0 && asks && one_in(foreign)) memcpy(bytes.copy + 10, "\x27\x0f", 2); /* 9999, if a frame begins */
-    put(&bytes, one_in(given.next ? 400 : 2) ? damaged(bytes.copy, length) : length);
-    given.at = bytes.at;
-    given.length = bytes.length;
-    given.expected = astray(&given.at, &given.length);
-    return given;
-}
 
 /* What any step may answer; whether it was made. */
 static bool stepped(struct played *it, struct given given, uint32_t status, size_t used, struct zk_fault fault) {
@@ -102,12 +65,12 @@ static void take_block(struct played *it) {
 }
 
 /* What waits and is held. */
-static void count_all(struct played *it, uint32_t side) {
-    struct zk_waiting waiting = zk_talk_waiting(&it->talk);
+static void count_all(struct played *it, enum kind kind, uint32_t side) {
+    struct zk_waiting waiting = kind == TALK ? zk_talk_waiting(&it->talk) : zk_through_waiting(&it->through);
     answered(waiting.status);
     refused(waiting.status, it->live, true);
     must(waiting.requests <= waiting.weight && waiting.weight <= 1 << 20, "more requests wait than may");
-    struct zk_held held = zk_talk_held(&it->talk, side);
+    struct zk_held held = kind == TALK ? zk_talk_held(&it->talk, side) : zk_through_held(&it->through, side);
     answered(held.status);
     refused(held.status, it->live, side <= ZK_SERVER);
     must(held.bytes <= 4 + (1 << 24), "more bytes are held than a frame has");
@@ -149,6 +112,11 @@ static struct zk_line left_out(struct played *it, uint32_t side, uint8_t *out, s
     return zk_through_payload(&it->through, side, out, room);
 }
 
+static struct zk_line passed_ending_line(struct played *it, uint32_t side, uint8_t *out, size_t room) {
+    (void)side;
+    return zk_through_ending_line(&it->through, out, room);
+}
+
 static struct zk_line ending_line(struct played *it, uint32_t side, uint8_t *out, size_t room) {
     (void)side;
     return zk_talk_ending_line(&it->talk, out, room);
@@ -188,7 +156,9 @@ static void show_fields(struct played *it, enum kind kind, uint32_t side) {
 static void pass_through(struct played *it) {
     struct given given = give(it, 6);
     uint32_t side = given.side, shown = zk_through_view(&it->through, side).status;
-    struct zk_passed step = zk_through_step(&it->through, side, given.at, given.length);
+    bool passes = one_in(6);
+    struct zk_passed step = passes ? zk_through_pass(&it->through, side, given.at, given.length)
+                                   : zk_through_step(&it->through, side, given.at, given.length);
     if (!stepped(it, given, step.status, step.used, step.fault)) return;
     if (step.went <= ZK_UNSEEN) wents[step.went]++;
     bool asked = step.went == ZK_ASKED, answers = step.went == ZK_ANSWERED, unseen = step.went == ZK_UNSEEN;
@@ -206,11 +176,12 @@ static void pass_through(struct played *it) {
     must(!(left || step.went == ZK_MESSAGE) || step.used > 0, "a whole frame of nothing");
     if (step.went == ZK_FULL && one_in(9)) it->broken = true;
     struct zk_line found = write_text(it, left_out, side);
-    must(step.status != ZK_WELL || (found.status == ZK_NO_MESSAGE) != left, "the payload of what is left out");
-    bool whole = left || step.went == ZK_MESSAGE;
-    must(step.status != ZK_WELL || whole || zk_through_view(&it->through, side).status == shown, "the message shown");
-    if (step.status != ZK_WELL || !whole) return;
-    must(answered(zk_through_view(&it->through, side).status) == (left ? ZK_NO_MESSAGE : ZK_WELL), "the message kept");
+    uint32_t shows = answered(zk_through_view(&it->through, side).status);
+    if (step.status != ZK_WELL) return;
+    bool whole = left || step.went == ZK_MESSAGE, kept = !passes && (left || shows == ZK_WELL);
+    must((found.status == ZK_NO_MESSAGE) != kept, "the payload of what is left out, or shown");
+    must(shows == (passes || left ? ZK_NO_MESSAGE : whole ? ZK_WELL : shown), "the message shown");
+    if (passes) return;
     if (!left || found.status != ZK_WELL) return;
     must(found.length >= 8 && number_at(text.at) == step.xid, "the xid of what is left out");
     must(!asked || number_at(text.at + 4) == step.operation, "the operation of what is left out");
@@ -319,15 +290,16 @@ static void call_talk(struct played *it) {
     case 4: case 5: write_text(it, line, side); break;
     case 6: case 7: write_text(it, payload, side); break;
     case 8: case 9: show_fields(it, TALK, side); break;
-    case 10: count_all(it, side); break;
+    case 10: count_all(it, TALK, side); break;
     case 11: case 12: take_block(it); break;
+    case 13: case 14: offer(it); break;
     default: step(it);
     }
 }
 
 static void call_passage(struct played *it) {
     uint32_t side = any_side();
-    switch (chance(13)) {
+    switch (chance(18)) {
     case 0: begin(it, PASSAGE); break;
     case 1: if (one_in(it->broken ? 8 : 40)) end(it, PASSAGE);
             else if (one_in(it->broken ? 3 : 40)) renew(it, PASSAGE);
@@ -336,6 +308,10 @@ static void call_passage(struct played *it) {
     case 3: show_fields(it, PASSAGE, side); break;
     case 4: finish(it, PASSAGE); break;
     case 5: write_text(it, passed_line, side); break;
+    case 6: write_text(it, passed_ending_line, ZK_CLIENT); break;
+    case 7: count_all(it, PASSAGE, side); break;
+    case 8: resume(it); break;
+    case 9: case 10: offer_passage(it); break;
     default: pass_through(it);
     }
 }

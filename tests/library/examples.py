@@ -3,7 +3,7 @@
 header.py calls it. Each program in C is compiled as C11 without a warning, and with the address sanitizer where
 the compiler has it. The examples print the listing of every recording of captures/. The proxy passes on each of them,
 and many connections at once (example_proxy.py). The client speaks to small_server.py, and the fake server to the client
-(example_server.py).
+(example_server.py). The reader that comes late is in example_late.py.
 """
 
 import itertools
@@ -13,15 +13,13 @@ import platform
 import re
 import shutil
 import socket
-import struct
 import subprocess
 import sys
 import threading
 
 from examples import talk
-from . import example_proxy, example_server, small_server
+from . import example_late, example_proxy, example_server, small_server
 from .. import left_out
-from ..stored_listings import listings_of
 from .example_proxy import came, pieces, undelayed
 
 TOP = pathlib.Path(__file__).resolve().parents[2]
@@ -212,41 +210,6 @@ def say_lines(folder, *words):
         yield "--say", good, f"talk.py --say, {mark}: status {found.returncode}, {found.stderr}"
 
 
-def wait_late(folder, program):
-    """Whether a reader that comes late reports that more requests wait than may, and that it reads no further."""
-    path = pathlib.Path(folder, "waiting.zkr")
-    frames = b"".join(struct.pack(">IiiI2sB", 15, xid, 3, 2, b"/a", 0) for xid in range(1, 65538))
-    path.write_bytes(b"ZKR1C" + len(frames).to_bytes(4, "big") + frames)
-    found = subprocess.run([program, path, "0"], capture_output=True, text=True)
-    good = (found.returncode, found.stderr) == (2, "late: more requests wait than may\n")
-    yield "late, waiting", good, f"late: status {found.returncode}, {found.stderr}{found.stdout[-100:]}"
-
-
-def unseen(line):
-    """What a reader that didn't see its request has of a reply's line."""
-    words = dict(re.findall(r" (zxid|err)=(-?\d+)", line))
-    return f"S {line.split()[1]} zxid={words['zxid']} err={words.get('err', 0)}, not seen asked"
-
-
-def come_late(program):
-    """Whether a reader that comes late lists what is left of a recording, and a reply as one whose request isn't there."""
-    for path in sorted(CAPTURES.glob("[!r]*.zkr")):
-        listing = listings_of(path)[-1][1]
-        lines = listing.read_text().splitlines()
-        if len(list(pieces(path.read_bytes()))) != len(lines) - 1:
-            continue
-        for count in range(2, min(9, len(lines) - 1)):
-            before, wanted = lines[2:count], lines[count:]
-            xids = [line.split()[1] for line in before if line.startswith("C ")]
-            for xid in filter(lambda xid: not any(line.startswith(f"S {xid} ") for line in before), xids):
-                at = next((i for i, line in enumerate(wanted) if line.startswith(f"S {xid} ")), None)
-                if at is not None:
-                    wanted[at] = unseen(wanted[at])
-            found = subprocess.run([program, path, str(count)], capture_output=True, text=True)
-            good = (found.returncode, found.stdout.splitlines()) == (0, wanted)
-            yield path.stem, good, f"late {path.stem} {count}: status {found.returncode}, {found.stdout[:300]}"
-
-
 def show_fields(program):
     """Whether the example shows the fields of a payload, and those before a fault, and refuses other arguments."""
     for given, status, shown in (
@@ -332,12 +295,12 @@ def listers(folder, programs, archive, shared):
 # ---- Memory
 
 # What tests/library/memory.c does, how often, and the most kilobytes that may then stay with the process (docs/PERF.md). Where
-# little may stay, all goes back to the system; else the memory of one handle stays, however many there were.
+# little may stay, all goes back to the system; else no more than one handle's memory stays, however many there were.
 STAYS = (
     ("talk 4194304 4194304 65536", 20, 1024), ("talk 16777216 16777216 65536", 5, 1024),
     ("talk 65536 65536 1024", 20, 1024), ("talk 1048576 4194304 65536", 20, 1024),
-    ("talk 64 16777216 1048576", 5, 16448 + 512), ("speaker 4194304 4194304 65536", 20, 3648 + 512),
-    ("speaker 4194304 4194304 1048576", 5, 1024), ("talk 4194304 4194304 65536", 20, 1024, "renew"),
+    ("talk 64 16777216 1048576", 5, 1024), ("speaker 4194304 4194304 65536", 20, 1536 + 512),
+    ("speaker 4194304 4194304 1048576", 5, 24576 + 512), ("talk 4194304 4194304 65536", 20, 1024, "renew"),
 )
 
 
@@ -365,9 +328,10 @@ def check(folder, archive, shared, cc):
     yield from fail_to_read(folder, archive, cc)
     yield from fail_within(shared)
     yield from say_lines(folder, sys.executable, EXAMPLES / "talk.py", str(shared))
-    yield from come_late(programs["late"])
+    yield from example_late.come_late(programs["late"])
+    yield from example_late.go_on(folder, programs["late"])
     yield from list_damaged(folder, "late.c", [programs["late"]], "2")
-    yield from wait_late(folder, programs["late"])
+    yield from example_late.wait_late(folder, programs["late"])
     yield from show_fields(programs["fields"])
     yield from print_in_vain(programs)
     yield from complain(programs)

@@ -139,6 +139,8 @@ CALL(zk_talk_renew, uint32_t(struct zk_talk *talk));
 CALL(zk_talk_step, struct zk_step(struct zk_talk *talk, uint32_t side, const uint8_t *piece, size_t length));
 #undef zk_talk_pass
 CALL(zk_talk_pass, struct zk_step(struct zk_talk *talk, uint32_t side, const uint8_t *piece, size_t length));
+#undef zk_talk_offer
+CALL(zk_talk_offer, struct zk_step(struct zk_talk *talk, uint32_t side, const uint8_t *frame, size_t length));
 #undef zk_talk_line
 CALL(zk_talk_line, struct zk_line(struct zk_talk *talk, uint32_t side, uint8_t *out, size_t room));
 #undef zk_talk_payload
@@ -155,16 +157,24 @@ CALL(zk_talk_ending_line, struct zk_line(struct zk_talk *talk, uint8_t *out, siz
 CALL(zk_talk_free, void(struct zk_talk *talk));
 #undef zk_through_new
 CALL(zk_through_new, uint32_t(struct zk_through *through, uint32_t client, uint32_t server, uint32_t waiting, uint32_t profile));
-#undef zk_talk_join
-CALL(zk_talk_join, uint32_t(struct zk_through *through, uint32_t client, uint32_t server, uint32_t waiting, uint32_t profile));
+#undef zk_through_join
+CALL(zk_through_join, uint32_t(struct zk_through *through, uint32_t client, uint32_t server, uint32_t waiting, uint32_t profile));
 #undef zk_through_renew
 CALL(zk_through_renew, uint32_t(struct zk_through *through));
+#undef zk_through_resume
+CALL(zk_through_resume, struct zk_step(struct zk_through *through));
 #undef zk_through_line
 CALL(zk_through_line, struct zk_line(struct zk_through *through, uint32_t side, uint8_t *out, size_t room));
 #undef zk_through_fields
 CALL(zk_through_fields, struct zk_read(struct zk_through *through, uint32_t side, struct zk_field *out, size_t room));
 #undef zk_through_payload
 CALL(zk_through_payload, struct zk_line(struct zk_through *through, uint32_t side, uint8_t *out, size_t room));
+#undef zk_through_waiting
+CALL(zk_through_waiting, struct zk_waiting(struct zk_through *through));
+#undef zk_through_held
+CALL(zk_through_held, struct zk_held(struct zk_through *through, uint32_t side));
+#undef zk_through_ending_line
+CALL(zk_through_ending_line, struct zk_line(struct zk_through *through, uint8_t *out, size_t room));
 #undef zk_through_free
 CALL(zk_through_free, void(struct zk_through *through));
 #undef zk_speaker_new
@@ -217,6 +227,10 @@ CALL(zk_talk_view_into, void(struct zk_talk *talk, uint32_t side, struct zk_mess
 CALL(zk_talk_finish_into, void(struct zk_talk *talk, struct zk_ending *out, size_t size));
 #undef zk_through_step_into
 CALL(zk_through_step_into, void(struct zk_through *through, uint32_t side, const uint8_t *piece, size_t length, struct zk_passed *out, size_t size));
+#undef zk_through_pass_into
+CALL(zk_through_pass_into, void(struct zk_through *through, uint32_t side, const uint8_t *piece, size_t length, struct zk_passed *out, size_t size));
+#undef zk_through_offer_into
+CALL(zk_through_offer_into, void(struct zk_through *through, uint32_t side, const uint8_t *frame, size_t length, struct zk_passed *out, size_t size));
 #undef zk_through_view_into
 CALL(zk_through_view_into, void(struct zk_through *through, uint32_t side, struct zk_message *out, size_t size));
 #undef zk_through_finish_into

@@ -36,7 +36,7 @@ static void begin(struct played *it, enum kind kind) {
                 && waiting <= 1 << 20 && is_profile(profile);
     bool late = kind == PASSAGE && one_in(3);
     uint32_t status = answered(kind == TALK      ? zk_talk_new(&it->talk, client, server, waiting, profile)
-                               : late            ? zk_talk_join(&it->through, client, server, waiting, profile)
+                               : late            ? zk_through_join(&it->through, client, server, waiting, profile)
                                : kind == PASSAGE ? zk_through_new(&it->through, client, server, waiting, profile)
                                                  : zk_speaker_new(&it->speaker, client, server, waiting, profile));
     must(status == (it->live ? ZK_IN_USE : good ? ZK_WELL : ZK_RANGE), "a handle that is made");
@@ -69,6 +69,7 @@ static void is_new_passage(struct played *it) {
         must(answered(step.status) == ZK_WELL && step.went == ZK_WITHIN, "a fault of before");
     }
     is_new_ending(zk_through_finish(&it->through));
+    must(zk_through_waiting(&it->through).weight == 0, "a request that waits since before");
 }
 
 static void is_new_talk(struct played *it) {
@@ -96,6 +97,22 @@ static void renew(struct played *it, enum kind kind) {
     if (kind == TALK) is_new_talk(it);
     else if (kind == PASSAGE) is_new_passage(it);
     else is_new_speaker(it);
+}
+
+/* A passage that is refused goes on after the frame as one that is seen late; where no frame ends it stays refused. */
+static void resume(struct played *it) {
+    bool none = one_in(50);
+    struct zk_ending ending = zk_through_finish(&it->through);
+    uint32_t reason = ending.kind == ZK_REFUSED ? ending.fault.reason : ZK_WELL;
+    bool ends = reason != ZK_WELL && reason != ZK_LENGTH_RANGE && reason != ZK_STREAM_END;
+    struct zk_step step = zk_through_resume(none ? NULL : &it->through);
+    answered(step.status);
+    must(step.status == (none ? ZK_NULL : !it->live ? ZK_EMPTY : ends ? ZK_WELL : reason), "a passage that goes on");
+    must(!step.whole && (step.used > 0) == (ends && !none), "the bytes of a refused frame");
+    must((step.fault.reason != 0) == (step.status != ZK_WELL && step.status <= ZK_STREAM_END), "a fault that stays");
+    if (step.used == 0) return;
+    it->late = true;
+    is_new_passage(it);
 }
 
 static void end(struct played *it, enum kind kind) {

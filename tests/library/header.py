@@ -93,7 +93,7 @@ def went_numbers():
 
 def package_numbers():
     """The numbers of sides and kinds in the package for Python, whose tests compare them with the library's."""
-    text = "".join((TOP / "examples/python/libzk" / name).read_text() for name in ("_messages.py", "_held.py"))
+    text = "".join((TOP / "examples/python/libzk" / name).read_text() for name in ("_messages.py", "_through.py"))
     for kind, body in re.findall(r"^class (\w+)\(enum\.IntEnum\):\n((?:    .*\n)+)", text, re.M):
         for name, number in re.findall(r"^    (\w+) = (\d+)$", body, re.M):
             yield f"KIND_{name}" if kind == "FieldKind" else name, int(number)

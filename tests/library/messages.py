@@ -8,6 +8,9 @@ requests that came. Which of the client's frames each reply answers is compared 
 a passage, too, and the numbers of what a passage leaves out. As many messages have to come as the recording's listing
 has lines, and it has to end as its last line says.
 
+A third talk is offered the recording's frames, each after bytes that aren't one frame and frames that may not come: it
+takes the recording's, and of the others nothing remains.
+
 Passages that join each recording late, at several of its frames, are given what follows. They return the messages that
 the talk returns, with frames' numbers of their own, but replies to requests that they weren't given as such.
 """
@@ -21,7 +24,8 @@ from dev import source
 from ..stored_listings import listings_of
 from .operation_samples import PROFILE
 
-NO_MESSAGE, MULTI = 69, 14
+UNKNOWN_OP, XID_ORDER, RANGE, NO_MESSAGE = 7, 14, 67, 69  # statuses
+MULTI = 14
 MESSAGE, ASKED, ANSWERED, FULL, UNSEEN = 1, 2, 3, 4, 5  # what becomes of a passage's bytes
 PINGS, AUTHS, WATCHES, EVENTS = -2, -4, -8, -1  # xids
 WHOLE, CUT = 1, 2  # kinds of an ending
@@ -228,6 +232,42 @@ def good_messages(caller, content):
                     came[side] = b""
 
 
+def refused_frames(side, frame, message, lanes, sent):
+    """Bytes that a talk refuses in the place of this frame, after `sent` bytes of the side, and what is returned of each."""
+    count, nothing = lanes.frames[side], (0,) * 7
+    for wrong in (b"", frame[:-1], frame + b"\0"):
+        yield wrong, (0, RANGE, False, *nothing)
+    if side == 0 and count > 0:
+        yield struct.pack(">iii", 8, 1, 9999), (0, UNKNOWN_OP, False, count, sent + 12, side, 4, UNKNOWN_OP, 0, 0)
+    if KINDS[message.kind - 1] == "reply" and message.xid > 0:
+        other = message.xid ^ 1 << 30
+        wrong = frame[:4] + struct.pack(">i", other) + frame[8:]
+        yield wrong, (0, XID_ORDER, False, count, sent + len(frame), side, 0, XID_ORDER, message.xid, other)
+
+
+def compare_offers(caller, messages, count):
+    """What is returned where these messages' frames are offered, and others before each, and what should be."""
+    lanes, waiting, sent, library = Lanes(), Waiting(), [0, 0], caller.library
+    yield len(messages), count
+    with caller.talk.Talk(library, profile=PROFILE) as talk:
+        for side, frame, message in messages:
+            for wrong, wanted in refused_frames(side, frame, message, lanes, sent[side]):
+                shown = numbers_of_view(library.zk_talk_view(talk.handle, side))
+                yield numbers_of_step(library.zk_talk_offer(talk.handle, side, wrong, len(wrong))), wanted
+                yield numbers_of_view(library.zk_talk_view(talk.handle, side)), shown
+                yield from compare_counts(library, talk, (b"", b""), waiting)
+            found = numbers_of_step(library.zk_talk_offer(talk.handle, side, frame, len(frame)))
+            yield found, (len(frame), 0, True, *(0,) * 7)
+            sent[side] += len(frame)
+            yield from compare_message(caller, talk, side, lanes.frames[side], frame[4:])
+            yield library.zk_talk_view(talk.handle, side).answers, lanes.answered(side, frame[4:])
+            waiting.message(KINDS[message.kind - 1], message.xid, parts_of(caller, message, frame[4:]))
+            yield from compare_counts(library, talk, (b"", b""), waiting)
+            yield line_of_ending(library.zk_talk_finish(talk.handle)), ending_so_far((b"", b""), lanes)
+        library.zk_talk_step(talk.handle, 0, b"\0", 1)
+        yield numbers_of_step(library.zk_talk_offer(talk.handle, 0, b"\0\0\0\0", 4)), (0, RANGE, False, *(0,) * 7)
+
+
 def numbers_of_passed(step):
     return (step.status, step.used, step.went, step.xid, step.operation, step.frame, step.zxid, step.err)
 
@@ -240,7 +280,7 @@ def compare_late(caller, messages):
     """What a passage returns of these messages that has joined before them, and what should be."""
     handle, library, frames, matched = caller.talk.Handle(), caller.library, [1, 1], False
     lanes = collections.defaultdict(collections.deque)
-    yield library.zk_talk_join(handle, 1 << 22, 1 << 22, 1 << 16, PROFILE), 0
+    yield library.zk_through_join(handle, 1 << 22, 1 << 22, 1 << 16, PROFILE), 0
     for side, frame, message in messages:
         kind, xid, answers = KINDS[message.kind - 1], message.xid, 0
         ordinary = xid not in (PINGS, AUTHS, WATCHES)
@@ -279,6 +319,7 @@ def compare(talk, library, names, recordings):
         content, (*lines, ending) = path.read_bytes(), listings_of(path)[-1][1].read_text().splitlines()
         for what, compared in (("in its pieces", compare_recording(caller, content, 1 << 24, len(lines), ending)),
                                ("in pieces of a byte", compare_recording(caller, content, 1, len(lines), ending)),
+                               ("by offers", compare_offers(caller, list(good_messages(caller, content)), len(lines))),
                                ("by a passage", compare_passage(caller, content, ending.startswith(". whole "))),
                                ("joined late", compare_joined(caller, content, len(lines)))):
             for found, wanted in compared:

@@ -163,7 +163,7 @@ def compare_calls(calls):
     """Whether each package declares every call, with as many parameters as in the header; Go's calls are the
     header's."""
     python = re.findall(r'"(zk_\w+)": \((.*)\),$', (PYTHON / "libzk" / "_calls.py").read_text(), re.M)
-    rust = re.findall(r"pub fn (zk_\w+)\((.*?)\)(?: ->|;)", (RUST / "zk-sys" / "src" / "lib.rs").read_text(), re.S)
+    rust = re.findall(r"pub fn (zk_\w+)\((.*?)\)\s*(?:->|;)", (RUST / "zk-sys" / "src" / "lib.rs").read_text(), re.S)
     found = [("python", name, words.rstrip(",").count(",")) for name, words in python]
     found += [("rust", name, words.count(":")) for name, words in rust]
     also = {name: words.count(",") + 1 for name, words in re.findall(

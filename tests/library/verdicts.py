@@ -6,6 +6,8 @@ tests/library calls it. The rows were derived from docs/FORMATS.md and docs/CONV
 import ctypes
 import pathlib
 
+from ..program import large_inputs
+
 TOP = pathlib.Path(__file__).resolve().parents[2]
 
 # Payloads, as in the tables PAYLOADS of crates/codec_tests/src/tests (asks.rt, answers.rt): the call, of a reply with the
@@ -145,7 +147,7 @@ def refuse_lines(talk, library, numbers):
 
 def answered(library, handle, side, payload):
     """What is returned of a payload that is to be said: the status, the place, and the frame that is kept then."""
-    answer, out = library.zk_speaker_say_payload(handle, side, payload, len(payload)), ctypes.create_string_buffer(96)
+    answer, out = library.zk_speaker_say_payload(handle, side, payload, len(payload)), ctypes.create_string_buffer(max(96, len(payload) + 4))
     frame = library.zk_speaker_frame(handle, out, len(out))
     return answer.status, answer.place, out.raw[:frame.length]
 
@@ -182,9 +184,30 @@ def list_whole(talk, library, numbers):
             yield path.stem, good, f"zk_listing {path.stem}, a room of {room}: {found.status}, {found.length}"
 
 
+def have_memory(talk, library):
+    """Whether large inputs lack no memory: a listing of 10,000 messages and more, requests of more than a million
+    bytes, said by their lines and by their payloads, and lines after one of 100 kB."""
+    frames, lines = large_inputs.pings(5_000)
+    listing = "\n".join([*lines, ". whole unanswered=0", ""]).encode()
+    content, out = b"".join(frame for _, frame in frames), ctypes.create_string_buffer(len(listing))
+    cut = (talk.Piece * len(frames))(*(("CS".index(side.decode()), len(frame)) for side, frame in frames))
+    found = library.zk_listing(cut, len(frames), content, len(content), 64, 64, 1, 34, out, len(listing))
+    wanted = (0, len(listing), True)
+    yield "many", (found.status, found.length, out.raw == listing) == wanted, f"zk_listing of many: {found.status}"
+    for sizes in ((1_048_577, 3_000_000), (50_000, *[3] * 50)):
+        frames, lines = large_inputs.bodies(sizes)
+        with talk.Speaker(library, limit=16777216, waiting=1) as by_line, \
+                talk.Speaker(library, limit=16777216, waiting=1) as by_payload:
+            for (side, frame), line in zip(frames, lines):
+                status, place, said = answered(library, by_payload.handle, "CS".index(side.decode()), frame[4:])
+                yield "line", by_line.say(line.encode()) == frame, f"zk_speaker_say {line[:30]}: another frame"
+                yield "payload", status == place == 0, f"zk_speaker_say_payload {line[:30]}: {status} at {place}"
+
+
 def compare(talk, library, numbers):
     """Whether each answer is as it should be. `numbers` are those of statuses by their names."""
     yield from judge_payloads(library, numbers)
     yield from refuse_lines(talk, library, numbers)
     yield from refuse_payloads(talk, library, numbers)
     yield from list_whole(talk, library, numbers)
+    yield from have_memory(talk, library)

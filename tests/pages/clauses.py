@@ -7,8 +7,8 @@ a trait or type as `Type` (call, ..). Each such word must be the name of a claus
 crates/*/src, or of a call of that type; and what a table's last column names under one of the heads CARRYING a function
 or type. What any code of a page spells as `Type::call` or `crate::call` must be a function there, a variant, or spelled
 so by a source in Rattle or Rust, and a name of small letters with an underscore a word of some source, or a file's.
-What MUST_FAIL.md spells as `crate/edit` must be a must-fail edit there. Without arguments it reads the pages of
-words.py.
+The tables of MUST_FAIL.md, each under the heading of a crate, must have that crate's must-fail edits in their second
+column, all of them and no others. Without arguments it reads the pages of words.py.
 
 It prints what is wrong and one last line. The status is 0 if nothing is, and something was there to be checked.
 """
@@ -100,8 +100,8 @@ def owned(path, text):
 
 
 def in_sources():
-    """What a page may spell: the words of all sources and the names of files, and what each type and crate has."""
-    found = {path.name.partition(".")[0] for path in words.files()}
+    """What a page may spell: the words of all sources, the names of files and crates, and what each type and crate has."""
+    found = {path.name.partition(".")[0] for path in [*words.files(), *TOP.glob("crates/*")]}
     found.update(re.findall(r"\w+::\w+", TARGETS.read_text()))
     for path in words.sources():
         text = NOT_CODE.get(path.suffix, COMMENT).sub("", path.read_text(errors="replace"))
@@ -118,10 +118,13 @@ def spelled(page):
     return {"::".join(name.split("::")[-2:]) for name in SPELLED.findall(prose) if not name.startswith("_")}
 
 
-def edits(path, page):
-    """What the page of edits names that is none."""
-    return [f"there is no edit {crate}/{edit}" for crate, edit in re.findall(r"`(zk\w*)/(\w+)`", page)
-            if path.name == "MUST_FAIL.md" and not (TOP / "crates" / crate / "must-fail" / f"{edit}.edit").exists()]
+def edits(page):
+    """What the page of edits names that is none, and the edits that it lacks."""
+    named = {f"{crate}/{edit}" for crate, rows in re.findall(r"^## (zk\w+)(.*?)(?=^## |\Z)", page, re.M | re.S)
+             for column in re.findall(r"^\| [^|]* \| ([^|]*) \|", rows, re.M) for edit in re.findall(r"`(\w+)`", column)}
+    there = {f"{edit.parts[-3]}/{edit.stem}" for edit in TOP.glob("crates/*/must-fail/*.edit")}
+    return [*(f"there is no edit {name}" for name in sorted(named - there)),
+            *(f"no table has the edit {name}" for name in sorted(there - named))]
 
 
 def main():
@@ -133,7 +136,7 @@ def main():
         names = spelled(page)
         right += len(names & there)
         wrong += (f"{where}: no source has {name}" for name in sorted(names - there))
-        wrong += (f"{where}: {told}" for told in edits(path, page))
+        wrong += (f"{where}: {told}" for told in (edits(page) if path.name == "MUST_FAIL.md" else ()))
         for name in carried(page):
             if name in clauses or name in members:
                 right += 1

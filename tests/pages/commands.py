@@ -5,8 +5,8 @@
 A command is a line of four blanks, "$ " and the command; "> " in place of "$ " continues it. The lines of four blanks
 after it are what it prints, on standard output and standard error together. It has to end with the status 0, or with 1
 where it prints something, such as why a recording is refused. " .. " in such a line, or " .." at its end,
-matches any text; a line of ".." alone matches any lines. A time of day with its date matches any time, and a client's
-port at 127.0.0.1 any port.
+matches any text; a line of ".." alone matches any lines. A time of day with its date matches any time, a client's port
+at 127.0.0.1 any port, and what a watched reply NONODE took any number.
 
 The commands of a page run one after another with sh, in a new folder that has links to what is at the repository's top,
 so that files which they make are there for the next. The folder is their HOME, too, and has an empty folder bin.
@@ -52,7 +52,8 @@ MARK = re.compile(r"<!-- (not run|played): (.*) -->")
 STORED_RUN = "crates/zkdump/stdin"
 PLAYER = TOP / "tools" / "zkplay.py"
 SERVER, LISTENS = "localhost:2181", re.compile(r"(?<= )218[12](?= |$)")
-ANY = (re.compile(r"\b\d{4}-\d\d-\d\dT\d\d:\d\d:\d\d\.\d{3}Z"), re.compile(r"(?<=\b127\.0\.0\.1:)(?!218[12]\b)\d+"))
+ANY = (re.compile(r"\b\d{4}-\d\d-\d\dT\d\d:\d\d:\d\d\.\d{3}Z"), re.compile(r"(?<=\b127\.0\.0\.1:)(?!218[12]\b)\d+"),
+       re.compile(r"(?<=\bNONODE ms=)\d+(\.\d+)?$"))
 
 
 class Example:

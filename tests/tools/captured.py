@@ -19,7 +19,8 @@ sys.argv[0] = {tool!r}
 try:
     sys.exit(pcap2zkr.main())
 finally:
-    print(*[line for line in open("/proc/self/status") if "VmHWM" in line], file=sys.stderr, end="")
+    with open("/proc/self/status") as lines:
+        print(*[line for line in lines if "VmHWM" in line], file=sys.stderr, end="")
 """
 SMALL = [path for path in CAPTURES if path.stat().st_size < 60_000]
 

@@ -120,23 +120,32 @@ def long_latencies(folder, data):
     return made
 
 
+def multi(*parts):
+    """The body of a multi with these parts, each an operation's number and a body."""
+    return b"".join(struct.pack(">iBi", kind, 0, -1) + body for kind, body in parts) + struct.pack(">iBi", -1, 1, -1)
+
+
 def newer_recordings(folder, chance):
     """Recordings of requests that profiles lack among others, with their replies: in their turn, seldom out of it, with
-    other xids, errors and bodies, and with frames that are refused."""
+    other xids, errors and bodies, and with frames that are refused. Multis have parts of later releases, too."""
     numbers = (3, 3, 14, 15, 19, 21, 101, 105, 107, 4242, -77, 2**31 - 1)
     body = b"\0\0\0\2/a"
-    bodies = {3: body + b"\0", 101: bytes(20), 14: struct.pack(">iBi", 13, 0, -1) + body + bytes(4)
-              + struct.pack(">iBi", -1, 1, -1)}
+    bodies = {3: body + b"\0", 101: bytes(20)}
+    check, data, create = body + bytes(4), body + b"\0\0\0\1x" + bytes(4), body + bytes(4) + bytes(4) + bytes(4)
+    multis = [multi((13, check)), multi((2, check), (15, create)), multi((13, check), (1, create), (21, create + bytes(8))),
+              multi((19, create)), multi((5, data), (21, b""))[:-9], multi((2, b"\0\0\0\1\xff" + bytes(4)), (21, create)),
+              multi((9, body), (15, create)), multi((13, check), (19, b"\xff"))]
     for number in range(24):
         head, made, waiting, at = random_head(chance), bytearray(), collections.defaultdict(list), 0
         frames = [(b"C", bytes(24) + b"\0\0\0\x10" + bytes(17)), (b"S", bytes(20) + b"\0")]
         for xid in range(1, 60):
             if chance.random() < 0.55:
-                kind = chance.choice(numbers)
+                kind = chance.choice((3, 14, 14, 19, 101, 4242) if number % 3 else numbers)
                 own = chance.choice((xid, xid, xid, xid, -8 if kind in (101, 105) else xid, -2, 1))
                 if chance.random() > 0.03 and (own == -2 or kind == 11):
                     own, kind = -2, 11
-                asked = bodies.get(kind, b"" if kind == 11 else body)
+                asked = chance.choice(multis[:1] * 4 + multis * (number % 3)) if kind == 14 else \
+                    bodies.get(kind, b"" if kind == 11 else body)
                 waiting[own if own in (-2, -8) else None].append((own, kind))
                 frames.append((b"C", struct.pack(">ii", own, kind) + asked + b"!" * (chance.random() < 0.004)))
             elif lanes := [lane for lane in waiting.values() if lane]:

@@ -59,7 +59,8 @@ class BadInput(ToolCase):
             self.assert_ends(f"cat {LISTING} | TOOLS/{tool} /dev/stdin", 0, "")
         for path in (RECORDING, LISTING):
             self.assert_ends(f"cat {path} | TOOLS/zkreport.py --text /dev/stdin", 1, "zkreport.py: /dev/stdin is a "
-                             "pipe, and a report reads its files more than once: name a file\n")
+                             "pipe, and a report reads its files more than once: name a file, or - for a capture on "
+                             "standard input\n")
 
     def test_a_folder_as_standard_input(self):
         """Of each tool as a user runs it, and of one that is installed, which is a link to it."""

@@ -214,7 +214,7 @@ class Holes(FactsCase):
             status, out, err = self.run_tool("zkreport.py", "--text", "-o", page, *words)
             self.assertEqual((status, err), (1, ""))
             self.assertRegex(out.partition("\n")[0],
-                             r"^1 connections, 1 sessions, .* 0 failed, 0 unanswered, [1-9]\d* replies "
+                             r"^1 connection, 1 session, .* 0 failed, 0 unanswered, [1-9]\d* replies "
                              "not captured, 0 events$".replace("0 failed", r"\d+ failed"))
             self.assertIn("\nRequests whose replies, if there were any, were not captured\n", out)
             self.assertNotIn("\nUnanswered requests\n", out)
@@ -341,7 +341,7 @@ class Others(FactsCase):
             self.run_inside("pcap2zkr.py", "--times", capture, self.folder / str(number))
         names = [self.folder / f"{number}-1.zkr" for number in range(3)]
         self.assertEqual(len({facts.facts_of(name).connection()[:3] for name in names}), 1)
-        for words, wanted in ((names[:2], "2 connections, 2 sessions, "), (names[::2], "2 connections, 1 sessions, "),
+        for words, wanted in ((names[:2], "2 connections, 2 sessions, "), (names[::2], "2 connections, 1 session, "),
                               (names, "3 connections, 2 sessions, ")):
             for more in ((), ("--jobs", 2)):
                 status, out, err = self.run_tool("zkreport.py", "--text", *words, *more)

@@ -138,13 +138,13 @@ class Pcap2zkr(PcapCase):
         self.assertTrue(0 < count[0] < 800, count)
 
     def test_a_small_disk(self):
-        """Which has room for one recording, its times and its facts."""
-        disk, capture = small_disk(self, 3), self.folder / "capture"
+        """Which has room for the facts with which five recordings begin, for one recording, its times and its new facts."""
+        disk, capture = small_disk(self, 8), self.folder / "capture"
         sent = [wire.conversation([ASK, REPLY] * 4, close=False) for _ in range(5)]
         capture.write_bytes(wire.pcap([each for at, talk in enumerate(sent)
                                        for each in packed(talk, client=3000 + at)]))
         status, lines, told = self.run_tool("pcap2zkr.py", "--times", capture, disk / "r")
-        self.assertEqual((status, told), (3, f"pcap2zkr.py: {disk}/r-2.zkr: No space left on device\n"))
+        self.assertEqual((status, told), (3, f"pcap2zkr.py: {disk}/r-2.zkr.times: No space left on device\n"))
         self.assertEqual([line.split()[0] for line in lines.splitlines()], [f"{disk}/r-1.zkr"])
         self.assertEqual(sorted(path.name for path in disk.glob("r-*")), ["r-1.facts.json", "r-1.zkr", "r-1.zkr.times"])
         self.assertEqual(len(pieces((disk / "r-1.zkr").read_bytes())), 8)

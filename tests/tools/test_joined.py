@@ -36,7 +36,7 @@ class Joined(ToolCase):
             self.assertEqual(found["operations"].get("exists", {}).get("asked"), asked)
             self.assertEqual([each["n"] for each in found["unanswered"]], [5] if asked else [])
         found = self.said("zkreport.py", "--text", "--session", SESSION, lines=lines)
-        self.assertIn("1 connections, 1 sessions, 3 messages, 2 requests, 0 failed, 1 unanswered, 0 events\n", found)
+        self.assertIn("1 connection, 1 session, 3 messages, 2 requests, 0 failed, 1 unanswered, 0 events\n", found)
         self.assertIn('        5  exists     "/b"\n', found)
 
     def test_connections_of_a_session_are_in_order(self):

@@ -76,7 +76,8 @@ class Lossy(PcapCase):
         """A recording as a report takes it, its bytes, its times and its facts."""
         source, known = sources.Source(path, path), facts.facts_of(path)
         source.take_facts(known, joined)
-        return source, pathlib.Path(path).read_bytes(), [float(each) for each in open(f"{path}.times")], known
+        times = pathlib.Path(f"{path}.times").read_text("ascii").split()
+        return source, pathlib.Path(path).read_bytes(), list(map(float, times)), known
 
     def is_all(self, loss, made):
         every = tuple(b"".join(each.data for each in loss.talk.messages if each.side == side)

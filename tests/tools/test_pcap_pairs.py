@@ -114,8 +114,7 @@ class Kept:
 
 
 def zkr_made_up():
-    from tools.zkdump_tools.conversation import MADE_UP
-    return MADE_UP[zkr.CLIENT][4:]
+    return zkr.MADE_UP[zkr.CLIENT][4:]
 
 
 CASES = {"11 of 5,000 lost, depth 1": (1, 11, 0.995), "11 of 5,000 lost, depth 8": (8, 11, 0.99),

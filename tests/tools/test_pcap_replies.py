@@ -134,7 +134,7 @@ class Counted(RepliesCase):
             _, told, _ = self.convert(capture.read_bytes())
             self.assertEqual([line[0] for line in told], ["/", "-"])
             _, out, _ = self.run_inside("zkreport.py", "--text", capture)
-            self.assertRegex(out, "^1 connections, 1 sessions, ")
+            self.assertRegex(out, "^1 connection, 1 session, ")
 
     def test_two_connections_of_the_same_ends(self):
         said = [*CONNECT, ask(1), reply(1), ask(2), reply(2)]
@@ -144,7 +144,7 @@ class Counted(RepliesCase):
         capture = self.folder / "c.pcap"
         capture.write_bytes(capture_of([*sent, *later]))
         _, out, _ = self.run_inside("zkreport.py", "--text", capture)
-        self.assertRegex(out, "^2 connections, 1 sessions, ")
+        self.assertRegex(out, "^2 connections, 1 session, ")
 
     def test_parts_of_a_connection_are_one_by_their_facts(self):
         asked, answered = CONNECT
@@ -152,7 +152,7 @@ class Counted(RepliesCase):
         paths = sorted(self.folder.glob("r-*.zkr"))
         self.assertEqual(len(paths), 2)
         _, out, _ = self.run_inside("zkreport.py", "--text", *paths)
-        self.assertRegex(out, "^1 connections, 1 sessions, ")
+        self.assertRegex(out, "^1 connection, 1 session, ")
 
 
 class Many(RepliesCase):

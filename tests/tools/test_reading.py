@@ -52,6 +52,10 @@ NEWER = [ask(1, 21), ask(2, NUMBER), exists(3), ask(-8, 105, bytes(28)), answer(
 TOLD = f"are shown by number alone: -77 (1), 21 createTTL (1), 105 setWatches2 (1), 107 whoAmI (1), {NUMBER} (1)"
 
 
+def several(count, what):
+    return f"{count} {what}{'' if count == 1 else 's'}"
+
+
 class ReadingCase(ToolCase):
     """What both ways of reading find: by the lines of zkdump, and by columns where they can be made here."""
 
@@ -116,9 +120,9 @@ class ReadingCase(ToolCase):
         self.assertEqual({row[0]: tuple(map(int, row[1:4])) for row in self.rows(out, "Operations")}, wanted.counts())
         left = f"0 unanswered, {len(wanted.left())} not known" if status and wanted.left() else \
             f"{0 if status else len(wanted.left())} unanswered"
-        self.assertEqual(out.partition("\n")[0], f"1 connections, 1 sessions, {wanted.messages} messages, "
-                         f"{sum(each[0] for each in wanted.counts().values())} requests, "
-                         f"{sum(each[2] for each in wanted.counts().values())} failed, {left}, {wanted.events} events")
+        asked, failed = (sum(each[at] for each in wanted.counts().values()) for at in (0, 2))
+        self.assertEqual(out.partition("\n")[0], f"1 connection, 1 session, {several(wanted.messages, 'message')}, "
+                         f"{several(asked, 'request')}, {failed} failed, {left}, {several(wanted.events, 'event')}")
 
 
 class Reading(ReadingCase):

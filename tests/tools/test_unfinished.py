@@ -1,11 +1,16 @@
 """Tests of the facts that are written when a recording begins, and of what the tools say where no others took their
-place."""
+place; and of what zkfleet says of others by which bytes are missing."""
 
 import json
+import subprocess
+import sys
+import time
 
 from tools.zkdump_tools import facts
+from . import wire
+from .captured import packed
 from .proxied import TroubleCase
-from .support import PROGRAM, TOP, pieces
+from .support import PROGRAM, TOOLS, TOP, ToolCase, pieces, zkr
 
 RUN = TOP / "crates" / "zkdump" / "stdin"
 
@@ -71,3 +76,70 @@ class Unfinished(TroubleCase):
         self.assertTrue(facts.facts_of(self.folder / "again-1.zkr").open)
         self.run_inside("zkskip.py", path, self.folder / "plain.zkr")
         self.assertTrue(facts.facts_of(self.folder / "plain.zkr").unfinished)
+
+
+class Converted(ToolCase):
+    """A recording whose converter was ended by SIGKILL in the middle of a capture."""
+
+    def test_what_is_left_is_not_whole(self):
+        if not PROGRAM.exists():
+            self.skipTest("the program zkdump is not built")
+        hello, welcome = (data for _, _, data in pieces(RUN.read_bytes())[:2])
+        asked = [(b"C", bytes.fromhex("0000000f") + number.to_bytes(4, "big") + bytes.fromhex("00000003000000022f6100"))
+                 for number in range(1, 4000)]
+        sent = list(wire.conversation([zkr.Piece(side, None, data) for side, data in
+                                       ((b"C", hello), (b"S", welcome), *asked)]))
+        capture = wire.pcap(packed(sent[:-3]))      # without its end
+        converter = subprocess.Popen([sys.executable, TOOLS / "pcap2zkr.py", "-", self.folder / "r"],
+                                     stdin=subprocess.PIPE, stdout=subprocess.DEVNULL)
+        self.addCleanup(converter.stdin.close)
+        self.addCleanup(converter.wait)
+        self.addCleanup(converter.kill)
+        converter.stdin.write(capture)
+        converter.stdin.flush()
+        path, until = self.folder / "r-1.zkr", time.monotonic() + 30
+        while not (path.exists() and path.stat().st_size) and time.monotonic() < until:
+            time.sleep(0.02)
+        converter.kill()
+        converter.wait()
+        made = path.read_bytes()
+        self.assertTrue(0 < len(made) < 4 + len(hello) + len(welcome) + 24 * len(asked))
+        found = facts.facts_of(path)
+        self.assertEqual((found.unfinished, found.tool, found.client, found.connected),
+                         (True, "pcap2zkr", "10.0.0.7:41822", wire.BEGUN))
+        status, out, _ = self.run_inside("zkjson.py", path)
+        ending = json.loads(out.splitlines()[-1])
+        self.assertEqual((status, ending["waiting"], len(ending["notCaptured"]) > 1000, ending["facts"]["unfinished"]),
+                         (1, [], True, True))
+        status, out, _ = self.run_tool("zkfleet.py", "check", path)
+        self.assertEqual((status, out.splitlines()[2:]), (1, ["       1 unfinished"]))
+
+
+class Incomplete(ToolCase):
+    """Recordings of connections of which bytes are missing."""
+
+    def test_missing_bytes(self):
+        if not PROGRAM.exists():
+            self.skipTest("the program zkdump is not built")
+        run, known = RUN.read_bytes(), facts.Facts(closed="C", part=2)
+        made = {"a": (run, {}, "whole unanswered=0"),
+                "b": (run, {"hole": ("S",)}, "incomplete unanswered=0 hole=S"),
+                "c": (run, {"hole": ("C", "S")}, "incomplete unanswered=0 hole=C,S"),
+                "d": (run, {"lost": {"C": 0, "S": 96}}, "incomplete unanswered=0 lost=C:0,S:96"),
+                "e": (run, {"lost": {"C": 7, "S": 0}, "hole": ("C",)}, "incomplete unanswered=0 lost=C:7,S:0 hole=C"),
+                "f": (run[:-1], {"hole": ("S",)},     # the last reply has 20 bytes
+                      f"recording offset={len(run) - 20} reason=Short messages=3 hole=S")}
+        for name, (data, missing, _) in made.items():
+            path = self.folder / f"{name}.zkr"
+            path.write_bytes(data)
+            facts.write(path, known._replace(**missing))
+        status, out, err = self.run_tool("zkfleet.py", "check", "--all", self.folder)
+        self.assertEqual((status, err, out.replace(f"{self.folder}/", "").splitlines()),
+                         (1, "", [*(f"{name}.zkr: {told}" for name, (_, _, told) in made.items()),
+                                  f"6 recordings, {6 * len(run) - 1} bytes", "       4 incomplete",
+                                  "       1 recording", "       1 whole"]))
+        status, out, _ = self.run_tool("zkfleet.py", "check", "--json", self.folder / "e.zkr")
+        self.assertEqual((status, *map(json.loads, out.splitlines())),
+                         (1, {"recording": str(self.folder / "e.zkr"), "ending": "incomplete", "unanswered": 0,
+                              "lost": "C:7,S:0", "hole": "C"},
+                          {"recordings": 1, "bytes": len(run), "endings": {"incomplete": 1}, "refused": []}))

@@ -2,6 +2,7 @@
 
 import fcntl
 import os
+import re
 import socket
 import subprocess
 import sys
@@ -62,8 +63,9 @@ class Output(TroubleCase):
 
 class Programs(TroubleCase):
     def watched(self, count):
-        """The lines that zkwatch has printed of its connections, without the time, once there are `count` lines."""
-        return [line.partition(" ")[2] for line in self.lines(count + 1)[1:]]
+        """The lines that zkwatch has printed of its connections, without their times and what replies took, once there
+        are `count` lines."""
+        return [re.sub(r" ms=[\d.]+$", "", line.partition(" ")[2]) for line in self.lines(count + 1)[1:]]
 
     def test_a_program_that_does_not_run_is_reported_at_once(self):
         junk = self.folder / "junk"

@@ -9,7 +9,7 @@ from .support import CAPTURES, PROGRAM, TOP, ToolCase
 
 from tools.zkdump_tools import facts
 
-TABLES = r"""2 connections, 1 sessions, 20 messages, 10 requests, 2 failed, 1 unanswered, 1 events
+TABLES = r"""2 connections, 1 session, 20 messages, 10 requests, 2 failed, 1 unanswered, 1 event
 from 2023-11-14T22:13:20.000Z to 2023-11-14T22:13:25.201Z
 
 Sessions
@@ -130,7 +130,7 @@ class Zkreport(ToolCase):
         path.write_text(self.one.read_text() + "".join(json.dumps({"connection": f"c{number}", **ending}) + "\n"
                                                        for number in range(3000)))
         found = self.report("--text", "-o", page, path, self.other)
-        self.assertRegex(found, "^3002 connections, 1 sessions, 20 messages, ")
+        self.assertRegex(found, "^3002 connections, 1 session, 20 messages, ")
         self.assertIn("\nand 2800 more\n", found)
         self.assertLess(page.stat().st_size, 500_000)
         self.assertEqual(self.report("--text", "--jobs", 2, path, self.other), found)
@@ -159,8 +159,8 @@ class Zkreport(ToolCase):
 
     def test_a_listing_without_times(self):
         found = self.report("--text", self.listing("a.show", LISTING.format(**HERE)))
-        self.assertEqual(found.partition("\n")[0], "1 connections, 1 sessions, 9 messages, 4 requests, 0 failed, "
-                                                    "0 unanswered, 1 events")
+        self.assertEqual(found.partition("\n")[0], "1 connection, 1 session, 9 messages, 4 requests, 0 failed, "
+                                                    "0 unanswered, 1 event")
         self.assertIn("create         1         1       0           0       -       -       -       -\n", found)
         self.assertNotIn("Slowest", found)
 

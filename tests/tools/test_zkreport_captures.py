@@ -1,11 +1,16 @@
 """Tests of zkreport over captures and recordings: how connections began and ended, and where bytes are missing."""
 
+import fcntl
 import re
+import signal
 import subprocess
+import sys
+import termios
+import time
 import unittest.mock
 
 from . import wire
-from .support import CAPTURES, PROGRAM, TOP, ToolCase, pieces
+from .support import CAPTURES, PROGRAM, TOOLS, TOP, ToolCase, pieces
 
 from tools.zkdump_tools import facts
 from tools.zkdump_tools.report import gather, sources, summary
@@ -124,6 +129,32 @@ class Captures(ToolCase):
         self.assertEqual((status, err), (1, ""))
         self.assertIn(f"\nnot read: {path}: the capture ends within a packet, and was read up to there\n", out)
 
+    def test_a_capture_on_standard_input(self):
+        """It is reported as a file is: at its end, and where a signal ends the reading before that."""
+        if not PROGRAM.exists():
+            self.skipTest("the program zkdump is not built")
+        path = self.capture(next(each for each in CAPTURES if each.stem == "kazoo_basic"), close=False)
+        wanted = self.run_tool("zkreport.py", "--text", path)[1].replace("some.pcap", "-").split()
+        done = self.run_raw("zkreport.py", "--text", "-", stdin=path.read_bytes())
+        self.assertEqual((done.returncode, done.stderr, done.stdout.decode().split()), (0, b"", wanted))
+        for number in (signal.SIGINT, signal.SIGTERM):
+            reporter = subprocess.Popen([sys.executable, TOOLS / "zkreport.py", "-", "--text"], stdin=subprocess.PIPE,
+                                        stdout=subprocess.PIPE)
+            for end in (reporter.stdin, reporter.stdout):
+                self.addCleanup(end.close)
+            self.addCleanup(reporter.kill)
+            reporter.stdin.write(path.read_bytes())
+            reporter.stdin.flush()
+            until = time.monotonic() + 20
+            while fcntl.ioctl(reporter.stdin, termios.FIONREAD, bytes(4)) != bytes(4) and time.monotonic() < until:
+                time.sleep(0.05)        # until all is read
+            reporter.send_signal(number)
+            self.assertEqual((reporter.stdout.read().decode().split(), reporter.wait(20)), (wanted, 0))
+
+    def test_standard_input_is_read_once(self):
+        for words in (["-", "-"], ["-", "--jobs", "2"], ["-", "--against", "-"], ["-", self.folder]):
+            self.assert_bad_words("zkreport.py", "--text", *words)
+
     def test_a_capture_without_a_connection(self):
         path = self.folder / "none.pcap"
         path.write_bytes(wire.pcap([]))
@@ -144,7 +175,7 @@ class Captures(ToolCase):
         path.write_bytes(wire.pcap(packets))
         status, out, err = self.run_tool("zkreport.py", "--text", "-o", page, path)
         self.assertEqual((status, err), (0, ""))
-        self.assertRegex(out, r"^3001 connections, 1 sessions, \d+ messages, ")
+        self.assertRegex(out, r"^3001 connections, 1 session, \d+ messages, ")
         self.assertIn("\nand 2800 more\n", out)
         self.assertEqual(len(out.partition("\nSessions\n")[2].partition("\n\n")[0].splitlines()), 2)
         self.assertLess(page.stat().st_size, 500_000)
@@ -164,7 +195,7 @@ class Captures(ToolCase):
         for words in ((), ("--jobs", "2")):
             status, out, err = self.run_tool("zkreport.py", "--text", "--op", "sync", *words, *paths)
             self.assertEqual((status, err, out.splitlines()[0]), (
-                0, "", "1 connections, 1 sessions, 4 messages, 2 requests, 0 failed, 0 unanswered, 0 events"))
+                0, "", "1 connection, 1 session, 4 messages, 2 requests, 0 failed, 0 unanswered, 0 events"))
             self.assertEqual(re.findall(r"^ *(#\S+)  0x100003780a60000  a-1", out, re.M), ["#1.2", "#1.3"])
 
     def test_a_recording_without_an_ending(self):

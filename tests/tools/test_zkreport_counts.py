@@ -68,7 +68,7 @@ class Counts(ToolCase):
             text += [json.dumps({"connection": name, **each}) for each in (*lines.objects, ending)]
         path = self.listing("a.json", *text)
         found = self.report(path, status=1)
-        self.assertRegex(found, "^2 connections, 1 sessions, 6 messages, ")
+        self.assertRegex(found, "^2 connections, 1 session, 6 messages, ")
         self.assertEqual([" ".join(line.split()) for line in self.table(found, "Connections")], [
             "#1 0x7 a 10.0.0.2:2181 2023-11-14T22:13:20.000Z 0.02 s 1 0 0 0 not known: bytes are missing whole, hole=S",
             "#1.2 0x7 a.2 10.0.0.2:2181 2023-11-14T22:13:20.050Z 0.001 s 1 0 0 0 client: FIN whole, lost=C:0,S:9",
@@ -97,7 +97,7 @@ class Counts(ToolCase):
         path = self.listing("a.json", *later[:1], *first, *later[1:], *third)
         for words, labels in (((), ["#1", "#1.1", "#1.3"]), (("--op", "sync"), ["#1.1", "#1.2", "#1.3"])):
             found = self.report(*words, path, status=1)
-            self.assertRegex(found, "^1 connections, 1 sessions, ")
+            self.assertRegex(found, "^1 connection, 1 session, ")
             session, = self.table(found, "Sessions")
             self.assertEqual((session.split()[2], session.split()[8]), ("1", "-"))
             self.assertEqual([line.split()[0] for line in self.table(found, "Connections")], labels)

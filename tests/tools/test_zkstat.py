@@ -248,7 +248,8 @@ class Zkstat(ToolCase):
             listing = self.folder / "events.show"
             listing.write_text(LISTING, "ascii")
             report = self.run_tool("zkreport.py", "--text", "--path", path, listing)[1]
-            self.assertTrue(report.partition("\n")[0].endswith(f" {count} events"), report)
+            events = "1 event" if count == 1 else f"{count} events"
+            self.assertTrue(report.partition("\n")[0].endswith(f" {events}"), report)
 
     def test_the_connect_messages_that_pcap2zkr_makes_up_are_none(self):
         self.recordings()

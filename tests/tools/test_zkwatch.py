@@ -14,7 +14,7 @@ import unittest.mock
 from .proxied import STAND_IN, stand_in
 from .support import PROGRAM, TOOLS, TOP, ToolCase, pieces, receive, sides, zkr
 from ..unknown_operations import NAMED
-from tools.zkdump_tools import zkwatch
+from tools.zkdump_tools import shows
 
 RUN = TOP / "crates" / "zkdump" / "stdin"
 LISTING = """C connect version=0 zxid=0 timeout=30000 session=0 passwd=#00000000000000000000000000000000 ro=0
@@ -51,10 +51,11 @@ ENDINGS = (
     (f"C 0000000e 00000001 {DIGITS} 00000002 2f61  S 00000014 00000001 0000000000000005 00000000 00000000"
      "C 0000000f 00000002 00000003 00000002 2f61 02",
      [f"left out: C frame=1 xid=1 {NAME}, 14 bytes", f"left out: S frame=1 xid=1 {NAME}, 20 bytes",
-      ". refused side=C frame=2 offset=86 place=14 reason=BadBool"]),
+      "refused: side=C frame=2 offset=86 place=14 reason=BadBool, 19 bytes passed over", ". whole unanswered=0"]),
     # an exists whose last byte is no boolean, and what no profile has after it
     (f"C 0000000f 00000001 00000003 00000002 2f61 02 00000008 00000002 {DIGITS}",
-     [". refused side=C frame=1 offset=68 place=14 reason=BadBool"]),
+     ["refused: side=C frame=1 offset=68 place=14 reason=BadBool, 19 bytes passed over",
+      f"left out: C frame=2 xid=2 {NAME}, 8 bytes", ". whole unanswered=1"]),
     # the same, and a length that no frame has, before the reply
     (f"C 0000000e 00000001 {DIGITS} 00000002 2f61 ffffffff  S 00000014 00000001 0000000000000005 00000000 00000000",
      [f"left out: C frame=1 xid=1 {NAME}, 14 bytes",
@@ -68,7 +69,8 @@ ENDINGS = (
       'C 3 exists path="/a" watch=0', ". whole unanswered=3"]),
 )
 WHOLE = f". whole show --profile {zkr.NEWEST} --limit 16777216"       # the last line of STAND_IN
-LINE = re.compile(r"\d{4}-\d\d-\d\dT\d\d:\d\d:\d\d\.\d{3}Z (#\d+) (.*)")
+LINE = re.compile(r"\d{4}-\d\d-\d\dT\d\d:\d\d:\d\d\.\d{3}Z (#\d+) (.*?)(?: ms=(?:0|0\.\d*[1-9]|[1-9]\d*(?:\.\d*[1-9])?))?")
+REFUSED = re.compile(r" (?:\. refused|refused: )")
 UNREAD = "what follows is passed on, and not read"         # unless the connection is over first
 SECONDS = 20
 
@@ -121,9 +123,10 @@ class Zkwatch(ToolCase):
         return echo
 
     def lines(self, watcher):
-        """What it has printed of its connections, once it has ended: number and line."""
+        """What it has printed of its connections, once it has ended: number and line. The status says whether something
+        was refused."""
         out, err = watcher.communicate(timeout=SECONDS)
-        self.assertEqual((watcher.returncode, err), (0, ""))
+        self.assertEqual((watcher.returncode, err), (int(bool(REFUSED.search(out))), ""))
         return [LINE.fullmatch(line).groups() for line in out.splitlines()]
 
     def stopped(self, watcher):
@@ -289,25 +292,26 @@ class Zkwatch(ToolCase):
     def test_what_is_left_out_keeps_its_place(self):
         """Also where there is room for lines again just after its line had to wait."""
         told, is_full = [], iter([False, True, *[False] * 9])
-        watch = unittest.mock.Mock(command=["cat"], profile="3.4", head=zkr.Head(), due={})
-        watch.say_of, watch.lines.is_full = lambda _, line: told.append(line), lambda: next(is_full)
-        show = zkwatch.Show(watch, 1)
-        self.addCleanup(show.process.communicate)
+        watch = unittest.mock.Mock(command=["cat"], profile="3.4", head=zkr.Head(), due={}, delayed=set())
+        watch.say_of, watch.lines.is_full = lambda _, line, at: told.append((line, at)), lambda: next(is_full)
+        show = shows.Show(watch, 1)
+        self.addCleanup(show.lister.process.communicate)
         show.lines.extend([b"C 1 ping", b"S 1 ping"])
-        show.left.lines.append((1, zkr.CLIENT, 12, "left out"))
+        show.given.extend(shows.Given(zkr.frames.Frame(side, 1, b"", at), line, latency) for side, at, line, latency in (
+            (zkr.CLIENT, 1, None, None), (zkr.CLIENT, 2, "left out", None), (zkr.SERVER, 3, None, 2)))
         show.read()
         show.read()
-        self.assertEqual(told, ["C 1 ping", "left out", "S 1 ping"])
+        self.assertEqual(told, [("C 1 ping", 1), ("left out", 2), ("S 1 ping ms=2", 3)])
 
     def test_what_the_release_lacks_is_left_out(self):
-        """Each recording that 3.4 refuses is listed to its end, or to a fault that no release has."""
+        """Each recording that 3.4 refuses for that is listed to its end."""
         if not PROGRAM.exists():
             self.skipTest("the program zkdump is not built")
-        for path in sorted((TOP / "captures").glob("refused_*.zkr")):
+        for path in (TOP / "captures" / f"{name}.zkr" for name in (*NEWER, "refused_kazoo_create2")):
             listing = path.with_suffix(".show").read_text().splitlines()
             if path.stem in NEWER:
                 listing[2:] = NEWER[path.stem].splitlines()
-            elif path.stem == "refused_kazoo_create2":
+            else:
                 sizes, listing = self.sizes(path), path.with_suffix(".show35").read_text().splitlines()
                 listing = [re.sub(r"^(.) (\d+) create2 .*", lambda found: f"left out: {found[1]} frame={found[2]} "
                                   f"xid={found[2]} create2, {sizes[found[1], int(found[2])]} bytes", line)

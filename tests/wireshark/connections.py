@@ -1,5 +1,6 @@
 """Tests of the plugin for Wireshark that are about connections: pairs, losses, captures in disorder, and passes."""
 
+import collections
 import itertools
 import json
 import random
@@ -11,6 +12,7 @@ from .installed_plugin import TOP, joined, lossy, pieces_of, wire, zkr
 from ..tools.captured import disturbed
 from ..stored_listings import listings_of
 
+PROGRAM = TOP / "crates" / "zkdump" / "out" / "zkdump"
 CAPTURES = sorted((TOP / "captures").glob("*.zkr"))
 REFUSED = [path for path in CAPTURES if path.stem.startswith("refused")]
 WHOLE = [path for path in CAPTURES if path not in REFUSED]
@@ -33,9 +35,31 @@ def objects_of(path, profile):
     return [json.loads(line) for line in done.stdout.splitlines()][:-1]
 
 
-def endings():
-    """What is said of each refusal that a recording of captures/ has."""
-    return {listing[-1].partition(" refused ")[2] for _, _, listing in listings()}
+def refusals_of(path, profile):
+    """What is said of each refusal of a recording, by the program: a frame that is refused is left out, with the reply
+    to it, and what remains is read anew. So are those whose operation the profile lacks, of which nothing is said. A
+    first frame, and a length that no frame has, end it."""
+    cutter, frames, numbers, told = zkr.Cutter(), [], collections.Counter(), []
+    for frame in itertools.chain.from_iterable(map(cutter.take, pieces_of(path))):
+        numbers[frame.side] += 4 + len(frame.payload)
+        frames.append((frame.side, frame.number, numbers[frame.side], frame.payload))
+    while True:
+        recording = b"ZKR1" + b"".join(side + b"".join(size.to_bytes(4, "big") for size in (4 + len(payload), len(payload)))
+                                       + payload for side, _, _, payload in frames)
+        ending = subprocess.run([PROGRAM, "check", "--profile", profile], input=recording, capture_output=True,
+                                check=False).stdout.decode().splitlines()[-1]
+        found = re.search(r" refused side=(.) frame=(\d+) offset=\d+ (place=\d+ reason=(\w+).*)", ending)
+        if not found or found[4] == "LengthRange":
+            return told
+        mine = [frame for frame in frames if frame[0] == found[1].encode()]
+        refused = mine[int(found[2])]
+        if found[4] != "UnknownOp":
+            told.append(f"side={found[1]} frame={refused[1]} offset={refused[2]} {found[3]}")
+        if refused[1] == 0:
+            return told
+        at = frames.index(refused)
+        reply = next((frame for frame in frames[at:] if frame[0] == zkr.SERVER and frame[3][:4] == refused[3][:4]), None)
+        frames = [frame for frame in frames if frame is not refused and (frame is not reply or found[1] == "S")]
 
 
 class Connections:
@@ -82,7 +106,8 @@ class Connections:
                 yield from self.looked_over(capture, f"{share} lost, seed {seed}")
 
     def test_losses_of_the_refused(self):
-        """A connection that is refused is refused there alone, or, after a loss, nowhere."""
+        """A connection that is refused is refused where the whole one is, or, after a loss, nowhere."""
+        wanted = {told for path, profile, _ in listings() for told in refusals_of(path, profile)}
         for share in (0.02, 0.1):
             for seed in range(self.words.seeds):
                 chance = random.Random(seed)
@@ -92,7 +117,7 @@ class Connections:
                     text = self.plugin.read(capture, "-Y", "zookeeper.refused", "-T", "fields", "-e",
                                             "_ws.expert.message", profile=profile)
                     told = set(re.findall(r"Refused: (side=[^,\n]*)", text))
-                    yield told and told <= endings(), f"{share} lost, seed {seed}, {profile}: {told}"
+                    yield told and told <= wanted, f"{share} lost, seed {seed}, {profile}: {told}"
 
     def test_disturbed(self):
         """Captured twice, again with other cuts, in another order within eight."""

@@ -27,7 +27,7 @@ from . import expectations, installed_plugin, marked_bytes
 from .. import left_out, unknown_operations
 from ..stored_listings import listings_of
 from ..tools.reckoned import Reckoned
-from .connections import WHOLE, Connections, listings, objects_of
+from .connections import WHOLE, Connections, listings, objects_of, refusals_of
 from .installed_plugin import SOURCES, TOP, capture_of, joined, mutated, pieces_of, wire, zkr
 from .shown_messages import Shown
 from .unusual_captures import Odd
@@ -87,11 +87,11 @@ class Tests(Connections, Odd, Shown):
         yield cut and not any(each["refused"] for each in found), f"{len(cut)} cut"
 
     def test_lines(self):
-        """The line of each message is that of the listing, up to an operation that the profile lacks."""
+        """The line of each message is that of the listing, up to its end, or to what the listing refuses."""
         for path, profile, listing in listings():
             found = [message["line"][0] for message in self.plugin.frames_of(path, profile) if message["line"]]
             *lines, ending = listing
-            if "reason=UnknownOp" in ending:
+            if ending.startswith(". refused"):
                 found = found[:len(lines)]
             yield found == lines, f"{path.stem} under {profile}: {len(found)} lines, of {len(lines)}"
 
@@ -111,20 +111,20 @@ class Tests(Connections, Odd, Shown):
             yield len(secrets) > 1, f"{name} has {len(secrets)} secrets"
 
     def test_refusals(self):
-        """A refusal is that of the listing's last line. Operations that the profile lacks are left out, and not
-        refused."""
+        """A refusal is that of the listing's last line, and then those of what remains without what is refused, as the
+        program says them. Operations that the profile lacks are left out, and not refused."""
         for path, profile, listing in listings():
             if not listing[-1].startswith(". refused"):
                 continue
             found = self.plugin.frames_of(path, profile)
             told = self.plugin.read(capture_of(pieces_of(path)), "-O", "zookeeper", "-V", profile=profile)
-            told = sorted(set(re.findall(r"Refused: (side=.*?)\]", told)))
+            told = list(dict.fromkeys(re.findall(r"Refused: (side=.*?)\]", told)))
             if "UnknownOp" in listing[-1]:
                 good = not told and any(each["newer"] for each in found) and len(found) >= len(listing) - 1
             elif "LengthRange" in listing[-1]:
                 good = not told and not found[0]["kind"]  # the words of four letters, which are no frame
             else:
-                good = told == [listing[-1].partition(" refused ")[2]]
+                good = told == refusals_of(path, profile) and told[0] == listing[-1].partition(" refused ")[2]
             yield good, f"{path.stem} under {profile}: {told}, and the listing {listing[-1]}"
 
     def test_what_the_profile_lacks(self):
@@ -150,14 +150,14 @@ class Tests(Connections, Odd, Shown):
         for settings, cases in expectations.cases():
             limit, profile = settings
             capture = joined(list(wire.conversation(pieces)) for _, pieces, _ in cases)
-            told = collections.defaultdict(set)
+            told = collections.defaultdict(list)
             for line in self.plugin.read(capture, "-o", f"zookeeper.limit:{limit}", "-Y", "zookeeper.refused", "-T",
                                          "fields", "-e", "tcp.srcport", "-e", "tcp.dstport", "-e",
                                          "_ws.expert.message", profile=profile).splitlines():
                 *ports, text = line.split("\t")
-                told[max(map(int, ports)) - 40_000].update(re.findall(r"Refused: (side=[^,]*)", text))
+                told[max(map(int, ports)) - 40_000] += re.findall(r"Refused: (side=[^,]*)", text)
             for at, (name, _, ending) in enumerate(cases):
-                yield told[at] == ending, f"{name}: {told[at]}, not {ending}"
+                yield told[at][:1] == ending, f"{name}: {told[at]}, not {ending} first"
 
     def test_fields(self):
         """The fields of each message are those of zkjson's object."""

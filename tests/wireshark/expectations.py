@@ -46,8 +46,10 @@ PARTS = {"create": "1", "delete": "2", "setData": "5", "check": "13", "fail": "-
 CONNECTS = (("C", "00000000 0000000000000000 00007530 0000000000000000 00000010" + "00" * 17),
             ("S", "00000000 00007530 0100000000000001 00000010" + "00" * 17))
 # Payloads after those of the connect messages: an operation of a later release, exists, one that no release has, the
-# same under the xid of setWatches, and an exists with a wrong byte. Of each the fields that are shown; and what is said
-# of the refusal, which counts the client's frames of 49, 18, 19, 12, 40 and 19 bytes.
+# same under the xid of setWatches, a multi with a check and a createTTL, and an exists with a wrong byte. Of each the
+# fields that are shown; and what is said of the refusal, which counts the client's frames of 49, 18, 19, 12, 40, 75 and
+# 19 bytes.
+CHECKED, END = "0000000d 00 ffffffff 00000002 2f61 00000000", "ffffffff 01 ffffffff"
 LEFT_OUT = {"verdict": "3", "newer": ""}
 LATER, NONE = unknown_operations.NAMED.number, str(unknown_operations.NUMBER)
 NEWER = (
@@ -59,9 +61,27 @@ NEWER = (
     ("S", "00000001 0000000000000005 00000000 00000000", {**LEFT_OUT, "xid": "1", "op": str(LATER), "err": "0"}),
     ("S", "00000002 0000000000000005 ffffff9b", {"verdict": "0", "line": "S 2 exists zxid=5 err=-101/NONODE"}),
     ("S", "00000003 0000000000000005 fffffffa", {**LEFT_OUT, "xid": "3", "op": NONE, "err": "-6"}),
+    ("C", f"00000005 0000000e {CHECKED} 00000015 00 ffffffff 00000002 2f62 00000000 00000000 00000000 {'00' * 8} {END}",
+     {**LEFT_OUT, "xid": "5", "op": "14"}),
+    ("S", f"00000005 0000000000000005 00000000 0000000d 00 00000000 0000000f 00 00000000 00000002 2f62 {'00' * 68} {END}",
+     {**LEFT_OUT, "xid": "5", "op": "14", "err": "0"}),
     ("C", "00000004 00000003 00000002 2f61 02", {"verdict": "1", "refused": ""}),
 )
-REFUSED = "side=C frame=5 offset=157 place=14 reason=BadBool"
+REFUSED = "side=C frame=6 offset=232 place=14 reason=BadBool"
+# Payloads after those of the connect messages: an exists under xid 1 with a wrong byte, the client's 68th, and one under
+# xid 2; the replies to both; a reply to nothing, whose last byte is the server's 101st; and an exists with its reply. Of
+# each the fields that are shown.
+PASSED_OVER = {"verdict": "1", "refused": "", "passed_over": ""}
+RESUMED = (
+    ("C", "00000001 00000003 00000002 2f61 02", PASSED_OVER),
+    ("C", "00000002 00000003 00000002 2f61 01", {"verdict": "0", "line": 'C 2 exists path="/a" watch=1'}),
+    ("S", "00000001 0000000000000005 ffffff9b", {"verdict": "4"}),
+    ("S", "00000002 0000000000000005 ffffff9b", {"verdict": "0", "line": "S 2 exists zxid=5 err=-101/NONODE"}),
+    ("S", "00000003 0000000000000005 ffffff9b", PASSED_OVER),
+    ("C", "00000004 00000003 00000002 2f61 00", {"verdict": "0", "line": 'C 4 exists path="/a" watch=0'}),
+    ("S", "00000004 0000000000000005 ffffff9b", {"verdict": "0", "line": "S 4 exists zxid=5 err=-101/NONODE"}),
+)
+REFUSED_TWICE = ["side=C frame=1 offset=68 place=14 reason=BadBool", "side=S frame=3 offset=101 place=0 reason=Unasked"]
 
 
 def add_record(found, side, record):
@@ -119,7 +139,7 @@ def cases():
         if re.match(rb"[A-Za-z]{4}", client) or refused and "UnknownOp" in refused[1]:
             refused = None
         settings = int(options.get("--limit", zkr.USUAL_LIMIT)), options.get("--profile", "3.4")
-        found[settings].append((name, pieces, {refused[1]} if refused else set()))
+        found[settings].append((name, pieces, [refused[1]] if refused else []))
     return found.items()
 
 

@@ -5,11 +5,11 @@ import random
 import re
 import subprocess
 
-from .connections import IN_ORDER, WHOLE
-from .installed_plugin import TOP, capture_of, joined, packed, pieces_of, wire, zkr
+from . import expectations
+from .connections import IN_ORDER, PROGRAM, WHOLE
+from .installed_plugin import capture_of, joined, packed, pieces_of, wire, zkr
 from .unusual_captures import HEADS, piece
 
-PROGRAM = TOP / "crates" / "zkdump" / "out" / "zkdump"
 # Of a mutated byte; and reasons that the plugin has no refusal for, as it goes on there.
 BYTES, NO_REFUSAL = (0, 1, 0x7F, 0x80, 0xFF), ("UnknownOp", "BadPart")
 LATER = 21                  # createTTL
@@ -49,11 +49,11 @@ class Shown:
 
     def refusals(self, capture, *words):
         """What is said of refusals, by the client's port."""
-        told = collections.defaultdict(set)
+        told = collections.defaultdict(list)
         for line in self.plugin.read(capture, *words, "-Y", "zookeeper.refused", "-T", "fields", "-e", "tcp.srcport",
                                      "-e", "tcp.dstport", "-e", "_ws.expert.message").splitlines():
             *ports, text = line.split("\t")
-            told[max(map(int, ports))].update(re.findall(r"Refused: (side=[^,]*)", text))
+            told[max(map(int, ports))] += re.findall(r"Refused: (side=[^,]*)", text)
         return told
 
     def test_refusals_in_several_segments(self):
@@ -70,7 +70,7 @@ class Shown:
             for size in (1448, 16_000, 37):
                 for words in ((), IN_ORDER):
                     told = self.refusals(wire.pcap(packed(wire.conversation(pieces, size))), *words)
-                    yield [*told.values()] == [{wanted}], f"{size} bytes a segment, {words}: {told}, not {wanted}"
+                    yield [*told.values()] == [[wanted]], f"{size} bytes a segment, {words}: {told}, not {wanted}"
 
     def test_a_reply_that_was_held_back(self):
         """The request 2 isn't captured, and the last segment of reply 1, which has reply 2 after it and says that the
@@ -88,7 +88,8 @@ class Shown:
             yield found and not any(each["refused"] for each in found), f"{words}: refused"
 
     def test_refusals_of_mutated_recordings(self):
-        """Each recording with a wrong byte that zkdump refuses, in segments as they come, is refused with its words."""
+        """Each recording with a wrong byte that zkdump refuses, in segments as they come, is first refused with its
+        words."""
         chance, cases = random.Random(85), []
         while len(cases) < 150:
             pieces = mutated(WHOLE[len(cases) % len(WHOLE)], chance)
@@ -97,7 +98,25 @@ class Shown:
                 cases.append((pieces, ending.partition(" refused ")[2]))
         told = self.refusals(joined(list(wire.conversation(pieces)) for pieces, _ in cases))
         for at, (_, wanted) in enumerate(cases):
-            yield told[40_000 + at] == {wanted}, f"mutant {at}: {told[40_000 + at]}, not {wanted}"
+            yield told[40_000 + at][:1] == [wanted], f"mutant {at}: {told[40_000 + at]}, not {wanted}"
+
+    def test_what_follows_a_refusal(self):
+        """It is judged, as of a connection that is seen late; the refused message is noted as passed over, and its reply
+        isn't judged. After a length that no frame has, and a server that speaks first, nothing is judged."""
+        pieces = [*HEADS, *(piece(side.encode(), digits) for side, digits, _ in expectations.RESUMED)]
+        for words in ((), ("-2",)):
+            found = self.plugin.frames(capture_of(pieces), *words)
+            for (*_, fields), each in zip(expectations.RESUMED, found[2:]):
+                names = {*fields, "line", "refused", "passed_over", "malformed"}
+                shown = {name: each[name] for name in sorted(names) if each[name]}
+                yield shown == {name: [fields[name]] for name in sorted(fields)}, f"{words}: {shown}, not {fields}"
+            yield len(found) == len(pieces), f"{words}: {len(found)} messages of {len(pieces)}"
+        told = self.refusals(capture_of(pieces))
+        yield [*told.values()] == [expectations.REFUSED_TWICE], f"{told}, not {expectations.REFUSED_TWICE}"
+        for pieces in ([*HEADS, zkr.Piece(zkr.CLIENT, 0, b"\xff" * 4), asked(1), answered(1)], [*HEADS[::-1], asked(1)]):
+            found = self.plugin.frames(capture_of(pieces), "-2")
+            yield not any(each["passed_over"] for each in found), "a refusal after which nothing is judged"
+            yield found and {*found[-1]["verdict"]} <= {"2"}, f"the last verdict is {found[-1]['verdict']}"
 
     def test_connect_is_a_pair(self):
         """It takes the milliseconds between its packets, in a row of its own, on either pass, and whichever of the two

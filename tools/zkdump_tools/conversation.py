@@ -2,10 +2,9 @@
 
 A connection has one recording up to the first bytes that were not captured, PREFIX-1.zkr, and one of what follows each
 such loss, PREFIX-1.2.zkr and so on, as far as that can be known (stretches.py). The later ones begin with a made-up
-connect request and connect response, with -1 for every number.
+connect request and connect response, with -1 for every number. A series makes the recordings and prints the lines:
+pcap2zkr's makes files (recordings.py), and that of zkwatch shows what would be in them (live.py).
 """
-
-import struct
 
 from . import contents, facts, frames, resync, zkr
 from .parts import Message, Part
@@ -13,9 +12,6 @@ from .streams import SIDES
 from .stretches import Stretches
 
 EVENT = resync.EVENT.to_bytes(4, "big", signed=True)
-# A connect request and a connect response that no peer sends: every number is -1, and the password is null.
-MADE_UP = {zkr.CLIENT: struct.pack(">iiqiqi", 28, -1, -1, -1, -1, -1),
-           zkr.SERVER: struct.pack(">iiiqi", 20, -1, -1, -1, -1)}
 
 
 class Conversation:
@@ -91,8 +87,7 @@ class Conversation:
                 return
         found = self.cutter.take(zkr.Piece(side, milliseconds, data))
         for at, frame in enumerate(found):
-            payload = frame.payload
-            whole = len(payload).to_bytes(4, "big") + payload
+            payload, whole = frame.payload, frame.whole()
             if side not in self.connected:
                 self.connect(side, number, milliseconds, whole)
             elif side == zkr.SERVER and self.unfinished:
@@ -190,19 +185,22 @@ class Conversation:
 
     def put(self, part, message):
         """Writes a message of a part, or bytes that had been written before."""
-        if message.number is None:
-            part.recording.piece(*message[1:2], *message[3:])
+        _, side, number, milliseconds, data = message
+        if number is None:
+            part.recording.piece(side, milliseconds, data)
+        elif part.recording:
+            part.recording.take(side, number, milliseconds, data)
         else:
-            self.record(part, *message[1:])
+            self.record(part, side, number, milliseconds, data)
 
     def record(self, part, side, number, milliseconds, data):
         """Writes bytes of a part."""
         if not part.recording:
-            part.recording, self.number, self.part = self.series.next(self.number, self.part)
+            part.recording, self.number, self.part = self.series.next(self.known(part), self.number)
             part.part = self.part
             if not part.whole:
                 for each in SIDES:
-                    part.recording.take(each, number, milliseconds, MADE_UP[each])
+                    part.recording.take(each, number, milliseconds, zkr.MADE_UP[each])
         part.recording.take(side, number, milliseconds, data)
 
     def hole(self, side, size):
@@ -261,31 +259,35 @@ class Conversation:
         """Ends the recording of a part, which others follow."""
         self.report(part, *part.recording.last())
 
+    def known(self, part):
+        """The facts of a part that are known when its recording begins."""
+        return facts.Facts(
+            tool="pcap2zkr", client=self.client, server=self.server, connected=self.began, begun=part.began,
+            part=self.part, session=self.session, profile=self.series.profile(),
+            late=self.late and not any(part.lost.values()), snapped=self.stream.snapped, lost=by_letter(part.lost))
+
     def report(self, part, last, ended, how=None):
         """Ends the recording of a part, where there is one; writes its facts, and prints its line. `how` has the
         facts of the connection's end, where it ends here."""
         recording, lost, whole = part.recording, any(part.lost.values()), self.series.join or not self.late
-        path, count = "-", dict.fromkeys(SIDES, 0)
+        count = dict.fromkeys(SIDES, 0)
         if recording:
             recording.close()
             self.series.open.discard(recording)
-            path, count = recording.path, recording.count
+            count = recording.count
         first, began = (recording.first, recording.began) if lost and recording else (part.first, part.began)
-        known = facts.Facts(
-            tool="pcap2zkr", client=self.client, server=self.server, connected=self.began, begun=began, ended=ended,
-            part=part.part, session=self.session, profile=self.series.profile(), late=self.late and not lost,
-            snapped=self.stream.snapped, lost=by_letter(part.lost), unasked=part.unasked,
-            overlooked=part.overlooked,
+        known = self.known(part)._replace(
+            begun=began, ended=ended, part=part.part, unasked=part.unasked, overlooked=part.overlooked,
             skipped=by_letter(part.skipped) if whole and not part.whole else None,
             hole=tuple(side.decode() for side in SIDES if side in part.holes and whole), **how or {})
         if recording:
             recording.write_facts(known)
         words = known.words()
         self.left_out |= len(words) > len(how or ())
-        self.series.say(" ".join([
-            path, f"{self.client} > {self.server}", "begun", zkr.clock(began), "ended", zkr.clock(ended),
+        self.series.say(recording, " ".join([
+            f"{self.client} > {self.server}", "begun", zkr.clock(began), "ended", zkr.clock(ended),
             f"client={count[zkr.CLIENT]}", f"server={count[zkr.SERVER]}", f"packets={first}-{last}",
-            f"resent={self.stream.resent - self.resent}", *words]))
+            f"resent={self.stream.resent - self.resent}", *words]), ended)
         self.resent, self.reported = self.stream.resent, True
 
 

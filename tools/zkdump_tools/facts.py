@@ -20,6 +20,7 @@ from .operations import PROFILES
 VERSION, MARKED, LONGEST = 1, 1 << 16, 1 << 16
 SIDES = ("C", "S")
 NO_BYTES = {"C": 0, "S": 0}
+MISSING = {"lost", "hole", "unfinished"}     # the facts by which bytes are missing, or may be
 PRINTABLE, LONGEST_NAME = re.compile("[!-~]{1,200}"), 300
 SESSION = re.compile("0x[0-9a-f]{1,16}")
 

@@ -51,6 +51,10 @@ class Frame(NamedTuple):
     payload: bytes
     milliseconds: Optional[float]
 
+    def whole(self):
+        """Its bytes, with the length."""
+        return len(self.payload).to_bytes(LENGTH, "big") + self.payload
+
 
 class Cutter:
     """Cuts the bytes of sides into frames; `limits` has the greatest payload of each side. `held` has what is left of

@@ -1,6 +1,7 @@
 """Opens what a tool is to read: listings, recordings, and lines that zkjson has made, with the times of messages."""
 
 import argparse
+import contextlib
 import itertools
 import os
 import stat
@@ -44,9 +45,8 @@ def conversations(parser, words, objects, progress, before_read=lambda: None, fa
     refuse_repetition(parser, words.inputs)
     for path in words.inputs or [listing.STANDARD_INPUT]:
         try:
-            with packed.recording(path) as file, \
-                    zkr.standard_input() if path == listing.STANDARD_INPUT else open(file, "rb") as stream:
-                talk = conversation(parser, words, file, stream, objects, progress, before_read, fast)
+            with packed.recording(path) as file, contextlib.ExitStack() as opened:
+                talk = conversation(parser, words, file, opened, objects, progress, before_read, fast)
                 talk.file = path
                 if file != path:
                     talk.name = talk.connection.name = path
@@ -55,8 +55,10 @@ def conversations(parser, words, objects, progress, before_read=lambda: None, fa
             raise ValueError(f"{words.recording or path}: {damage}") from None
 
 
-def conversation(parser, words, path, stream, objects, progress, before_read, fast=None, known=UNREAD):
-    """The conversation of one input; `known` are the facts of the recording, where they were read before."""
+def conversation(parser, words, path, opened, objects, progress, before_read, fast=None, known=UNREAD):
+    """The conversation of one input, whose files `opened` closes; `known` are the facts of the recording, where they were
+    read before."""
+    stream = opened.enter_context(zkr.standard_input() if path == listing.STANDARD_INPUT else open(path, "rb"))
     times, name = None, words.recording or path
     source = "standard input" if path == listing.STANDARD_INPUT else path
     mark = stream.peek(4)[:4]
@@ -75,10 +77,10 @@ def conversation(parser, words, path, stream, objects, progress, before_read, fa
         if found := columns_of(words, path, fast, known, progress):
             return found
         lines = lines_of_show(parser, words, path, before_read)
-        times = times_of(parser, path, words.times, False)
+        times = times_of(parser, path, words.times, False, opened)
     else:
         if words.recording:
-            times = times_of(parser, words.recording, words.times, True)
+            times = times_of(parser, words.recording, words.times, True, opened)
         elif words.times:
             parser.error(f"--times is for a recording, and {source} is a listing: add --recording with its recording")
         lines = listing.lines_of(stream, before_read)

@@ -1,12 +1,9 @@
-"""Recordings that are packed with gzip: each is unpacked to a folder of its own, with what is beside it."""
+"""Recordings that are packed with gzip: each is unpacked to a folder of its own, with what is beside it. What unpacks
+them is loaded where there is one, since it takes longer to load than many recordings to read."""
 
 import contextlib
-import gzip
 import os
-import pathlib
 import shutil
-import tempfile
-import zlib
 
 from . import facts, zkr
 
@@ -17,6 +14,8 @@ def is_packed(path):
     """Whether there is a file at this path that is a packed recording, and no pipe, capture or other packed file."""
     if not os.path.isfile(path) or not zkr.begins_with(path, GZIP):
         return False
+    import gzip
+    import zlib
     try:
         with gzip.open(path) as file:
             return file.read(4) in zkr.MARKS
@@ -27,6 +26,8 @@ def is_packed(path):
 def unpack(path, folder):
     """Unpacks a packed recording to this folder, and returns where it is. Its times and its facts are those beside a
     recording of its name without .gz, and may be packed, too. An OSError where it is damaged or cut."""
+    import gzip
+    import zlib
     made = os.path.join(folder, os.path.basename(path).removesuffix(SUFFIX))
     try:
         with gzip.open(path) as packed, open(made, "xb") as out:
@@ -49,6 +50,7 @@ def recording(path):
     if not is_packed(path):
         yield path
         return
+    import tempfile
     with tempfile.TemporaryDirectory(prefix="zkdump-") as folder:
         made = unpack(path, folder)
         try:
@@ -61,4 +63,7 @@ def recording(path):
 
 def in_folder(path, folder):
     """The path of a recording that isn't packed, as `recording` has it, in a new folder within this one."""
-    return unpack(path, tempfile.mkdtemp(dir=folder)) if is_packed(path) else path
+    if not is_packed(path):
+        return path
+    import tempfile
+    return unpack(path, tempfile.mkdtemp(dir=folder))

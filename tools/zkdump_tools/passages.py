@@ -78,6 +78,12 @@ def name_of(number):
     return found.name if found else str(number)
 
 
+def header_words(zxid, err):
+    """What a line has of a reply's header."""
+    name = errors.NAMES.get(err)
+    return f"zxid={zxid}" + (f" err={err}{f'/{name}' if name else ''}" if err else "")
+
+
 def number_of(name):
     """The number of an operation that has this name, or that is called by its number."""
     found = operations.BY_NAME.get(name)
@@ -197,9 +203,7 @@ class Passage:
         elif lane[0].out and lane[0].xid != xid:
             self.refuse(frame, f"XidOrder expected={lane[0].xid} got={xid}")
         elif (turn := lane.popleft()).out:
-            name = errors.NAMES.get(err)
-            failed = f" err={err}{f'/{name}' if name else ''}" if err else ""
-            return f"S {xid} ?{name_of(turn.operation)} zxid={zxid}{failed}"
+            return f"S {xid} ?{name_of(turn.operation)} {header_words(zxid, err)}"
         return None
 
     def refuse(self, frame, reason):
@@ -244,7 +248,7 @@ class Feeder(threading.Thread):
         try:
             for piece in pieces:
                 for frame, line in passage.take(piece):
-                    whole = len(frame.payload).to_bytes(4, "big") + frame.payload
+                    whole = frame.whole()
                     self.marks.append((frame.side, len(whole), line) if line else None)
                     if not line:
                         self.give(frame.side, whole)

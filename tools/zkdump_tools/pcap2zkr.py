@@ -33,6 +33,7 @@ left out, or if the capture has no connection to the port.
 
 import contextlib
 import ipaddress
+import math
 import signal
 import struct
 import sys
@@ -45,6 +46,9 @@ from .streams import MASK, Budget, Stream
 
 MOST_HELD = MOST_WAITING = 1 << 25
 MOST_SILENT, MOST_LINGERING, MOST_OVER, MOST_PORTS = 8192, 256, 8192, 8
+# Of a live capture, in milliseconds: how long bytes may wait for missing ones that were received, and for others, and
+# how long a connection may be silent.
+PATIENCE, LONG_PATIENCE, SILENCE = 1000, 60_000, 600_000
 DAMAGED = (struct.error, IndexError, zlib.error)
 
 
@@ -57,11 +61,13 @@ def address_text(ends, at):
 
 
 class Capture:
-    """All connections of a capture."""
+    """All connections of a capture to a port of the server. `series` makes their recordings. Where it is `live`, none
+    waits for the connection's end or for much to wait: by the times of the packets, bytes that are missing count as lost
+    in a moment, and what is over or silent ends."""
 
-    def __init__(self, words, head):
-        self.port, self.begun, self.left_out, self.passed_over = words.port, 0, False, set()
-        self.series = Series(words.prefix, head, words.times, words.late, Budget(MOST_WAITING))
+    def __init__(self, port, series, live=False):
+        self.port, self.series, self.live, self.begun, self.left_out, self.passed_over = \
+            port, series, live, 0, False, set()
         self.budget, self.heard = Budget(MOST_HELD), {}
         # By the ends of a direction, the half of a connection, or where the bytes of one that is over were. And the
         # connections of which no byte was captured yet, and those of which no more is expected, the oldest first.
@@ -95,10 +101,14 @@ class Capture:
 
     def read(self, stream):
         """Reads a capture up to its end, or up to a signal."""
-        progress, halves, failed = zkr.Progress("pcap2zkr.py", bool(sys.stderr)), self.halves, None
+        progress, halves, failed = zkr.Progress("pcap2zkr.py", bool(sys.stderr) and not self.live), self.halves, None
+        due = 0 if self.live else math.inf
         try:
             for segment in packets.segments(stream, self.pass_over):
                 number, milliseconds, ends, _, _, sequence, acknowledged, flags, data, snapped = segment
+                if milliseconds > due:
+                    self.tend(milliseconds)
+                    due = milliseconds + PATIENCE / 4
                 half = halves.get(ends)
                 if half is None or flags & packets.SYN:
                     half = self.half_of(half, segment)
@@ -115,7 +125,7 @@ class Capture:
         progress.end()
         # Where one recording can't be written, the others are left as they are.
         if not getattr(failed, "filename", None):
-            for stream in list(dict.fromkeys(half.stream for half in halves.values())):
+            for stream in self.streams():
                 self.finish(stream)
         if failed:
             raise failed
@@ -194,6 +204,18 @@ class Capture:
             if not holding[-1].give_up():
                 holding.pop()
 
+    def streams(self):
+        """The connections that aren't over."""
+        return dict.fromkeys(half.stream for half in self.halves.values())
+
+    def tend(self, now):
+        """Continues after bytes that are missing since long before this moment, and ends what is over or silent."""
+        for stream in list(self.streams()):
+            while stream.held and stream.is_overdue(now - PATIENCE, now - LONG_PATIENCE) and stream.give_up():
+                pass
+            if stream.last_time < now - (PATIENCE if stream.is_over() else SILENCE):
+                self.finish(stream)
+
     def forget_silent(self):
         """Ends the oldest of the connections of which no byte was captured."""
         for stream in list(self.silent)[:MOST_SILENT // 4]:
@@ -233,33 +255,42 @@ def words_of():
     return words, parser.head_of(words)
 
 
-def main():
-    words, head = words_of()
-    if not sys.stdout:
-        zkr.complain("standard output is closed")
-        return 3
-    capture = Capture(words, head)
+def converted(capture, name, stream):
+    """Converts a capture that is called so, to its end or to a signal, and reports what goes wrong. The status."""
     try:
-        with zkr.standard_input() if words.capture == "-" else open(words.capture, "rb") as stream:
-            capture.convert(stream)
+        capture.convert(stream)
     except EOFError:
-        zkr.complain(f"{words.capture}: the capture ends within a packet, and was read up to there")
+        zkr.complain(f"{name}: the capture ends within a packet, and was read up to there")
         return 1
     except DAMAGED:
-        zkr.complain(f"{words.capture}: the capture is damaged, and was read up to there")
+        zkr.complain(f"{name}: the capture is damaged, and was read up to there")
         return 3
     except OSError as error:
         left = ", ".join(capture.series.begun())
-        zkr.complain(f"{error.filename or words.capture}: {error.strerror or error}"
-                 + f"; these recordings are not complete: {left}" * bool(left))
+        zkr.complain(f"{error.filename or name}: {error.strerror or error}"
+                     + f"; these recordings are not complete: {left}" * bool(left))
         return 3
     except packets.NotRead as error:
-        zkr.complain(f"{words.capture}: {error}")
+        zkr.complain(f"{name}: {error}")
         return 3
     if capture.series.unsaid:
         zkr.complain(f"standard output: {capture.series.unsaid.strerror}; the recordings are complete, and lines are "
                      "lost")
         return 3
     if not capture.begun:
-        zkr.complain(f"{words.capture}: no connection to port {words.port}{capture.ports_heard()}")
+        zkr.complain(f"{name}: no connection to port {capture.port}{capture.ports_heard()}")
     return 1 if capture.left_out or not capture.begun else 0
+
+
+def main():
+    words, head = words_of()
+    if not sys.stdout:
+        zkr.complain("standard output is closed")
+        return 3
+    capture = Capture(words.port, Series(words.prefix, head, words.times, words.late, Budget(MOST_WAITING)))
+    try:
+        with zkr.standard_input() if words.capture == "-" else open(words.capture, "rb") as stream:
+            return converted(capture, words.capture, stream)
+    except OSError as error:
+        zkr.complain(f"{words.capture}: {error.strerror or error}")
+        return 3

@@ -1,11 +1,9 @@
 """A proxy that passes connections on, each with an observer: what record.py and zkwatch.py have in common.
 
-One loop serves all connections, and nothing in it waits: not for an end that doesn't read, not for a file or a process,
-and not for the reader of its lines. An end of one direction is passed on, and so is a reset.
+One loop (loop.py) serves all connections. An end of one direction is passed on, and so is a reset.
 
 Descriptors are set aside before a client is taken, since a client that can't be passed on is worse than one that waits.
 Where many clients come or end at once, some are taken or ended at a time, and the connections served between.
-Lines are written by a thread. What `show` has not read is held up to a bound; then that connection is passed on unread.
 """
 
 import collections
@@ -13,22 +11,17 @@ import errno
 import gc
 import itertools
 import os
-import selectors
-import signal
 import socket
 import struct
 import time
 
 from . import zkr
 from .addresses import address_text
-from .printer import Printer
+from .loop import BLOCK, READ, WRITE, Loop
 
-BLOCK = 65536
-READ, WRITE = selectors.EVENT_READ, selectors.EVENT_WRITE
 AT_ONCE = 16                # the most clients that are accepted, begin, and end, before the connections come again
 MOMENT = 0.01               # the seconds after which no more of them begin and end, where files or processes take long
 REST = 0.1                  # the seconds without new clients, once the system has no room for one
-LAST_WORDS = 30             # the seconds that observers have to end, unless a second signal comes
 
 
 def set_options(end):
@@ -221,7 +214,7 @@ class Room:
         self.give(len(self.held))
 
 
-class Proxy:
+class Proxy(Loop):
     """Accepts clients' connections and passes them on, until a signal comes. In a derived class `observer_of` returns
     a connection's observer: its `piece(side, data)` is called before the bytes are passed on, and its `over()` once the
     connection has ended.
@@ -232,22 +225,13 @@ class Proxy:
     descriptors = 0         # the most descriptors of an observer
 
     def __init__(self, name, server):
-        self.server, self.ready = server, selectors.DefaultSelector()
-        self.connections, self.listeners, self.waits, self.due = set(), [], set(), {}
+        super().__init__(name)
+        self.server, self.connections, self.listeners = server, set(), []
         self.connected, self.ended = collections.deque(), collections.deque()
-        self.signals, self.over = 0, False
         self.numbers = itertools.count(1)
-        self.heard, self.bell = socket.socketpair()
-        self.bell.setblocking(False)
-        self.complaints = Printer(2, f"{name}: ")
-        self.lines = Printer(1, failed=self.not_printed)
 
     def observer_of(self, connection):
         raise NotImplementedError
-
-    def busy(self):
-        """Whether an observer has something left to do after its connection is over."""
-        return False
 
     def taken(self, connection):
         """Called when a client's connection begins."""
@@ -256,43 +240,15 @@ class Proxy:
         """Reports that a client's connection has ended, since there is none to the server."""
         raise NotImplementedError
 
-    def say(self, text):
-        """Writes a line on standard output. Where nobody reads it any more, the connections continue."""
-        if not self.lines.print(text):
-            self.complaints.print_once("nobody reads standard output, so lines are lost; the connections go on")
-
-    def not_printed(self, error):
-        """Called in a thread where a line could not be written."""
-        self.complaints.print_once(f"standard output: {error.strerror}; lines are lost, and the connections go on")
-
-    def wait_for(self, file, events, who=None):
-        """Waits for these events of a file, in place of those before: `who.step(file, events)` is then called."""
-        if events and file in self.waits:
-            self.ready.modify(file, events, who)
-        elif events:
-            self.ready.register(file, events, who)
-            self.waits.add(file)
-        elif file in self.waits:
-            self.ready.unregister(file)
-            self.waits.discard(file)
-
-    def after(self, seconds, call):
-        """Calls `call` once, after `seconds`."""
-        self.due[call] = time.monotonic() + seconds
-
     def run(self, listeners):
         """Passes on until a signal comes, and then ends every connection."""
-        signal.set_wakeup_fd(self.bell.fileno())
-        for number in (signal.SIGINT, signal.SIGTERM, signal.SIGHUP):
-            signal.signal(number, lambda *_: None)
-        self.wait_for(self.heard, READ, self)
+        self.hear_signals()
         self.listen(listeners)
         gc.freeze()         # what was loaded so far is no garbage, and takes milliseconds to look through
         while not self.signals and not self.over:
             self.turn()
         self.stop()
-        self.lines.end()
-        self.complaints.end()
+        self.end_lines()
 
     def listen(self, listeners):
         """Begins to accept clients on these."""
@@ -304,35 +260,26 @@ class Proxy:
 
     def turn(self, seconds=None):
         """Does what is ready or due; it waits for that, for `seconds` at most."""
-        if self.due:
-            left = max(0, min(self.due.values()) - time.monotonic())
-            seconds = left if seconds is None else min(seconds, left)
-        for key, events in self.ready.select(0 if self.connected or self.ended else seconds):
-            if key.fileobj in self.waits:
-                key.data.step(key.fileobj, events)
+        self.serve(0 if self.connected or self.ended else seconds)
         until = time.monotonic() + MOMENT
         for connection in some(self.connected, until):
             connection.begin()
         for connection in some(self.ended, until):
             connection.over()
-        now = time.monotonic()
-        for call in [call for call, moment in self.due.items() if moment <= now]:
-            del self.due[call]
-            call()
+        self.call_what_is_due()
 
     def stop(self):
         """Ends every connection, and gives the observers time for their last lines."""
         for listener in self.listeners:
             self.wait_for(listener, 0)
+            listener.close()
         self.listeners = []
         for connection in self.connections.difference(self.ended):
             connection.close()
         self.connected.clear()
         while self.ended:
             self.ended.popleft().over()
-        until, self.signals = time.monotonic() + LAST_WORDS, 0
-        while self.busy() and time.monotonic() < until and not self.signals:
-            self.turn(0.05)
+        super().stop()
 
     def take_clients(self):
         for listener in self.listeners:
@@ -346,10 +293,10 @@ class Proxy:
             self.wait_for(listener, 0)
         self.after(REST, self.take_clients)
 
-    def step(self, file, _events):
+    def step(self, file, events):
         """Counts signals, or accepts clients."""
         if file is self.heard:
-            self.signals += len(self.heard.recv(BLOCK))
+            super().step(file, events)
         else:
             self.accept(file)
 

@@ -12,18 +12,36 @@ GATHERED, MOST_GATHERED, LEAST_GATHERED = 1 << 16, 1 << 23, 1 << 11
 BLOCKS = 64         # of a recording's end, in which something can be taken back
 
 
-class Recording(zkr.Writer):
+class Noted:
+    """Which packets a recording is of: the number and the time of the first one, and by the side those of the last
+    ones. In a derived class `piece` takes bytes of a side."""
+
+    def __init__(self):
+        self.first, self.began, self.ends = None, None, {}
+
+    def take(self, side, number, milliseconds, data):
+        """Takes bytes of the packet of this number."""
+        if self.first is None:
+            self.first, self.began = number, milliseconds
+        self.ends[side] = number, milliseconds
+        self.piece(side, milliseconds, data)
+
+    def last(self):
+        """The number and the time of its last packet."""
+        return max(self.ends.values())
+
+
+class Recording(Noted, zkr.Writer):
     """A new recording, whose files are open only while something is written: there may be any number of them.
 
     `blocks` has of each of the last places up to which it was written the size of the recording, that of its times, and
     the numbers of the client's and the server's bytes.
     """
 
-    def __init__(self, path, head, times, gather):
+    def __init__(self, path, head, times, gather, known):
         self.blocks = collections.deque([(len(head.to_bytes()), 0, 0, 0)], BLOCKS)
-        super().__init__(path, head, times, gather)
-        self.first, self.began = None, None
-        self.ends = {}      # by side, the number and the time of its last packet
+        zkr.Writer.__init__(self, path, head, times, gather, known)
+        Noted.__init__(self)
         for file in self.files:
             file.file.close()
 
@@ -34,17 +52,6 @@ class Recording(zkr.Writer):
                     file.file = opened.enter_context(open(file.path, "ab", buffering=0))
                 super().flush()
         self.blocks.append((self.recording.size, self.times.size if self.times else 0, *self.count.values()))
-
-    def take(self, side, number, milliseconds, data):
-        """Writes bytes of the packet of this number."""
-        if self.first is None:
-            self.first, self.began = number, milliseconds
-        self.ends[side] = number, milliseconds
-        self.piece(side, milliseconds, data)
-
-    def last(self):
-        """The number and the time of its last packet."""
-        return max(self.ends.values())
 
     def take_back(self, spans):
         """Takes the recording's end out of it again, from the first of these spans of the client's bytes on that wasn't
@@ -103,15 +110,17 @@ def split_client(pieces, times, place, spans):
 
 class Series:
     """The recordings PREFIX-1.zkr, PREFIX-1.2.zkr, PREFIX-2.zkr and so on; a number whose file is there already is
-    passed over. `budget` counts what waits to be written to them, and can't be yet."""
+    passed over. With `join` those of connections that began before the capture are made, too. `budget` counts what
+    waits to be written to them, and can't be yet."""
 
     def __init__(self, prefix, head, times, join, budget):
         self.prefix, self.head, self.times, self.join, self.budget = prefix, head, times, join, budget
         self.number, self.open, self.unsaid = 0, set(), None
 
-    def next(self, connection=None, part=1):
+    def next(self, known, connection=None):
         """A new recording, with the number of its connection and which of its parts it is. It is the first of another
-        connection, where none is given, or else one with a part's number of at least `part`."""
+        connection, where none is given, or else one with a part's number above that of the facts that are `known`."""
+        part = known.part
         while True:
             if connection is None:
                 self.number += 1
@@ -121,7 +130,7 @@ class Series:
             # Less is gathered of each where there are many.
             gather = max(LEAST_GATHERED, min(GATHERED, MOST_GATHERED // (len(self.open) + 1)))
             try:
-                made = Recording(f"{self.prefix}-{name}.zkr", self.head, self.times, gather)
+                made = Recording(f"{self.prefix}-{name}.zkr", self.head, self.times, gather, known._replace(part=part))
             except FileExistsError:
                 continue
             self.open.add(made)
@@ -141,8 +150,10 @@ class Series:
         """The release that the head of each recording names, if any."""
         return zkr.RELEASES[self.head.profile] if self.head.form == "zkr2" else None
 
-    def say(self, line):
-        """Prints a line; where nobody reads it any more, the rest continues."""
+    def say(self, recording, words, _milliseconds):
+        """Prints the line of a recording, or of a connection that has none; where nobody reads it any more, the rest
+        continues."""
+        line = f"{recording.path if recording else '-'} {words}"
         try:
             try:
                 print(line, flush=True)

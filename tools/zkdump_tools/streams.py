@@ -90,11 +90,13 @@ class Half:
                 self.is_near(sequence) if self.next >= 0 else not (other.opened and flags & ACK)) \
                 and not (flags & ACK and other.next >= 0 and other.is_near(acknowledged)):
             return False  # it is of a connection with the same ports, which one side alone still knows
-        self.begin(sequence)
+        if self.next < 0:
+            self.begin(sequence)
         stream.snapped |= snapped > 0
         follows = 0
         if flags & ACK:
-            other.begin(acknowledged)
+            if other.next < 0:
+                other.begin(acknowledged)
             follows = other.place_of(acknowledged)
             other.acknowledged = max(other.acknowledged, follows)
         place = self.place_of(sequence)
@@ -119,9 +121,8 @@ class Half:
         return bool(self.fin or other.fin or stream.reset or stream.budget.held > stream.budget.most)
 
     def begin(self, sequence):
-        """This half begins with this number, where nothing was known of it."""
-        if self.next < 0:
-            self.first = self.next = sequence
+        """This half begins with this number: nothing was known of it."""
+        self.first = self.next = sequence
 
     def place_of(self, sequence):
         """The place of a sequence number: of all places with that number modulo 2^32, the nearest to `place`."""
@@ -276,32 +277,49 @@ class Stream:
         # Where each waits for the other, a copy of a segment was captured whose first copy was not.
         return self.halves[0] if blocked == 2 else found
 
+    def wanting(self):
+        """The half of which bytes are missing that everything else waits for, and what waits first for them; None if
+        nothing waits."""
+        for half in self.halves:
+            if half.ready and half.ready[0].follows > half.other.reached() and not half.other.ready:
+                return half.other, half.ready[0]
+        apart = [half for half in self.halves if half.apart]
+        half = min(apart, key=lambda half: half.apart[0].number) if apart else None
+        return half and (half, half.apart[0])
+
     def give_up(self):
         """Counts the bytes that everything else waits for as lost, and continues after them. False if nothing
         waits."""
-        for half in self.halves:
-            if half.ready and half.ready[0].follows > half.other.reached() and not half.other.ready:
-                head, other = half.ready[0], half.other
-                size = head.follows - other.place
-                if other.apart:
-                    size = min(size, other.apart[0].place - other.place)
-                elif (other.end or 0) > other.place:
-                    size = min(size, other.end - other.place)
-                if size == 1 and not other.apart and other.end is None \
-                        and max(other.sent, other.after - 1) <= other.place and self.sink.may_end(other.side):
-                    other.end = other.place  # one alone, with nothing after it, is the end that wasn't captured
-                else:
-                    other.lose(size, head.number, head.milliseconds)
-                break
-        else:
-            apart = [half for half in self.halves if half.apart]
-            if not apart:
-                return False
-            half = min(apart, key=lambda half: half.apart[0].number)
-            head = half.apart[0]
-            half.lose(head.place - half.place, head.number, head.milliseconds)
+        found = self.wanting()
+        if not found:
+            return False
+        half, head = found
+        size = head.place - half.place
+        if not (half.apart and head is half.apart[0]):
+            size = head.follows - half.place
+            if half.apart:
+                size = min(size, half.apart[0].place - half.place)
+            elif (half.end or 0) > half.place:
+                size = min(size, half.end - half.place)
+            if size == 1 and not half.apart and half.end is None \
+                    and max(half.sent, half.after - 1) <= half.place and self.sink.may_end(half.side):
+                half.end = half.place       # one alone, with nothing after it, is the end that wasn't captured
+                size = 0
+        if size:
+            half.lose(size, head.number, head.milliseconds)
         self.write()
         return True
+
+    def is_overdue(self, moment, unreceived):
+        """Whether something has waited since this moment for bytes that their receiver has, which are sent no more; or
+        since the moment `unreceived` for others."""
+        found = self.wanting()
+        if not found:
+            return False
+        half, head = found
+        is_own = half.apart and head is half.apart[0]
+        is_received = half.acknowledged >= (head.place if is_own else head.follows)
+        return head.milliseconds < (moment if is_received else unreceived)
 
     def let_go(self):
         """Breaks cycles of references, so that the memory is free at once."""

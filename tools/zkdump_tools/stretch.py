@@ -96,10 +96,13 @@ class Stretch:
         """Takes what certainly belongs to its part."""
         if self.direct:
             self.all.put(self.part, message)
-        else:
+        elif self.undecided:
             heapq.heappush(self.part.later, message)
             self.all.hold(message)
             self.flush()
+        else:
+            self.flush()        # of all that waits this came last
+            self.all.put(self.part, message)
 
     def decide(self, order, and_before):
         """A request of this order belongs to its part; where it is an ordinary one, so do those before it."""

@@ -129,11 +129,11 @@ class Times:
         return fits and not self.damage
 
 
-def times_of(parser, path, beside, foreign):
-    """The times of the messages of the recording at this path: in the file `beside`, where that is named; else in the
-    usual file, whose times have decimals, or in the recording. None if there are none, unless the listing is `foreign`,
-    which needs them."""
-    pieces = zkr.Reader(files.open_again(path, files.RECORDING))
+def times_of(parser, path, beside, foreign, opened):
+    """The times of the messages of the recording at this path, which `opened` closes: in the file `beside`, where that is
+    named; else in the usual file, whose times have decimals, or in the recording. None if there are none, unless the
+    listing is `foreign`, which needs them."""
+    pieces = zkr.Reader(opened.enter_context(files.open_again(path, files.RECORDING)))
     if not beside and not os.path.exists(zkr.times_path(path)):
         if pieces.head.form == "zkr2":
             return Times(pieces, None, foreign)

@@ -4,8 +4,10 @@
 
 A DIR has recordings, NAME.zkr in it and below it; a LIST has a path on each line; a recording may be named, too. Each
 recording that isn't whole has a line with its ending and how many messages were read until then, or why it couldn't be
-read; with --all each has one. Then come the counts of endings, and of refusals by reason and place. Requests of
-operations that the profile lacks are passed over, and counted at the end. The status is 1 if one wasn't whole.
+read; with --all each has one. Where its facts say that bytes are missing, the line has hole=S (after it) or lost=C:0,S:96
+(before it), and the ending is `incomplete` in place of whole, or `unfinished`. Then come the counts of endings, and of
+refusals by reason and place. Requests of operations that the profile lacks are passed over, and counted at the end. The
+status is 1 if one wasn't whole.
 """
 
 import collections
@@ -17,6 +19,7 @@ import sys
 from . import facts, fleet, inputs, listing, packed, passages, program, tables, zkr
 
 PLACES = ("side", "reason", "place")
+INCOMPLETE = "incomplete"       # in place of whole, where the facts say that bytes are missing
 
 
 def words_of(arguments=None, kind=zkr.Words):
@@ -44,13 +47,28 @@ def partial(options, paths):
 
 
 def finished(found, path):
-    """What was found of a recording; where it is whole, but its facts say that it is unfinished, that is its ending."""
+    """What was found of a recording, with what its facts say of missing bytes. Where it is whole, it has another
+    ending then."""
     ending, *more = found
+    known = facts_of_missing(path)
+    if not known:
+        return found
+    missing = {name: value for name, value in (("lost", facts.counts(known.lost) if any(known.lost.values()) else ""),
+                                               ("hole", ",".join(known.hole))) if value}
+    if ending["ending"] == "whole":
+        ending = {**ending, "ending": "unfinished" if known.unfinished else INCOMPLETE}
+    return {**ending, **missing}, *more
+
+
+def facts_of_missing(path):
+    """The facts of a recording, where they are of it and say that bytes are missing; else None."""
     try:
-        known = facts.read(path) if ending["ending"] == "whole" else None
+        if facts.MISSING.isdisjoint(facts.read(path) or ()):
+            return None
     except (OSError, ValueError):
-        known = None
-    return ({**ending, "ending": "unfinished"}, *more) if known and known.get("unfinished") is True else found
+        return None
+    known = facts.facts_of(path)
+    return known if known and known.has_hole() else None
 
 
 def check(parser, words, path):

@@ -40,6 +40,8 @@ RELEASES = {number: release for release, number in PROFILES.items()}
 NEWEST = [*PROFILES][-1]        # the release by which tools read where none is named
 # The head of a piece, before its bytes: the side, the time in a ZKR2 recording, and the number of bytes.
 PIECE_HEADS = {"zkr1": struct.Struct(">ci"), "zkr2": struct.Struct(">cqi")}
+# A connect request and a connect response that no peer sends: every number is -1, and the password is null.
+MADE_UP = {CLIENT: struct.pack(">iiqiqi", 28, -1, -1, -1, -1, -1), SERVER: struct.pack(">iiiqi", 20, -1, -1, -1, -1)}
 
 
 # The reasons of docs/FORMATS.md, section 12, in words.

@@ -146,12 +146,13 @@ def main():
 
 
 def write_all(words, stack):
-    """Writes the capture that these arguments name; `stack` keeps what is unpacked for it."""
+    """Writes the capture that these arguments name; `stack` keeps what is unpacked and opened for it."""
     found = []
     for number, path in enumerate(words.recordings):
         file = stack.enter_context(packed.recording(path))
         try:
-            found.append(packets(file, zkr.Reader(open(file, "rb")), FIRST_PORT + number, words.port))
+            reader = zkr.Reader(stack.enter_context(open(file, "rb")))
+            found.append(packets(file, reader, FIRST_PORT + number, words.port))
         except zkr.Damaged as damage:
             raise ValueError(f"{path}: {damage}") from None
     number = os.open(words.capture, os.O_WRONLY | os.O_CREAT | os.O_EXCL, 0o600)

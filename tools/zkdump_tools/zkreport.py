@@ -4,7 +4,8 @@
     zkreport.py --text --jobs N|--scheduler ADDRESS [--port N] [CHOICE ..] INPUT ..
 
 An INPUT is a capture of tcpdump or Wireshark, a recording, or a listing of one, also as the lines of zkjson; or a folder
-of recordings, in it and below it, or @LIST, a file with a path on each line. A capture has any number of connections.
+of recordings, in it and below it, or @LIST, a file with a path on each line. A capture has any number of connections. -
+is a capture on standard input, as of tcpdump -w -: it is reported at its end, or once Ctrl-C or SIGTERM ends the reading.
 Captures have times; recordings have them within (ZKR2) or beside (RECORDING.times). Requests of operations that the
 profile lacks count, too: they are shown by number, without their paths.
 
@@ -23,7 +24,7 @@ import itertools
 import os
 import tempfile
 
-from . import fleet, passages, program, selection, tables, zkr
+from . import fleet, listing, passages, program, selection, tables, zkr
 from .inputs import refuse_repetition
 from .report import against, gather, merged, messages, page, sources, summary, text, trace
 
@@ -131,6 +132,10 @@ def words_of(arguments=None, kind=zkr.Words):
             parser.error("--jobs and --scheduler are for --text: leave out -o, --trace and --against")
         if any(map(fleet.names_several, words.inputs)):
             words.inputs = fleet.expanded(words.inputs)
+    if listing.STANDARD_INPUT in words.inputs and (fleet.is_asked(words) or
+                                                   listing.STANDARD_INPUT in (words.against or ())):
+        parser.error("- is a capture on standard input, which is read once: leave out --jobs, --scheduler, folders and "
+                     "lists, and the other -")
     if not fleet.is_asked(words):
         refuse_repetition(parser, words.inputs)
         refuse_repetition(parser, words.against or ())

@@ -66,29 +66,62 @@ def lacking(payload, operations):
     return OTHERS.get(kind) if kind not in operations else None
 
 
-class Skipping:
-    """Decides which frames stay, of sides with the limits of this head. A reply answers the oldest request of its xid.
-    `left_out` is called with the side, the bytes and the line of each frame that doesn't stay; `stayed` is how many of
-    both sides have stayed by then. Bytes that can't be cut into frames count as frames that stay."""
+class Turns:
+    """Decides which frames stay, by these operations. A reply answers the oldest request of its xid. `waiting` has by the
+    xid of each request that waits when it came, and why it is left out, or None."""
+
+    def __init__(self, operations):
+        self.operations, self.waiting = operations, collections.defaultdict(collections.deque)
+        self.requests = self.replies = 0
+
+    def is_connect(self, frame):
+        """Whether this is a connect message, which has no xid."""
+        return frame.number == 0
+
+    def turn(self, frame):
+        """Of a frame: when its request came, if it is a reply, and why it is left out; None for either."""
+        is_connect = self.is_connect(frame)
+        if not is_connect and len(frame.payload) < 8:
+            return None, None
+        xid = None if is_connect else int_at(frame.payload, 0)
+        if frame.side == zkr.CLIENT:
+            lacks = None if is_connect else lacking(frame.payload, self.operations)
+            self.waiting[xid].append((frame.milliseconds, lacks))
+            self.requests += bool(lacks)
+            return None, lacks
+        if xid == EVENT_XID:
+            return None, None
+        requests = self.waiting.get(xid)
+        asked, lacks = requests.popleft() if requests else (None, None)
+        if not requests:
+            self.waiting.pop(xid, None)
+        self.replies += bool(lacks)
+        return asked, lacks
+
+
+def line_of(frame, lacks):
+    """The line of a frame that is left out for this."""
+    return (f"left out: {frame.side.decode()} frame={frame.number} xid={int_at(frame.payload, 0)} {lacks}, "
+            f"{len(frame.payload)} bytes")
+
+
+class Skipping(Turns):
+    """The same of sides with the limits of this head, which it cuts into frames. `left_out` is called with the line of
+    each frame that doesn't stay."""
 
     def __init__(self, operations, head, left_out):
-        self.operations, self.cutter, self.left_out = operations, zkr.Cutter(head), left_out
-        self.waiting = collections.defaultdict(collections.deque)
-        self.stayed = self.requests = self.replies = 0
+        super().__init__(operations)
+        self.cutter, self.left_out = zkr.Cutter(head), left_out
 
     def take(self, piece):
         """The frames that are whole with this piece and stay, as bytes; of a side that can't be cut, all its bytes."""
         for frame in self.cutter.take(piece):
-            whole = len(frame.payload).to_bytes(4, "big") + frame.payload
-            if lacks := self.lacks(frame):
-                xid = int_at(frame.payload, 0)
-                self.left_out(frame.side, whole, f"left out: {frame.side.decode()} frame={frame.number} xid={xid} "
-                                                 f"{lacks}, {len(frame.payload)} bytes")
+            _, lacks = self.turn(frame)
+            if lacks:
+                self.left_out(line_of(frame, lacks))
             else:
-                self.stayed += 1
-                yield whole
+                yield frame.whole()
         if piece.side in self.cutter.broken:
-            self.stayed += 1
             yield self.rest(piece.side)
 
     def rest(self, side):
@@ -96,26 +129,6 @@ class Skipping:
         held = bytes(self.cutter.held[side])
         self.cutter.held[side].clear()
         return held
-
-    def lacks(self, frame):
-        """Why a frame is left out; None if it stays."""
-        if frame.number == 0 or len(frame.payload) < 8:
-            return None
-        xid = int_at(frame.payload, 0)
-        if frame.side == zkr.SERVER:
-            return None if xid == EVENT_XID else self.reply_lacks(xid)
-        lacks = lacking(frame.payload, self.operations)
-        self.waiting[xid].append(lacks)
-        self.requests += bool(lacks)
-        return lacks
-
-    def reply_lacks(self, xid):
-        requests = self.waiting.get(xid)
-        lacks = requests.popleft() if requests else None
-        if not requests:
-            self.waiting.pop(xid, None)
-        self.replies += bool(lacks)
-        return lacks
 
 
 class StandardOutput:
@@ -169,24 +182,23 @@ def main():
     source = words.source
     try:
         if source:
-            with packed.recording(source) as words.source:
-                skip_all(words)
+            with packed.recording(source) as words.source, open(words.source, "rb") as stream:
+                skip_all(words, stream)
         else:
-            skip_all(words)
+            skip_all(words, zkr.standard_input())
     except zkr.Damaged as damage:
         raise ValueError(f"{source or 'standard input'}: {damage}") from None
     return 0
 
 
-def skip_all(words):
-    """Writes the new recording that these arguments name."""
-    recording = zkr.Reader(open(words.source, "rb") if words.source else zkr.standard_input())
+def skip_all(words, stream):
+    """Writes the new recording that these arguments name, of the one in this stream."""
+    recording = zkr.Reader(stream)
     has_times = words.source and os.path.exists(zkr.times_path(words.source))
     times = contents.times_beside(words.source) if has_times else None
     known = facts.facts_of(words.source) if words.source else None
     profile = words.profile or known and known.profile or zkr.RELEASES[recording.head.profile]
-    skipping = Skipping(OF_PROFILE[profile], zkr.Head(client_limit=words.limit, server_limit=words.limit),
-                        lambda side, whole, line: zkr.report(line))
+    skipping = Skipping(OF_PROFILE[profile], zkr.Head(client_limit=words.limit, server_limit=words.limit), zkr.report)
     head = recording.head._replace(profile=zkr.PROFILES[profile])
     if words.target:
         out = zkr.Writer(words.target, head, times is not None, GATHERED)

@@ -3,6 +3,7 @@
 mod answers;
 mod asks;
 mod awaited;
+mod examples;
 mod frames;
 mod jute;
 mod records;

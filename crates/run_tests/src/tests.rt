@@ -4,6 +4,7 @@ mod adapters;
 mod blocks;
 mod devices;
 mod engines;
+mod examples;
 mod memory;
 mod said;
 mod samples;

@@ -3,9 +3,11 @@
 mod answers;
 mod calls;
 mod earliest;
+mod examples;
 mod frames;
 mod growth;
 mod library;
 mod lines;
+mod resume;
 mod speaker;
 mod through;

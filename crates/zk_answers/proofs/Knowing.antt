@@ -4,13 +4,13 @@ use Rattle.std.specs.Prelude.{◌≢◌, ℤ, pos}
 use Rattle.std.proofs.lemmas.List.{append-nil, length-append}
 use Rattle.zk_jute.specs.{Item.Item, Item.bytes_of, Item.HaveBytes, Layout.IsValueOf, Told.StandsAt, Standing.OneStands}
 use Rattle.zk_jute.proofs.{Layouts.bytes_only, Layouts.bytes_both, Layouts.have_parts, Known.stands_first, Known.stands_last}
-use Rattle.zk_records.specs.{declared.header.ReplyHeader.ReplyHeader, Held.WatcherEvent, declared.op.Op.Op, declared.op.PartOp.PartOp, Records.reply_header, Records.watcher_event}
+use Rattle.zk_records.specs.{declared.header.ReplyHeader.ReplyHeader, Held.WatcherEvent, declared.op.Op.Op, Records.reply_header, Records.watcher_event}
 use Rattle.zk_answers.specs.{Held.Body, Held.Outcome, Held.Reply, Held.ServerFrame, Faults.IsHead, Rows.Content, Rows.row_of, Rows.remake, Rows.items_in, Rows.op_of_body, Rows.body_items, Known.ABodyStands}
 use Rattle.zk_answers.specs.declared.frame.OutcomeOf.TheVariants as outcome
 use Rattle.zk_answers.specs.declared.frame.ServerFrameOf.TheVariants as frame
-use Rattle.zk_answers.specs.Frames.{err_of, header_of, event_header, rest_items, IsEvent, IsOutcome, IsSent, IsReplyTo, OutcomeFits, payload}
+use Rattle.zk_answers.specs.Frames.{err_of, header_of, event_header, rest_items, IsEvent, IsOutcome, IsSent, IsBorne, IsReplyOf, op_of_outcome, payload}
 use Rattle.zk_asks.proofs.Knowing.{IsThe}
-use Rattle.zk_answers.proofs.{Bodies.IsMade, Bodies.is_made, Heads.head_unique, Replies.reply_heads, Replies.reply_same, Refusals.head_of}
+use Rattle.zk_answers.proofs.{Bodies.IsMade, Bodies.is_made, Heads.head_unique, Heads.stands_head, Replies.reply_same, Refusals.head_of}
 
 -- ---- the body behind a header
 
@@ -18,17 +18,17 @@ use Rattle.zk_answers.proofs.{Bodies.IsMade, Bodies.is_made, Heads.head_unique, 
 abbrev pub reply_under : ReplyHeader → Outcome → ServerFrame
 reply_under h o = frame.Answered (record { xid = h.xid; zxid = h.zxid; outcome = o })
 
-failed_is : (op : Op) (parts : List PartOp) (o : Outcome) → OutcomeFits op parts o → (e : ℤ) → e ≢ pos 0 → e ≡ err_of o → outcome.Failed op e ≡ o
-failed_is op parts (outcome.Done b) fits e n is = absurd (n is)
-failed_is op parts (outcome.Failed o m) fits e n is = ap (λ (z : ℤ). outcome.Failed op z) is ∙ ap (λ (z : Op). outcome.Failed z m) (sym fits)
+failed_is : (op : Op) (o : Outcome) → op_of_outcome o ≡ op → (e : ℤ) → e ≢ pos 0 → e ≡ err_of o → outcome.Failed op e ≡ o
+failed_is op (outcome.Done b) fits e n is = absurd (n is)
+failed_is op (outcome.Failed o m) fits e n is = ap (λ (z : ℤ). outcome.Failed op z) is ∙ ap (λ (z : Op). outcome.Failed z m) (sym fits)
 
-done_is : (op : Op) (parts : List PartOp) (o : Outcome) → OutcomeFits op parts o → IsOutcome o → pos 0 ≡ err_of o → (b : Body) × (op_of_body b ≡ op) × (outcome.Done b ≡ o)
-done_is op parts (outcome.Done b) fits is none = (b, fits.0, refl)
-done_is op parts (outcome.Failed o e) fits is none = absurd (is (sym none))
+done_is : (op : Op) (o : Outcome) → op_of_outcome o ≡ op → IsOutcome o → pos 0 ≡ err_of o → (b : Body) × (op_of_body b ≡ op) × (outcome.Done b ≡ o)
+done_is op (outcome.Done b) fits is none = (b, fits, refl)
+done_is op (outcome.Failed o e) fits is none = absurd (is (sym none))
 
-module _ (src : List ℕ) (op : Op) (parts : List PartOp) (r : Reply) (fits : IsReplyTo op parts (frame.Answered r)) (sent : IsSent (frame.Answered r)) (is : src ≡ payload (frame.Answered r)) where
+module _ (src : List ℕ) (op : Op) (r : Reply) (fits : IsReplyOf op (frame.Answered r)) (sent : IsBorne (frame.Answered r)) (is : src ≡ payload (frame.Answered r)) where
   head_there : IsHead src (header_of r) (bytes_of (rest_items r.outcome))
-  head_there = let k = reply_heads r sent in (k.0, is ∙ k.1)
+  head_there = let k = stands_head (header_of r) (rest_items r.outcome) sent.1 in (k.0, is ∙ k.1)
 
   pub header_there : OneStands reply_header.items src 0
   header_there = stands_first reply_header.items (header_of r) src (bytes_of (rest_items r.outcome)) head_there.0 head_there.1
@@ -44,17 +44,17 @@ module _ (src : List ℕ) (op : Op) (parts : List PartOp) (r : Reply) (fits : Is
     made_of o q = ap frame.Answered (reply_same (record { xid = h.xid; zxid = h.zxid; outcome = o }) r (ap (λ (z : ReplyHeader). z.xid) same.0) (ap (λ (z : ReplyHeader). z.zxid) same.0) q)
 
     pub made_failed : (e : ℤ) → e ≢ pos 0 → e ≡ h.err → reply_under h (outcome.Failed op e) ≡ frame.Answered r
-    made_failed e n q = made_of (outcome.Failed op e) (failed_is op parts r.outcome fits e n (q ∙ err_is))
+    made_failed e n q = made_of (outcome.Failed op e) (failed_is op r.outcome fits e n (q ∙ err_is))
 
     module _ (none : h.err ≡ pos 0) where
       done : (b : Body) × (op_of_body b ≡ op) × (outcome.Done b ≡ r.outcome)
-      done = done_is op parts r.outcome fits sent.1 (sym none ∙ err_is)
+      done = done_is op r.outcome fits sent.0 (sym none ∙ err_is)
 
       pub body_there : ABodyStands op src after
       body_there =
           let items = body_items done.0 in
           let rest = ap rest_items done.2 in
-          let have = subst HaveBytes (sym rest) (have_parts (reply_header.items (header_of r)) (rest_items r.outcome) sent.2).1 in
+          let have = subst HaveBytes (sym rest) (have_parts (reply_header.items (header_of r)) (rest_items r.outcome) sent.1).1 in
           let bytes : drop after src ≡ bytes_of items = same.1 ∙ ap bytes_of (sym rest) in
           let le : after ≤ length src = omega (arith, s.1, ap length s.0, length-append (bytes_of (reply_header.items h)) (drop after src)) in
           (done.0, after + length (bytes_of items), done.1, have, stands_last items src after le bytes)
@@ -68,31 +68,31 @@ module _ (src : List ℕ) (op : Op) (parts : List PartOp) (r : Reply) (fits : Is
 
 -- ---- the same, of whatever frame the payload is known to be
 
-abbrev AReply : List ℕ → Op → List PartOp → ServerFrame → Type 0
-AReply src op parts t = IsReplyTo op parts t × IsSent t × (src ≡ payload t)
+abbrev AReply : List ℕ → Op → ServerFrame → Type 0
+AReply src op t = IsReplyOf op t × IsBorne t × (src ≡ payload t)
 
 abbrev HeaderStands : List ℕ → ReplyHeader → ℕ → Type 0
 HeaderStands src h after = IsValueOf reply_header.layout (reply_header.items h) × StandsAt (reply_header.items h) src 0 after
 
-pub header_stands : (src : List ℕ) (op : Op) (parts : List PartOp) (t : ServerFrame) → AReply src op parts t → OneStands reply_header.items src 0
-header_stands src op parts (frame.Answered r) k = header_there src op parts r k.0 k.1 k.2
-header_stands src op parts (frame.Connected hello flag) k = absurd k.0
-header_stands src op parts (frame.Event zxid event) k = absurd k.0
+pub header_stands : (src : List ℕ) (op : Op) (t : ServerFrame) → AReply src op t → OneStands reply_header.items src 0
+header_stands src op (frame.Answered r) k = header_there src op r k.0 k.1 k.2
+header_stands src op (frame.Connected hello flag) k = absurd k.0
+header_stands src op (frame.Event zxid event) k = absurd k.0
 
-module _ (src : List ℕ) (h : ReplyHeader) (after : ℕ) (f : HeaderStands src h after) (op : Op) (parts : List PartOp) where
-  pub stands_behind : (t : ServerFrame) → AReply src op parts t → h.err ≡ pos 0 → ABodyStands op src after
-  stands_behind (frame.Answered r) k none = body_there src op parts r k.0 k.1 k.2 h after f.0 f.1 none
+module _ (src : List ℕ) (h : ReplyHeader) (after : ℕ) (f : HeaderStands src h after) (op : Op) where
+  pub stands_behind : (t : ServerFrame) → AReply src op t → h.err ≡ pos 0 → ABodyStands op src after
+  stands_behind (frame.Answered r) k none = body_there src op r k.0 k.1 k.2 h after f.0 f.1 none
   stands_behind (frame.Connected hello flag) k none = absurd k.0
   stands_behind (frame.Event zxid event) k none = absurd k.0
 
-  pub is_failed : (e : ℤ) → e ≢ pos 0 → e ≡ h.err → (t : ServerFrame) → AReply src op parts t → reply_under h (outcome.Failed op e) ≡ t
-  is_failed e n q (frame.Answered r) k = made_failed src op parts r k.0 k.1 k.2 h after f.0 f.1 e n q
+  pub is_failed : (e : ℤ) → e ≢ pos 0 → e ≡ h.err → (t : ServerFrame) → AReply src op t → reply_under h (outcome.Failed op e) ≡ t
+  is_failed e n q (frame.Answered r) k = made_failed src op r k.0 k.1 k.2 h after f.0 f.1 e n q
   is_failed e n q (frame.Connected hello flag) k = absurd k.0
   is_failed e n q (frame.Event zxid event) k = absurd k.0
 
   pub is_done : h.err ≡ pos 0 → (b : Body) → ((c : Body) (end : ℕ) → op_of_body c ≡ op → HaveBytes (body_items c) → StandsAt (body_items c) src after end → b ≡ c)
-      → (t : ServerFrame) → AReply src op parts t → reply_under h (outcome.Done b) ≡ t
-  is_done none b only (frame.Answered r) k = made_done src op parts r k.0 k.1 k.2 h after f.0 f.1 none b only
+      → (t : ServerFrame) → AReply src op t → reply_under h (outcome.Done b) ≡ t
+  is_done none b only (frame.Answered r) k = made_done src op r k.0 k.1 k.2 h after f.0 f.1 none b only
   is_done none b only (frame.Connected hello flag) k = absurd k.0
   is_done none b only (frame.Event zxid event) k = absurd k.0
 

@@ -7,7 +7,7 @@ use Rattle.zk_records.specs.{declared.header.ReplyHeader.ReplyHeader, declared.o
 use Rattle.zk_answers.specs.{Held.Outcome, Held.Reply, Held.ServerFrame, Rows.body_items}
 use Rattle.zk_answers.specs.declared.frame.OutcomeOf.TheVariants as outcome
 use Rattle.zk_answers.specs.declared.frame.ServerFrameOf.TheVariants as frame
-use Rattle.zk_answers.specs.Frames.{err_of, header_of, rest_items, IsOutcome, IsSent, IsReplyTo, OutcomeFits, payload}
+use Rattle.zk_answers.specs.Frames.{err_of, header_of, op_of_outcome, rest_items, IsOutcome, IsReplyOf, IsSent, IsReplyTo, OutcomeFits, payload}
 use Rattle.zk_answers.specs.Faults.{Shape, Fields, IsOfShape, IsHead, IsRestFault, rest_shape, IsReplyFault, in_head, in_rest, body_shape}
 use Rattle.zk_answers.proofs.{Heads.Headed, Heads.headed_unique, Heads.headed_excludes, Heads.head_unique, Heads.stands_head, Rests.rest_unique, Rests.rest_excludes, Bodies.body_is, Bodies.body_same}
 
@@ -71,3 +71,12 @@ reply_injective op parts (frame.Answered a) (frame.Connected hello flag) f g u v
 reply_injective op parts (frame.Answered a) (frame.Event zxid event) f g u v e = absurd g
 reply_injective op parts (frame.Connected hello flag) t f g u v e = absurd f
 reply_injective op parts (frame.Event zxid event) t f g u v e = absurd f
+
+-- a reply to the request is one of its operation
+pub reply_of : (op : Op) (parts : List PartOp) (s : ServerFrame) → IsReplyTo op parts s → IsReplyOf op s
+reply_of op parts (frame.Answered r) fits = of_outcome r.outcome fits where
+  of_outcome : (o : Outcome) → OutcomeFits op parts o → op_of_outcome o ≡ op
+  of_outcome (outcome.Done b) fits = fits.0
+  of_outcome (outcome.Failed o e) fits = fits
+reply_of op parts (frame.Connected hello flag) fits = absurd fits
+reply_of op parts (frame.Event zxid event) fits = absurd fits

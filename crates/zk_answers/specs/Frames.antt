@@ -65,6 +65,10 @@ IsTrueFailure (frame.Event zxid event) = Unit {0}
 abbrev pub IsSent : ServerFrame → Type 0
 IsSent s = HasItsXid s × IsTrueFailure s × HaveBytes (frame_items s)
 
+-- the frames that have bytes, also a reply with an event's xid
+abbrev pub IsBorne : ServerFrame → Type 0
+IsBorne s = IsTrueFailure s × HaveBytes (frame_items s)
+
 -- no two of these that are sent have one payload
 abbrev pub HaveApartPayloads : (ServerFrame → Type 0) → Type 0
 HaveApartPayloads P = (s t : ServerFrame) → P s → P t → IsSent s → IsSent t → payload s ≡ payload t → s ≡ t
@@ -78,6 +82,12 @@ abbrev pub IsAnswered : ServerFrame → Type 0
 IsAnswered (frame.Connected hello flag) = ⊥
 IsAnswered (frame.Answered r) = Unit {0}
 IsAnswered (frame.Event zxid event) = ⊥
+
+-- a reply to a request of this operation, whatever its parts
+abbrev pub IsReplyOf : Op → ServerFrame → Type 0
+IsReplyOf op (frame.Connected hello flag) = ⊥
+IsReplyOf op (frame.Answered r) = op_of_reply r ≡ op
+IsReplyOf op (frame.Event zxid event) = ⊥
 
 abbrev pub IsEvent : ServerFrame → Type 0
 IsEvent (frame.Connected hello flag) = ⊥

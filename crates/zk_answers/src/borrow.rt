@@ -9,7 +9,7 @@ ghost use Rattle.zk_answers.specs.Faults.{IsConnectedFault, IsHead, IsReplyFault
 
 use crate::frame::{ServerFrameOf, ServerRef};
 use crate::judge::{judge_event, judge_reply};
-use crate::known::{event_ref, known_reply};
+use crate::known::{JUDGED, event_ref, known_reply};
 use zk_asks::Asked;
 use zk_jute::{ItemFault, read_ref, scan_flagged};
 use zk_records::{ConnectResponseRef, ReplyHeader};
@@ -52,7 +52,7 @@ pub fn borrow_reply_under<'a, F: Asked>(
     ensures fault { IfErr result (IsSurelyTold (IsReplyFault (F.operation form.now) (F.part_ops form.now) payload.now)) }
 {
     judge_reply::<F, ItemFault>(form, head, payload)?;
-    Ok(known_reply::<true>(form.op(), payload))
+    Ok(known_reply::<JUDGED>(form.op(), payload))
 }
 
 /// A reply to the request `form`, borrowed. Decides as `read_reply` does, allocates nothing, and never returns `NoMemory`.

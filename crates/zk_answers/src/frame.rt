@@ -109,12 +109,12 @@ pub type Outcome = OutcomeOf<Body>;
 /// A borrowed `Outcome`.
 pub type OutcomeRef<'a> = OutcomeOf<BodyRef<'a>>;
 
-/// A reply to a request.
+/// A reply to a request: what its `ReplyHeader` has, and its body or its error.
 #[derive(Debug, Drop)]
 pub struct ReplyOf<D> {
     /// The xid of the request.
     pub xid: i32,
-    /// The server's last transaction.
+    /// The zxid of the last transaction that the server had processed.
     pub zxid: i64,
     /// The body, or the error.
     pub outcome: OutcomeOf<D>,
@@ -126,7 +126,7 @@ pub type Reply = ReplyOf<Body>;
 /// A borrowed `Reply`.
 pub type ReplyRef<'a> = ReplyOf<BodyRef<'a>>;
 
-/// What a server sends in one frame.
+/// What a server sends in one frame (`ClientCnxn.SendThread.readResponse`).
 #[derive(Debug, Drop)]
 pub enum ServerFrameOf<T, B, D> {
     /// The reply to the connect request, and a boolean that old servers leave out: whether the server is read-only.

@@ -72,7 +72,7 @@ fn outcome_end<F: Asked, V: Verdict>(form: &F, err: i32, payload: &[u8]) -> Resu
 ///
 /// # Errors
 ///
-/// The fault that `borrow_reply` returns. `Undecided` says nothing.
+/// The fault that `borrow_reply` returns, where `V` is `ItemFault`; `Undecided` says nothing.
 #[inline(always)]
 pub fn judge_reply<F: Asked, V: Verdict>(
     form: &F,
@@ -95,7 +95,7 @@ pub fn judge_reply<F: Asked, V: Verdict>(
 ///
 /// # Errors
 ///
-/// The fault that `borrow_event` returns. `Undecided` says nothing.
+/// The fault that `borrow_event` returns, where `V` is `ItemFault`; `Undecided` says nothing.
 #[inline(always)]
 pub fn judge_event<V: Verdict>(head: &ReplyHeader, payload: &[u8]) -> Result<(), V>
     requires head { (rest : List ℕ) × IsHead payload.now head.now rest }

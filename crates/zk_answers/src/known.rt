@@ -1,8 +1,7 @@
-//! `connected_ref`, `event_ref`, `reply_ref`: payloads known to be a server's frames, borrowed without a judgement.
-ghost use Rattle.std.specs.Prelude.{◌≡◌, ◌≤◌, ℕ, List, length};
+//! Payloads that are known to be a server's frames, borrowed without a judgement.
+ghost use Rattle.std.specs.Prelude.{◌≡◌, ◌≤◌, ℕ, length};
 ghost use Rattle.zk_jute.specs.{Item.HaveBytes, Told.StandsAt};
-ghost use Rattle.zk_records.specs.declared.op.PartOp as codes;
-ghost use Rattle.zk_answers.specs.{Held.Body, Held.ServerFrame, Rows.body_items, Rows.op_of_body, Frames.IsConnected, Frames.IsEvent, Frames.IsReplyTo, Frames.IsSent};
+ghost use Rattle.zk_answers.specs.{Held.Body, Held.ServerFrame, Rows.body_items, Rows.op_of_body, Frames.IsConnected, Frames.IsEvent, Frames.IsReplyOf, Frames.IsBorne, Frames.IsSent};
 ghost use Rattle.zk_answers.specs.Frames as sent;
 ghost use Rattle.zk_answers.specs.Known.{ABodyStands};
 
@@ -37,8 +36,15 @@ pub fn event_ref(payload: &[u8]) -> ServerRef<'_>
     }
 }
 
-/// The body that is known to be at `place`, of a reply to `op`.
-fn known_body<'a, const JUDGED: bool>(payload: &'a [u8], place: usize, op: Op) -> BodyRef<'a>
+/// The callers of `known_body`: each has an instance of its own, which is inlined, since a call would cost a view.
+const VIEWED: u8 = 0;
+
+const WRITTEN: u8 = 1;
+
+pub(crate) const JUDGED: u8 = 2;
+
+/// The body that is known to be at `place`, of a reply to `op`. `FOR` is the caller.
+fn known_body<'a, const FOR: u8>(payload: &'a [u8], place: usize, op: Op) -> BodyRef<'a>
     requires within { place ≤ length payload.now }
     requires stands { ABodyStands op payload.now place }
     ensures { (b : Body) (end : ℕ) → op_of_body b ≡ op → HaveBytes (body_items b) → StandsAt (body_items b) payload.now place end → result ≡ b }
@@ -66,16 +72,16 @@ fn known_body<'a, const JUDGED: bool>(payload: &'a [u8], place: usize, op: Op) -
     body_rows!(row, op)
 }
 
-/// As `reply_ref`.
-// `JUDGED`: whether it was judged just now. With one caller each, both instances are inlined.
-pub(crate) fn known_reply<const JUDGED: bool>(op: Op, payload: &[u8]) -> ServerRef<'_>
-    requires { (parts : List codes.PartOp) × (s : ServerFrame) × IsReplyTo op parts s × IsSent s × (payload.now ≡ sent.payload s) }
-    ensures { (parts : List codes.PartOp) (s : ServerFrame) → IsReplyTo op parts s → IsSent s → payload.now ≡ sent.payload s → result ≡ s }
+/// As `reply_ref`. `FOR` is the caller.
+#[inline(always)]
+pub(crate) fn known_reply<const FOR: u8>(op: Op, payload: &[u8]) -> ServerRef<'_>
+    requires { (s : ServerFrame) × IsReplyOf op s × IsBorne s × (payload.now ≡ sent.payload s) }
+    ensures { (s : ServerFrame) → IsReplyOf op s → IsBorne s → payload.now ≡ sent.payload s → result ≡ s }
 {
     let (header, place) = known_at::<ReplyHeader>(payload, 0);
     let outcome = match Failure::new(header.err) {
         Some(failure) => OutcomeOf::Failed(op, failure),
-        None => OutcomeOf::Done(known_body::<JUDGED>(payload, place, op)),
+        None => OutcomeOf::Done(known_body::<FOR>(payload, place, op)),
     };
     ServerFrameOf::Answered(ReplyOf {
         xid: header.xid,
@@ -87,8 +93,16 @@ pub(crate) fn known_reply<const JUDGED: bool>(op: Op, payload: &[u8]) -> ServerR
 /// The reply to `op` that `payload` is known to be, borrowed. Nothing is allocated, and nothing is judged again.
 #[inline(always)]
 pub fn reply_ref(op: Op, payload: &[u8]) -> ServerRef<'_>
-    requires { (parts : List codes.PartOp) × (s : ServerFrame) × IsReplyTo op parts s × IsSent s × (payload.now ≡ sent.payload s) }
-    ensures { (parts : List codes.PartOp) (s : ServerFrame) → IsReplyTo op parts s → IsSent s → payload.now ≡ sent.payload s → result ≡ s }
+    requires { (s : ServerFrame) × IsReplyOf op s × IsBorne s × (payload.now ≡ sent.payload s) }
+    ensures { (s : ServerFrame) → IsReplyOf op s → IsBorne s → payload.now ≡ sent.payload s → result ≡ s }
 {
-    known_reply::<false>(op, payload)
+    known_reply::<VIEWED>(op, payload)
+}
+
+/// As `reply_ref`, of a payload that was written just now.
+pub fn written_reply_ref(op: Op, payload: &[u8]) -> ServerRef<'_>
+    requires { (s : ServerFrame) × IsReplyOf op s × IsBorne s × (payload.now ≡ sent.payload s) }
+    ensures { (s : ServerFrame) → IsReplyOf op s → IsBorne s → payload.now ≡ sent.payload s → result ≡ s }
+{
+    known_reply::<WRITTEN>(op, payload)
 }

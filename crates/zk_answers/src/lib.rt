@@ -5,8 +5,8 @@
 //!
 //! - `reply_head` reads the header, whose xid is -1 if an event follows.
 //! - `read_connected`, `read_reply` and `read_event` read a payload as an owned `ServerFrame`; `borrow_connected`,
-//!   `borrow_reply` and `borrow_event` decide the same and borrow, without memory; `connected_ref`, `reply_ref` and
-//!   `event_ref` borrow what is already judged.
+//!   `borrow_reply` and `borrow_event` decide the same and borrow, without memory; `connected_ref`, `event_ref`, `reply_ref`
+//!   and `written_reply_ref` borrow what is already known.
 //! - `scan_connected`, `scan_reply` and `scan_event` only decide. `judge_reply` and `judge_event` judge by where the body
 //!   ends; of a fault they return the verdict that is asked for, the `ItemFault` or `Undecided`, which costs nothing.
 //! - `write_server` writes a frame's payload; `fits` says whether a reply fits a request.
@@ -18,7 +18,10 @@
 //!
 //! ```text
 //! let head = reply_head(payload)?;
-//! let frame = if head.xid == -1 { read_event(alloc, payload)? } else { read_reply(alloc, &form, payload)? };
+//! if head.xid == -1 {
+//!     return read_event(alloc, payload);
+//! }
+//! read_reply(alloc, form, payload)
 //! ```
 //!
 //! # Choices
@@ -30,10 +33,9 @@
 //! **`Failure` is never 0**, by its invariant.
 #![tactic(auto)]
 
+mod asked_form;
 mod borrow;
 mod done_list;
-mod fit;
-mod form;
 mod frame;
 mod judge;
 mod known;
@@ -42,23 +44,24 @@ mod layout;
 mod multi;
 mod own;
 mod read;
+mod reply_fits;
 mod scan;
 mod write;
 
+pub use asked_form::{Form, form_of};
 pub use borrow::{
     borrow_connected, borrow_event, borrow_event_under, borrow_reply, borrow_reply_under,
 };
 pub use done_list::DoneList;
-pub use fit::fits;
-pub use form::{Form, form_of};
 pub use frame::{
     Body, BodyOf, BodyRef, Failure, Outcome, OutcomeOf, OutcomeRef, PartDone, PartDoneOf,
     PartDoneRef, Reply, ReplyOf, ReplyRef, ServerFrame, ServerFrameOf, ServerRef,
 };
 pub use judge::{judge_event, judge_reply};
-pub use known::{connected_ref, event_ref, reply_ref};
+pub use known::{connected_ref, event_ref, reply_ref, written_reply_ref};
 pub use laws::{connected_laws, event_laws, form_laws, head_laws, opening_laws, reply_laws};
 pub use layout::Layout;
 pub use read::{read_connected, read_event, read_reply, reply_head};
+pub use reply_fits::fits;
 pub use scan::{scan_connected, scan_event, scan_reply};
 pub use write::write_server;

@@ -15,6 +15,10 @@ use zk_jute::{ItemFault, int_at, long_at};
 use zk_records::{ReplyHeader, copied};
 
 /// The header that `payload`, a reply or an event, begins with (`ReplyHeader`, 16 bytes). Nothing is allocated.
+///
+/// # Errors
+///
+/// `Short`, at the first of its three numbers that isn't whole.
 pub fn reply_head(payload: &[u8]) -> Result<ReplyHeader, ItemFault>
     // The payload begins with it.
     ensures found { IfOk result (λ header. (rest : List ℕ) × IsHead payload.now header rest) }
@@ -69,13 +73,13 @@ pub fn read_reply<F: Asked>(
     copied(borrow_reply(form, payload), alloc)
 }
 
-/// An event: a header with the xid -1 and the error 0, and a `WatcherEvent` (`ClientCnxn.SendThread.readResponse`). The
-/// header, if it is whole, has the xid -1.
+/// An event: a header with the xid -1 and the error 0, and a `WatcherEvent`, as `NIOServerCnxn.process` sends it. The
+/// header, if it is whole, has the xid -1, by which `ClientCnxn.SendThread.readResponse` knows an event.
 ///
 /// # Errors
 ///
-/// The first fault of the header; `EventErr` at 12, an error other than 0; the first fault of the record; `Trailing` after it;
-/// `NoMemory`, at place 0, if memory is refused.
+/// The first fault of the header; `EventErr` at 12, an error other than 0; the first fault of the record; `Trailing`
+/// after it; `NoMemory`, at place 0, if memory is refused.
 #[tactic(auto, unfolding(zk_jute::specs::Told::IsTold))]
 pub fn read_event(alloc: Global, payload: &[u8]) -> Result<ServerFrame, ItemFault>
     requires { (header : records.ReplyHeader) (rest : List ℕ) → IsHead payload.now header rest → header.xid ≡ negsuc 0 }

@@ -127,8 +127,8 @@ impl ServerFrame {
     }
 }
 
-/// Appends the payload of `frame` to `out`, as `NIOServerCnxn.sendResponse` writes it after the length. No reply has the
-/// xid -1.
+/// Appends the payload of `frame` to `out`, as `NIOServerCnxn.sendResponse` writes it after the length, and
+/// `ZooKeeperServer.finishSessionInit` the reply to a connect request. No reply has the xid -1.
 ///
 /// # Errors
 ///

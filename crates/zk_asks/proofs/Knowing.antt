@@ -6,7 +6,7 @@ use Rattle.zk_jute.specs.{Item.bytes_of, Item.Item, Item.HaveBytes, Layout.IsVal
 use Rattle.zk_jute.proofs.{Layouts.bytes_only, Layouts.bytes_both, Layouts.have_parts, Known.stands_first, Known.stands_last}
 use Rattle.zk_records.specs.{Records.request_header, declared.op.Op.Op, declared.header.RequestHeader.RequestHeader, Codes.op_number}
 use Rattle.zk_records.proofs.Numbers.{op_number_apart}
-use Rattle.zk_asks.specs.{Held.Ask, Held.ClientFrame, Forms.header_items, Rows.row_of, Rows.items_in, Rows.op_of_ask, Rows.body_items, Frames.IsSent, Frames.IsLater, Frames.payload}
+use Rattle.zk_asks.specs.{Held.Ask, Held.ClientFrame, Forms.header_items, Rows.row_of, Rows.items_in, Rows.op_of_ask, Rows.body_items, Frames.frame_items, Frames.IsLater, Frames.payload}
 use Rattle.zk_asks.specs.declared.frame.ClientFrameOf.TheVariants as frame
 use Rattle.zk_asks.proofs.{Made.IsMade, Made.is_made, Later.header_is, Later.header_same}
 
@@ -26,12 +26,12 @@ pub made_stands : (op : Op) (a : Ask) (src : List ℕ) (place end : ℕ) → IsM
 unfolding IsMade
 made_stands op a src place end m have stands = (m.0, end, subst HaveBytes (sym m.2) have, subst (λ (i : List Item). StandsAt i src place end) (sym m.2) stands)
 
-module _ (xid : ℤ) (a : Ask) (src : List ℕ) (sent : IsSent (frame.Ask xid a)) (is : src ≡ payload (frame.Ask xid a)) where
+module _ (xid : ℤ) (a : Ask) (src : List ℕ) (sent : HaveBytes (frame_items (frame.Ask xid a))) (is : src ≡ payload (frame.Ask xid a)) where
   abbrev head : List Item
   head = header_items xid (op_number (op_of_ask a))
 
   have : HaveBytes head × HaveBytes (body_items a)
-  have = have_parts head (body_items a) sent.1
+  have = have_parts head (body_items a) sent
 
   split : src ≡ bytes_of head ++ bytes_of (body_items a)
   split = is ∙ bytes_both head (body_items a)
@@ -56,7 +56,7 @@ module _ (xid : ℤ) (a : Ask) (src : List ℕ) (sent : IsSent (frame.Ask xid a)
 -- ---- the same, of whatever frame the payload is known to be
 
 abbrev pub AnAsk : List ℕ → ClientFrame → Type 0
-AnAsk src f = IsLater f × IsSent f × (src ≡ payload f)
+AnAsk src f = IsLater f × HaveBytes (frame_items f) × (src ≡ payload f)
 
 pub ask_header : (src : List ℕ) (f : ClientFrame) → AnAsk src f → OneStands request_header.items src 0
 ask_header src (frame.Ask xid a) k = header_stands xid a src k.1 k.2

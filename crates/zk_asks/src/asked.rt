@@ -62,7 +62,7 @@ pub trait Asked {
     ghost lawful: { (x : Self) → operation x ≢ ops.Multi → part_ops x ≡ [] };
 }
 
-/// The laws of `Asked`; the function does nothing.
+/// The laws of `Asked`: there are as many parts as it says, and only a multi has any. The function does nothing.
 pub fn asked_laws<T: Asked>()
     // There is a part `j` exactly if `j` is below their number.
     ensures part { (x : T) (j : ℕ) → (j < length (T.part_ops x)) ↔ ((op : PartOp) × (slice_get (T.part_ops x) j ≡ Some op)) }

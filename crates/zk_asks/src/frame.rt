@@ -24,7 +24,7 @@ macro_rules! part_rows {
     };
 }
 
-/// A part of a multi, as `MultiTransactionRecord` holds it: the record of its operation.
+/// A part of a multi, without its `MultiHeader`: the record of its operation (`MultiTransactionRecord`).
 #[derive(Debug, Drop)]
 pub enum PartOf<T, B, A> {
     Create(CreateAskOf<T, B, A>),

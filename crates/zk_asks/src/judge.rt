@@ -3,8 +3,8 @@ ghost use Rattle.std.specs.Prelude.{◌≡◌, ◌≤◌, ◌<◌, ◌^◌, ℤ,
 ghost use Rattle.zk_asks.specs.{Held.Part, Faults.IsAskFault, Faults.IsBodyFault, Rows.Fields, Rows.body_of, Fronts.IsHeadAt, Fronts.IsOutlined, Fronts.IsBodyWith, Fronts.IsMultiOf};
 ghost use Rattle.zk_jute.specs.{Told.IsSurelyTold, Told.IsSurelyToldAt, Verdict.Says};
 
+use crate::allowed_xids::allowed;
 use crate::ask_rows;
-use crate::codes::allowed;
 use crate::part_list::multi_end;
 use crate::request::MultiRef;
 use zk_jute::{Ends, Reason, Sequence, Verdict, read_ref};
@@ -19,9 +19,9 @@ pub(crate) const HEADER: usize = 8;
 /// A request reduced to what its reply is read by, in numbers: its parts, if it has some, are read again from the payload.
 #[derive(Clone, Copy, Debug)]
 pub struct Outline {
-    /// The xid.
+    /// The xid of its `RequestHeader`.
     pub xid: i32,
-    /// The operation.
+    /// The operation that the header's type is.
     pub op: Op,
     /// How many parts a multi has; 0 of another request.
     pub parts: usize,
@@ -89,7 +89,7 @@ fn asked_head<V: Verdict>(profile: Profile, payload: &[u8]) -> Result<(i32, Op, 
 ///
 /// # Errors
 ///
-/// The fault that `borrow_ask` returns. `Undecided` says nothing.
+/// The fault that `borrow_ask` returns, where `V` is `ItemFault`; `Undecided` says nothing.
 #[inline(always)]
 pub fn judge_ask<V: Verdict>(profile: Profile, payload: &[u8]) -> Result<Outline, V>
     ensures found { IfOk result (λ o. IsOutlined profile o payload.now) }

@@ -1,4 +1,4 @@
-//! `client_ref`, `judged_ref`: payloads known to be a client's frames, borrowed without a judgement.
+//! `client_ref`, `written_ref`, `judged_ref`: payloads known to be a client's frames, borrowed without a judgement.
 ghost use Rattle.std.specs.Prelude.{◌≡◌, ◌≤◌, ℕ, length, Some};
 ghost use Rattle.zk_jute.specs.{Item.HaveBytes, Told.StandsAt, Standing.OneStands};
 ghost use Rattle.zk_asks.specs.{Held.Ask, Held.ClientFrame, Rows.row_of, Rows.items_in, Rows.op_of_ask, Rows.body_items, Frames.IsLater, Frames.IsSent, Frames.IsTurn};
@@ -15,9 +15,15 @@ use zk_records::{
     SetDataAskRef, SetWatchesAskRef, WatchAskRef, op_of,
 };
 
-/// The record of the operation `op` that is known to be at `place`.
-// `JUDGED`: whether it was judged just now. With one caller each, both instances are inlined.
-fn body_there<'a, const JUDGED: bool>(payload: &'a [u8], place: usize, op: Op) -> AskRef<'a>
+/// The callers of `body_there`: each has an instance of its own, which is inlined, since a call would cost a view.
+const VIEWED: u8 = 0;
+
+const WRITTEN: u8 = 1;
+
+const JUDGED: u8 = 2;
+
+/// The record of the operation `op` that is known to be at `place`. `FOR` is the caller.
+fn body_there<'a, const FOR: u8>(payload: &'a [u8], place: usize, op: Op) -> AskRef<'a>
     requires within { place ≤ length payload.now }
     requires stands { OneStands (items_in (row_of op)) payload.now place }
     ensures { (a : Ask) (end : ℕ) → op_of_ask a ≡ op → HaveBytes (body_items a) → StandsAt (body_items a) payload.now place end → result ≡ a }
@@ -34,17 +40,32 @@ fn body_there<'a, const JUDGED: bool>(payload: &'a [u8], place: usize, op: Op) -
     ask_rows!(row, op)
 }
 
-/// The request that the payload is known to be.
-fn known_ask<'a>(payload: &'a [u8]) -> ClientRef<'a>
-    requires { (f : ClientFrame) × IsLater f × IsSent f × (payload.now ≡ frames.payload f) }
-    ensures { (f : ClientFrame) → IsLater f → IsSent f → payload.now ≡ frames.payload f → result ≡ f }
+/// The request that the payload is known to be. `FOR` is the caller.
+#[inline(always)]
+fn known_ask<'a, const FOR: u8>(payload: &'a [u8]) -> ClientRef<'a>
+    requires { (f : ClientFrame) × IsLater f × HaveBytes (frames.frame_items f) × (payload.now ≡ frames.payload f) }
+    ensures { (f : ClientFrame) → IsLater f → HaveBytes (frames.frame_items f) → payload.now ≡ frames.payload f → result ≡ f }
 {
     let (header, place) = known_at::<RequestHeader>(payload, 0);
     let op = op_of(Profile::V35, header.kind).unwrap();
-    let ask = body_there::<false>(payload, place, op);
+    let ask = body_there::<FOR>(payload, place, op);
     ClientFrameOf::Ask {
         xid: header.xid,
         ask,
+    }
+}
+
+/// The client's `first` frame or a later one that `payload` is known to be. `FOR` is the caller.
+#[inline(always)]
+fn known_client<const FOR: u8>(first: bool, payload: &[u8]) -> ClientRef<'_>
+    requires { (f : ClientFrame) × IsTurn first f × HaveBytes (frames.frame_items f) × (payload.now ≡ frames.payload f) }
+    ensures { (f : ClientFrame) → IsTurn first f → HaveBytes (frames.frame_items f) → payload.now ≡ frames.payload f → result ≡ f }
+{
+    if first {
+        let (hello, read_only) = known_flagged(payload);
+        ClientFrameOf::Connect { hello, read_only }
+    } else {
+        known_ask::<FOR>(payload)
     }
 }
 
@@ -52,15 +73,19 @@ fn known_ask<'a>(payload: &'a [u8]) -> ClientRef<'a>
 /// nothing is judged again.
 #[inline(always)]
 pub fn client_ref(first: bool, payload: &[u8]) -> ClientRef<'_>
-    requires { (f : ClientFrame) × IsTurn first f × IsSent f × (payload.now ≡ frames.payload f) }
-    ensures { (f : ClientFrame) → IsTurn first f → IsSent f → payload.now ≡ frames.payload f → result ≡ f }
+    requires { (f : ClientFrame) × IsTurn first f × HaveBytes (frames.frame_items f) × (payload.now ≡ frames.payload f) }
+    // Whether a client may send it or not.
+    ensures { (f : ClientFrame) → IsTurn first f → HaveBytes (frames.frame_items f) → payload.now ≡ frames.payload f → result ≡ f }
 {
-    if first {
-        let (hello, read_only) = known_flagged(payload);
-        ClientFrameOf::Connect { hello, read_only }
-    } else {
-        known_ask(payload)
-    }
+    known_client::<VIEWED>(first, payload)
+}
+
+/// As `client_ref`, of a payload that was written just now.
+pub fn written_ref(first: bool, payload: &[u8]) -> ClientRef<'_>
+    requires { (f : ClientFrame) × IsTurn first f × HaveBytes (frames.frame_items f) × (payload.now ≡ frames.payload f) }
+    ensures { (f : ClientFrame) → IsTurn first f → HaveBytes (frames.frame_items f) → payload.now ≡ frames.payload f → result ≡ f }
+{
+    known_client::<WRITTEN>(first, payload)
 }
 
 /// The request that the payload was judged to be. Its header isn't read again, and a multi's parts aren't walked.
@@ -75,7 +100,7 @@ pub(crate) fn judged_request<'a>(payload: &'a [u8], outline: Outline) -> ClientR
         },
         op => ClientFrameOf::Ask {
             xid: outline.xid,
-            ask: body_there::<true>(payload, HEADER, op),
+            ask: body_there::<JUDGED>(payload, HEADER, op),
         },
     }
 }

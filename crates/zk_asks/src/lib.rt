@@ -1,7 +1,7 @@
 //! A client's payloads: the connect request, and the requests of the operations that a `Profile` has.
 //!
 //! - `read_first` and `read_ask` read a payload as an owned `ClientFrame`; `borrow_first` and `borrow_ask` decide the
-//!   same and borrow, without memory; `client_ref` and `judged_ref` borrow what is already judged.
+//!   same and borrow, without memory; `client_ref`, `written_ref` and `judged_ref` borrow what is already known.
 //! - `scan_ask` keeps of a request what its reply is read by, an `Asked`: the operation, and those of a multi's parts.
 //! - `judge_ask` judges a payload by where its records end, and keeps an `Outline` of it in numbers: its xid, its
 //!   operation, and how many parts it has. Of a fault it returns the verdict that is asked for: the `ItemFault`, or
@@ -15,9 +15,9 @@
 //! The crate rests on `zk_jute` and `zk_records`.
 //!
 //! ```text
-//! let payload = b"\0\0\0\x01\0\0\0\x03\0\0\0\x02/a\x01";
-//! let scan = scan_ask(Profile::V34, payload)?;
-//! // scan.xid() is 1 and scan.op() is Op::Exists: exists "/a", with a watch
+//! let payload = b"\0\0\0\x01\0\0\0\x03\0\0\0\x02/a\x01"; // exists "/a", with a watch
+//! let outline = judge_ask::<ItemFault>(Profile::V34, payload)?;
+//! assert!(rt; outline.xid == 1 && outline.op == Op::Exists);
 //! ```
 //!
 //! # Choices
@@ -43,10 +43,9 @@
 //! which fault it is; that every form is read follows from the laws.
 #![tactic(auto)]
 
-mod alone;
+mod allowed_xids;
 mod asked;
 mod borrow;
-mod codes;
 mod frame;
 mod judge;
 mod known;
@@ -57,19 +56,20 @@ mod part_list;
 mod read;
 mod request;
 mod scan;
+mod without_parts;
 mod write;
 
-pub use alone::Alone;
+pub use allowed_xids::allowed;
 pub use asked::{Asked, Room, asked_laws};
 pub use borrow::{borrow_ask, borrow_first};
-pub use codes::allowed;
 pub use frame::{Ask, AskOf, AskRef, ClientFrame, ClientFrameOf, ClientRef, Part, PartOf, PartRef};
 pub use judge::{Outline, judge_ask, judged_multi};
-pub use known::{client_ref, judged_ref};
+pub use known::{client_ref, judged_ref, written_ref};
 pub use laws::{ask_laws, first_laws, form_laws, opening_laws};
 pub use multi::{is_end, known_multi};
 pub use part_list::PartList;
 pub use read::{read_ask, read_first};
 pub use request::{MultiRef, RequestRef};
 pub use scan::{Scan, scan_ask, scan_first};
+pub use without_parts::Alone;
 pub use write::write_client;

@@ -34,7 +34,8 @@ pub(crate) fn part_mark_of(header: &MultiHeader) -> PartMark
     }
 }
 
-/// Whether the header is the end marker.
+/// Whether the header is the end marker: done, with -1 for its type and its error
+/// (`MultiTransactionRecord.serialize`).
 pub fn is_end(header: &MultiHeader) -> bool
     ensures { IsTrue result ↔ (header.now ≡ end_header) }
 {

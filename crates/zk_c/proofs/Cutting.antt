@@ -3,7 +3,7 @@ use Rattle.std.proofs.Common.{◌≡◌, ℕ, ◌+◌, ◌<◌, ◌≤◌, ◌�
 use Rattle.std.specs.Borrow.{Bor}
 use Rattle.std.proofs.{lemmas.List.append-nil, lemmas.List.drop_more, Math.ListN.drop_of_length-le, lemmas.Grind.flat_map-append}
 use Rattle.zk_talk.specs.{declared.message.Side.Side, Answer.history_of, History.History, History.on}
-use Rattle.zk_c.specs.{declared.cut.Piece.Piece, Numbers.side_of, Cut.AreCut}
+use Rattle.zk_c.specs.{declared.pieces.Piece.Piece, Numbers.side_of, Cut.AreCut}
 
 -- all of the pieces are cut as the rest of them is, behind what is done
 abbrev pub IsSoFar : List Piece → List ℕ → History → List Piece → List ℕ → Type 0

@@ -2,7 +2,7 @@
 use Rattle.std.proofs.Common.{◌≡◌, ℕ, Bool, List, Option, Some, Result, IsSomeAnd, refl, sym, ap, subst, ◌∙◌}
 use Rattle.std.specs.Prelude.{unwrap_or}
 use Rattle.zk_talk.specs.{declared.message.Side.Side, declared.message.Fault.Fault, declared.talk.Stepped.Stepped, Stands.TalkState}
-use Rattle.zk_c.specs.{Numbers.side_of, Handle.Call, Handle.IsAnswerOf, Calls.OnHeld, Calls.OnSide, declared.said.SayAnswer.SayAnswer, Voice.VoiceState, Saying.TellsSay, Saying.TellsPayload, declared.payload.PayloadAnswer.PayloadAnswer}
+use Rattle.zk_c.specs.{Numbers.side_of, Handle.Call, Handle.IsOffer, Handle.IsAnswerOf, Calls.OnHeld, Calls.OnSide, declared.say_result.SayAnswer.SayAnswer, Voice.VoiceState, Saying.TellsSay, Saying.TellsPayload, declared.payload.PayloadAnswer.PayloadAnswer}
 use Rattle.zk_talk.specs.declared.message.Side.TheVariants.{Client, Server}
 use Rattle.zk_through.specs.Runs.{ThroughState}
 use Rattle.zk_c.specs.Passage.{newest_on}
@@ -34,6 +34,9 @@ answers answer_of Is outcome answer new told is = record { outcome = outcome; to
 
 pub call_of : (Is : Call) {t u new : TalkState} {side : Side} {piece : List ℕ} {outcome : Result Stepped Fault} → t ≡ u → Is t side piece outcome new → Is u side piece outcome new
 call_of Is {new = new} {side = side} {piece = piece} {outcome = outcome} same is = subst (λ (s : TalkState). Is s side piece outcome new) same is
+
+pub offer_of : {t u new : TalkState} {side : Side} {frame : List ℕ} {outcome : Result Bool Fault} → t ≡ u → IsOffer t side frame outcome new → IsOffer u side frame outcome new
+offer_of {new = new} {side = side} {frame = frame} {outcome = outcome} same is = subst (λ (s : TalkState). IsOffer s side frame outcome new) same is
 
 pub say_of : {v w new : VoiceState} {text : List ℕ} {answer : SayAnswer} → v ≡ w → TellsSay v text new answer → TellsSay w text new answer
 say_of {new = new} {text = text} {answer = answer} same says = subst (λ (u : VoiceState). TellsSay u text new answer) same says

@@ -5,6 +5,7 @@ pub mod Handles
 mod Keeping
 mod Opening
 mod Parts
+mod Payloads
 mod Pointers
 mod Reading
 mod Texts

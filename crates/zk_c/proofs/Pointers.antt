@@ -5,7 +5,7 @@ use Rattle.zk_c.specs.contracts.conversation.Conversation as talk_held
 use Rattle.zk_c.specs.contracts.boxes.TalkBox as talk_box
 use Rattle.zk_c.specs.contracts.passage.Passage as passage_held
 use Rattle.zk_c.specs.contracts.boxes.PassageBox as passage_box
-use Rattle.zk_c.specs.contracts.voice.Voice as voice_held
+use Rattle.zk_c.specs.contracts.speaker_and_frame.Voice as voice_held
 use Rattle.zk_c.specs.contracts.boxes.VoiceBox as voice_box
 
 abbrev pub talk : Kind

@@ -4,7 +4,7 @@ use Rattle.std.proofs.lemmas.Bool.Decides.{nat_tests}
 use Rattle.zk_talk.specs.Held.{Message}
 use Rattle.zk_records.specs.{declared.profile.Profile.Profile, Codes.profile_number}
 use Rattle.zk_records.specs.declared.profile.Profile.TheVariants.{V34, V35}
-use Rattle.zk_fields.specs.{declared.field.Field.Field, Frames.AreWritten, declared.opened.Opened.Opened}
+use Rattle.zk_fields.specs.{declared.field.Field.Field, Frames.AreWritten, declared.payload_fields.Opened.Opened}
 use Rattle.zk_c.specs.{declared.read_answer.ReadAnswer.ReadAnswer, Answer.message_head, Judged.IsOfForm}
 use Rattle.std.specs.Prelude.{pos, true, nat_lt, Option, Result, Ok, Err}
 use Rattle.zk_jute.specs.{Reading.Read, Reading.told, Told.IsSurelyTold, declared.fault.Reason.Reason, declared.fault.ItemFault.ItemFault}

@@ -1,5 +1,5 @@
 -- What calls return, in numbers.
-use Rattle.std.specs.Prelude.{ℕ, ◌-◌, pos, negsuc, false, Option, unwrap_or, Result, Ok, Err}
+use Rattle.std.specs.Prelude.{ℕ, ◌-◌, pos, negsuc, Bool, true, false, Option, unwrap_or, Result, Ok, Err}
 use Rattle.zk_records.specs.Codes.{op_number}
 use Rattle.zk_asks.specs.{Rows.op_of_ask, Held.ClientFrame}
 use Rattle.zk_asks.specs.declared.frame.ClientFrameOf.TheVariants.{Connect, Ask}
@@ -32,6 +32,12 @@ no_step status = record { used = 0; status = status; whole = false; fault = no_f
 abbrev pub step_answer : Result Stepped Fault → StepAnswer
 step_answer (Ok s) = record (no_step 0) { used = s.used; whole = s.whole }
 step_answer (Err f) = record (no_step (reason_number f.reason)) { fault = fault_numbers f }
+
+-- the offer of so many bytes; 67 where they are not one frame
+abbrev pub offer_answer : ℕ → Result Bool Fault → StepAnswer
+offer_answer length (Ok false) = no_step 67
+offer_answer length (Ok true) = record (no_step 0) { used = length; whole = true }
+offer_answer length (Err f) = record (no_step (reason_number f.reason)) { fault = fault_numbers f }
 
 abbrev pub no_ending : ℕ → EndingAnswer
 no_ending status = record { status = status; kind = 0; unanswered = 0; side = 0; got = 0; frame = 0; fault = no_fault }

@@ -1,7 +1,7 @@
 -- Pieces whose bytes come one after the other.
 use Rattle.std.specs.Prelude.{◌≡◌, ℕ, ◌≤◌, ◌↔◌, List, [], ◌∷◌, ◌++◌, length, take, drop, Some}
 use Rattle.zk_talk.specs.{declared.message.Side.Side, History.History, History.on}
-use Rattle.zk_c.specs.{declared.cut.Piece.Piece, Numbers.side_of}
+use Rattle.zk_c.specs.{declared.pieces.Piece.Piece, Numbers.side_of}
 
 -- the bytes are those of the pieces, and no more; with their sides they are this history
 abbrev pub AreCut : List Piece → List ℕ → History → Type 0

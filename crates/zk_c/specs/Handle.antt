@@ -1,12 +1,12 @@
 -- What the talk behind a handle does.
-use Rattle.std.specs.Prelude.{◌≡◌, ◌≢◌, ℕ, ◌<◌, ◌+◌, Bool, false, List, [], ◌++◌, length, drop, Option, Some, None, Result, Err, IfOk, IfErr, OnErr, IsSomeAnd}
+use Rattle.std.specs.Prelude.{◌≡◌, ◌≢◌, ℕ, ◌<◌, ◌+◌, Bool, true, false, List, [], ◌++◌, length, drop, Option, Some, None, Result, Ok, Err, IfOk, IfErr, OnErr, IsSomeAnd, MatchBool}
 use Rattle.zk_jute.specs.declared.fault.Reason.TheVariants.{NoMemory}
 use Rattle.zk_talk.specs.{declared.message.Side.Side, declared.message.Fault.Fault, declared.talk.Stepped.Stepped, declared.message.Ending.Ending, declared.message.Ending.TheVariants.Refused, declared.limits.Limits.Limits, Held.Message}
 use Rattle.zk_talk.specs.declared.message.Side.TheVariants.{Client, Server}
 use Rattle.zk_talk.specs.{History.History, Conversation.Conversation, Conversation.number_waiting, Conversation.load, Fault.rest_on, Ending.IsEnding, Numbers.NewestAnswers, Said.payload_of}
 use Rattle.zk_talk.specs.Stands.{TalkState, Stands, Refuses, WhereItStands, WhereItRefuses, held_on, kept_on, frames_on}
-use Rattle.zk_talk.specs.{Taking.StepsOn, Taking.PassesOn, Taking.IsRefused, Taking.given_up, Viewed.Shows, Viewed.Leaves, Viewed.other_side, Ranges.AreLimits}
-use Rattle.zk_c.specs.{declared.answer.StepAnswer.StepAnswer, Answer.step_answer, Answer.no_message, Answer.message_answer, Answer.no_line, declared.answer.MessageAnswer.MessageAnswer, declared.answer.LineAnswer.LineAnswer}
+use Rattle.zk_talk.specs.{Taking.StepsOn, Taking.PassesOn, Taking.IsRefused, Taking.given_up, Offered.IsOneFrame, Offered.IsNotOneFrame, Offered.WouldRefuse, Viewed.Shows, Viewed.Leaves, Viewed.other_side, Ranges.AreLimits}
+use Rattle.zk_c.specs.{declared.answer.StepAnswer.StepAnswer, Answer.step_answer, Answer.offer_answer, Answer.no_message, Answer.message_answer, Answer.no_line, declared.answer.MessageAnswer.MessageAnswer, declared.answer.LineAnswer.LineAnswer}
 use Rattle.zk_records.specs.{declared.profile.Profile.Profile, Codes.profile_number}
 use Rattle.zk_c.specs.{declared.answer.WaitingAnswer.WaitingAnswer, declared.answer.HeldAnswer.HeldAnswer, declared.read_answer.ReadAnswer.ReadAnswer, Read.no_read, Read.TellsMessage}
 use Rattle.zk_fields.specs.declared.field.Field.{Field}
@@ -32,6 +32,17 @@ pub record IsPass (old : TalkState) (side : Side) (piece : List ℕ) (outcome : 
   pub advanced : IsAdvanced (λ used whole. PassesOn old side piece used whole new) old side piece outcome new
   pub given_up : kept_on side new ≡ []
 
+-- what `Talk::offer` promises
+pub record IsOffer (old : TalkState) (side : Side) (frame : List ℕ) (outcome : Result Bool Fault) (new : TalkState) : Type 0 where
+  pub limits : new.limits ≡ old.limits
+  pub taken : IfOk outcome (λ took. took ≡ true → StepsOn old side frame (length frame) true new)
+  pub one : IfOk outcome (λ took. MatchBool took (IsOneFrame old side frame) (IsNotOneFrame old side frame))
+  pub only : IsNotOneFrame old side frame → old.fault ≡ None → outcome ≡ Ok false
+  pub same : outcome ≢ Ok true → new ≡ old
+  pub other : Leaves (other_side side) old new
+  pub err : IfErr outcome (λ e. (e.reason ≢ NoMemory) × WouldRefuse old side frame e)
+  pub kept : (f : Fault) → old.fault ≡ Some f → outcome ≡ Err f
+
 -- a call that takes a piece of a side
 abbrev pub Call : Type 1
 Call = TalkState → Side → List ℕ → Result Stepped Fault → TalkState → Type 0
@@ -45,6 +56,10 @@ pub record IsAnswerOf {A R X : Type 0} (answer_of : R → X) (Is : R → A → T
 -- the answer is that of such a call of the talk, which goes on behind the handle
 abbrev pub Tells : Call → TalkState → Side → List ℕ → StepAnswer → Option TalkState → Type 0
 Tells Is old side piece answer after = IsSomeAnd after (IsAnswerOf step_answer (Is old side piece) answer)
+
+-- the answer is that of an offer to the talk, which goes on behind the handle
+abbrev pub TellsOffer : TalkState → Side → List ℕ → StepAnswer → Option TalkState → Type 0
+TellsOffer old side frame answer after = IsSomeAnd after (IsAnswerOf (offer_answer (length frame)) (IsOffer old side frame) answer)
 
 -- the limits are these numbers
 pub record AreNumbers (c s w p : ℕ) (limits : Limits) : Type 0 where

@@ -12,4 +12,5 @@ pub mod Voice
 pub mod Saying
 pub mod Passage
 pub mod Passing
+pub mod PassingOn
 pub mod Write

@@ -4,7 +4,7 @@ use Rattle.std.specs.List.{flat_map}
 use Rattle.zk_talk.specs.{Held.Message, History.History, Answer.AreMessages, Ending.IsEnding, declared.message.Ending.Ending, declared.limits.Limits.Limits, Ranges.AreLimits}
 use Rattle.zk_records.specs.{declared.profile.Profile.Profile, Codes.profile_number}
 use Rattle.zk_lines.specs.{Lines.line, Endings.ending_text}
-use Rattle.zk_c.specs.{declared.answer.LineAnswer.LineAnswer, declared.cut.Piece.Piece, Answer.no_line, Cut.AreCut, Handle.AreNumbers, Handle.TellsText}
+use Rattle.zk_c.specs.{declared.answer.LineAnswer.LineAnswer, declared.pieces.Piece.Piece, Answer.no_line, Cut.AreCut, Handle.AreNumbers, Handle.TellsText}
 
 -- a message's line with its line feed
 abbrev pub message_line : Message → List ℕ

@@ -1,10 +1,9 @@
 -- What the passage behind a handle does.
-use Rattle.std.specs.Prelude.{◌≡◌, ℕ, pos, Bool, true, false, List, [], Option, Some, Result, Ok, Err, IfOk, IfErr, IsSomeAnd}
-use Rattle.zk_frames.specs.Framing.{frame}
+use Rattle.std.specs.Prelude.{◌≡◌, ℕ, pos, Bool, true, false, List, [], Option, Some, Result, Ok, Err, IfOk, IfErr, OnErr, IsSomeAnd}
 use Rattle.zk_talk.specs.{declared.message.Side.Side, declared.message.Fault.Fault, declared.message.Ending.Ending, declared.message.Ending.TheVariants.Refused, History.History, Held.Message, Stands.kept_on, Viewed.Shows, Viewed.other_side}
-use Rattle.zk_through.specs.{declared.through.Passed.Passed, declared.through.Went.Went, Came.Came, Came.told, Unseen.made_up}
+use Rattle.zk_through.specs.{declared.through.Passed.Passed, declared.through.Went.Went, Came.Came, Resumed.IsLate}
 use Rattle.zk_through.specs.declared.through.Went.TheVariants as went
-use Rattle.zk_through.specs.Runs.{Runs, WentOn, IsRefused, IsNeverFull, LeavesSide, IsEndOf, given_up, stream_on, left_on}
+use Rattle.zk_through.specs.Runs.{Runs, WentOn, IsRefused, IsNeverFull, LeavesSide, KeepsWaiting, KeepsNone, IsEndOf, KeepsNothing, given_up, silenced, stream_on}
 use Rattle.zk_fields.specs.declared.field.Field.{Field}
 use Rattle.zk_c.specs.{declared.answer.MessageAnswer.MessageAnswer, declared.answer.LineAnswer.LineAnswer, declared.passed.PassedAnswer.PassedAnswer, declared.read_answer.ReadAnswer.ReadAnswer, Numbers.reason_number}
 use Rattle.zk_c.specs.Answer.{no_fault, fault_numbers, no_message, message_answer, no_line}
@@ -52,8 +51,10 @@ pub record IsPassing (old : PassageState) (side : Side) (piece : List ℕ) (outc
   pub ok : IfOk outcome (λ s. WentOn old.through side piece s.used s.went new.through)
   pub err : IfErr outcome (λ e. IsRefused old.through side piece e new.through)
   pub room : IfErr outcome (λ e. IsNeverFull old.through e)
+  pub waits : OnErr outcome (KeepsWaiting old.through new.through)
   pub other : LeavesSide (other_side side) old.through new.through
-  pub kept : (f : Fault) → old.through.fault ≡ Some f → (outcome ≡ Err f) × (new.through ≡ given_up side old.through)
+  pub none : OnErr outcome (KeepsNone side old.through new.through)
+  pub kept : (f : Fault) → old.through.fault ≡ Some f → (outcome ≡ Err f) × (new.through ≡ silenced side (given_up side old.through))
   pub newest : newest_on side new ≡ newest_after outcome (newest_on side old)
   pub others : newest_on (other_side side) new ≡ newest_on (other_side side) old
 
@@ -65,12 +66,12 @@ TellsStep old side piece answer after = IsSomeAnd after (IsAnswerOf passed_answe
 pub record HasBegun (p : PassageState) : Type 0 where
   pub late : p.through.late ≡ false
   pub runs : Runs p.through [] [] [] []
+  pub keeps : KeepsNothing p.through
   pub none : (p.client ≡ false) × (p.server ≡ false)
 
 -- the connection is seen late: only the connect pair has come that nobody sent, and no side shows a message
 pub record HasJoined (p : PassageState) : Type 0 where
-  pub late : p.through.late ≡ true
-  pub runs : (M : List Message) × Runs p.through (told made_up) made_up made_up M
+  pub late : IsLate p.through
   pub none : (p.client ≡ false) × (p.server ≡ false)
 
 abbrev pub Begins : Bool → PassageState → Type 0
@@ -112,11 +113,6 @@ IsLine p side = TellsShown (ShowsNone p side) (ShowsNewest p side) (no_line 69) 
 
 abbrev pub IsFields : PassageState → Side → List Field → List Field → ReadAnswer → Type 0
 IsFields p side = TellsShown (ShowsNone p side) (ShowsNewest p side) (no_read 69) TellsMessage
-
--- the text is the payload of the frame that the side's last step left out, or passed over
-pub record IsLeftOut (p : PassageState) (side : Side) (before after : List ℕ) (answer : LineAnswer) : Type 0 where
-  pub none : left_on side p.through ≡ [] → (answer ≡ no_line 69) × (after ≡ before)
-  pub some : (left_on side p.through ≡ [] → ⊥) → (q : List ℕ) × (left_on side p.through ≡ frame q) × TellsText q before after answer
 
 -- what `Through::finish` promises
 pub record IsFinish (p : PassageState) (ending : Ending) : Type 0 where

@@ -8,8 +8,8 @@ use Rattle.zk_asks.specs.Frames as asks
 use Rattle.zk_answers.specs.Frames as answers
 use Rattle.zk_talk.specs.Held.{Message}
 use Rattle.zk_talk.specs.declared.message.MessageOf.TheVariants.{Client as FromClient, Server as FromServer}
-use Rattle.zk_fields.specs.{declared.field.Field.Field, declared.opened.Opened.Opened, Frames.AreWritten, Frames.client_fields, Frames.server_fields, Walks.opened_fields}
-use Rattle.zk_fields.specs.declared.opened.Opened.TheVariants as opened
+use Rattle.zk_fields.specs.{declared.field.Field.Field, declared.payload_fields.Opened.Opened, Frames.AreWritten, Frames.client_fields, Frames.server_fields, Walks.opened_fields}
+use Rattle.zk_fields.specs.declared.payload_fields.Opened.TheVariants as opened
 use Rattle.zk_c.specs.{declared.read_answer.ReadAnswer.ReadAnswer, Numbers.reason_number, Answer.message_head, declared.head.Head.Head, Asked.WhereAsked}
 use Rattle.zk_asks.specs.Faults.{IsFirstFault, IsAskFault}
 use Rattle.zk_answers.specs.Faults.{IsHead, IsHeadFault, IsConnectedFault, IsReplyFault, IsEventFault}

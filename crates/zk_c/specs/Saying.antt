@@ -3,12 +3,12 @@ use Rattle.std.specs.Prelude.{◌≡◌, ◌≢◌, ℕ, ◌⊎◌, List, [], �
 use Rattle.zk_frames.specs.Framing.{frame}
 use Rattle.zk_items.specs.{declared.fault.LineFault.LineFault, declared.fault.LineReason.LineReason}
 use Rattle.zk_items.specs.declared.fault.LineReason.TheVariants as lines
-use Rattle.zk_talk.specs.{Held.Message, declared.say.SayFault.SayFault, declared.message.Side.Side, declared.payload.PayloadFault.PayloadFault, Said.SpeakerState, Said.Says, Said.MaySay, Said.MayStand, Said.IsSayFault, Said.payload_of}
+use Rattle.zk_talk.specs.{Held.Message, declared.say.SayFault.SayFault, declared.message.Side.Side, declared.payload.PayloadFault.PayloadFault, Said.SpeakerState, Said.Says, Said.MaySay, Said.IsSayFault, Said.payload_of}
 use Rattle.zk_talk.specs.declared.say.SayFault.TheVariants.{NotFirst, Unasked, XidOrder, Misfit, TooLong, QueueFull, NoMemory}
 use Rattle.zk_talk.specs.declared.payload.PayloadFault.TheVariants.{Item, Say}
 use Rattle.zk_talk.specs.SaidPayload.{SaysPayload, RefusesPayload, StandsPayload, CannotSay}
 use Rattle.zk_lines.specs.Lines.{line, Fits}
-use Rattle.zk_c.specs.{declared.said.SayAnswer.SayAnswer, declared.payload.PayloadAnswer.PayloadAnswer, Numbers.reason_number, Judged.payload_answer, Voice.VoiceState, Handle.IsMadeOf, Handle.BeginsAnew}
+use Rattle.zk_c.specs.{declared.say_result.SayAnswer.SayAnswer, declared.payload.PayloadAnswer.PayloadAnswer, Numbers.reason_number, Judged.payload_answer, Voice.VoiceState, Handle.IsMadeOf, Handle.BeginsAnew}
 
 abbrev pub say_number : SayFault → ℕ
 say_number NotFirst = 81
@@ -36,10 +36,10 @@ say_answer status length column = record { status = status; length = length; col
 abbrev pub silent : VoiceState → VoiceState
 silent v = record v { frame = [] }
 
--- why the message isn't said: memory was refused, for one that may come next; or the case that refuses what may not be said
+-- why the message isn't said: memory was refused, for one that may be said; or the case that refuses what may not be said
 pub record IsRefusal (s : SpeakerState) (m : Message) (e : SayFault) : Type 0 where
   pub err : (e ≡ NoMemory) ⊎ ((before : List Message) → Says s before → IsSayFault s.limits before m e)
-  pub lacks : e ≡ NoMemory → (before : List Message) → Says s before → MayStand s.limits before m
+  pub lacks : e ≡ NoMemory → (before : List Message) → Says s before → MaySay s.limits before m
   pub exact : e ≢ NoMemory → (before : List Message) → Says s before → MaySay s.limits before m → ⊥
 
 -- what a call does with the text of a line
@@ -61,7 +61,7 @@ abbrev pub refused_payload : PayloadFault → PayloadAnswer
 refused_payload (Item e) = payload_answer (reason_number e.reason) e.place
 refused_payload (Say e) = payload_answer (say_number e) 0
 
--- why the payload isn't said: memory was refused, for one that may come next; or the case that refuses what may not be said
+-- why the payload isn't said: memory was refused, for one that may be said; or the case that refuses what may not be said
 pub record IsPayloadRefused (s : SpeakerState) (side : Side) (p : List ℕ) (e : PayloadFault) : Type 0 where
   pub err : (e ≡ Say NoMemory) ⊎ RefusesPayload s side p e
   pub lacks : e ≡ Say NoMemory → StandsPayload s side p

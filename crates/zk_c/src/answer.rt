@@ -2,10 +2,10 @@
 ghost use Rattle.std.specs.Prelude.{◌≡◌, ◌≢◌, pos, Some, None, MatchOption};
 ghost use Rattle.zk_talk.specs.Held.{Message};
 ghost use Rattle.zk_c.specs.{Handle.TellsText, Numbers.expected_of, Numbers.got_of};
-ghost use Rattle.zk_c.specs.Answer.{no_fault, fault_numbers, no_step, step_answer, no_ending, ending_answer, no_message, message_answer, no_line, no_waiting, no_held};
+ghost use Rattle.zk_c.specs.Answer.{no_fault, fault_numbers, no_step, step_answer, offer_answer, no_ending, ending_answer, no_message, message_answer, no_line, no_waiting, no_held};
 
 use crate::head::Head;
-use crate::number::{NO_MESSAGE, ROOM, WELL, reason_number, side_number};
+use crate::number::{NO_MESSAGE, RANGE, ROOM, WELL, reason_number, side_number};
 use zk_jute::Reason;
 use zk_talk::{Ending, Fault, MessageRef, Stepped};
 
@@ -109,13 +109,13 @@ pub struct HeldAnswer {
     pub bytes: u32,
 }
 
-/// What a call returns that writes text.
+/// What a call returns that writes text: a line, a listing, a payload or a frame.
 #[repr(C)]
 #[derive(Clone, Copy)]
 pub struct LineAnswer {
-    /// 0, or why there is no text.
+    /// 0, or why no text is written.
     pub status: u32,
-    /// The length of the text in bytes.
+    /// The length of the text in bytes, also if there is no room for it.
     pub length: usize,
 }
 
@@ -201,6 +201,22 @@ impl StepAnswer {
                     fault: fault_numbers(fault),
                 }
             }
+        }
+    }
+}
+
+impl StepAnswer {
+    /// The result of the offer of `length` bytes, in numbers.
+    pub fn of_offer(outcome: Result<bool, Fault>, length: usize) -> StepAnswer
+        ensures { result ≡ offer_answer length outcome }
+    {
+        match outcome {
+            Ok(false) => StepAnswer::none(RANGE),
+            Ok(true) => StepAnswer::of(Ok(Stepped {
+                used: length,
+                whole: true,
+            })),
+            Err(fault) => StepAnswer::of(Err(fault)),
         }
     }
 }

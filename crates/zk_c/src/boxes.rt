@@ -2,12 +2,12 @@
 ghost use Rattle.std.specs.Prelude.{◌≡◌, Option, Some, None, IsSome};
 ghost use Rattle.std.specs.Coded.{coded_option};
 ghost use Rattle.zk_talk.specs.Stands.{TalkState};
-ghost use Rattle.zk_c.specs.{Owned.owned, Passage.PassageState, Voice.VoiceState, contracts.conversation.Conversation.the_row as talk_row, contracts.passage.Passage.the_row as passage_row, contracts.voice.Voice.the_row as voice_row};
+ghost use Rattle.zk_c.specs.{Owned.owned, Passage.PassageState, Voice.VoiceState, contracts.conversation.Conversation.the_row as talk_row, contracts.passage.Passage.the_row as passage_row, contracts.speaker_and_frame.Voice.the_row as voice_row};
 
 use crate::conversation::Conversation;
-use crate::loose::Loose;
 use crate::passage::Passage;
-use crate::voice::Voice;
+use crate::raw_box::Loose;
+use crate::speaker_and_frame::Voice;
 use std::alloc::Global;
 use std::marker::Model;
 

@@ -1,9 +1,9 @@
 //! `Conversation`: a talk, and a buffer for the lines of its messages.
 ghost use Rattle.std.specs.Prelude.{◌≡◌, [], Some, None, IfOk};
 ghost use Rattle.zk_talk.specs.{Held.Message, Stands.kept_on};
-ghost use Rattle.zk_lines.specs.Lines.{line};
+ghost use Rattle.zk_lines.specs.{Lines.line, Endings.ending_text};
 ghost use Rattle.zk_c.specs.Answer.{no_line};
-ghost use Rattle.zk_c.specs.Handle.{HasBegun, IsRenewed, IsStep, IsPass, IsFinish, AnswersOn, IsView, IsLine, IsEndingLine, IsFields, IsPayload, IsWaiting, IsHeld, TellsText};
+ghost use Rattle.zk_c.specs.Handle.{HasBegun, IsRenewed, IsStep, IsPass, IsOffer, IsFinish, AnswersOn, IsView, IsLine, IsEndingLine, IsFields, IsPayload, IsWaiting, IsHeld, TellsText};
 
 use crate::answer::{HeldAnswer, LineAnswer, MessageAnswer, WaitingAnswer};
 use crate::number::{NO_MEMORY, NO_MESSAGE, WELL};
@@ -53,6 +53,16 @@ pub fn write_line(text: &mut Vec<u8>, shown: Option<MessageRef<'_>>, out: &mut [
     LineAnswer::put(text, out)
 }
 
+/// Writes the line of the ending to `out`, if there is room for it.
+pub fn write_ending(alloc: Global, ending: Ending, out: &mut [u8]) -> LineAnswer
+    ensures { TellsText (ending_text ending) out.old out.new result }
+{
+    let Ok(line) = ending_line(alloc, &ending) else {
+        return LineAnswer::none(NO_MEMORY);
+    };
+    LineAnswer::put(&line, out)
+}
+
 impl Model for Conversation {
     ghost use Rattle.zk_talk.specs.Stands.{TalkState};
 
@@ -99,6 +109,17 @@ impl Conversation {
         ensures { IsPass self.old side piece.now result self.new }
     {
         self.talk.pass(side, piece)
+    }
+
+    /// Takes the side's whole frame if it may come next; else nothing changes.
+    ///
+    /// # Errors
+    ///
+    /// Those of `Talk::offer`.
+    pub fn offer(&mut self, side: Side, frame: &[u8]) -> Result<bool, Fault>
+        ensures { IsOffer self.old side frame.now result self.new }
+    {
+        self.talk.offer(side, frame)
     }
 
     /// How many requests wait for their replies.
@@ -174,10 +195,6 @@ impl Conversation {
     pub fn ending_line(&self, alloc: Global, out: &mut [u8]) -> LineAnswer
         ensures { IsEndingLine self.now out.old out.new result }
     {
-        let ending = self.finish();
-        let Ok(line) = ending_line(alloc, &ending) else {
-            return LineAnswer::none(NO_MEMORY);
-        };
-        LineAnswer::put(&line, out)
+        write_ending(alloc, self.finish(), out)
     }
 }

@@ -19,7 +19,7 @@ macro_rules! take_out {
 macro_rules! put_in {
     ($self:ident, $value:ident, $handle:ident, $pointer:ident) => {{
         let full = $handle {
-            held: $pointer::of($crate::loose::Loose::of($value)),
+            held: $pointer::of($crate::raw_box::Loose::of($value)),
             live: true,
         };
         let $handle { held: _, live: _ } = std::mem::replace($self, full);

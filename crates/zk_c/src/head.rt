@@ -13,6 +13,7 @@ use zk_talk::{MessageOf, MessageRef};
 pub struct Head {
     /// 1: a connect request. 2: a request. 3: the answer to a connect request. 4: a reply. 5: an event.
     pub kind: u32,
+    /// The xid of a request, a reply or an event.
     pub xid: i32,
     /// The number of a request's operation, or of that which a reply answers.
     pub operation: i32,

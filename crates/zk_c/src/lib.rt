@@ -1,21 +1,24 @@
 //! What C calls: a conversation that is read as it comes, or said, of which C keeps a handle.
 //!
 //! `zk_talk_new`, `zk_talk_step` and their like wrap a `Talk` (`zk_talk`), `zk_speaker_new` and `zk_speaker_say` a
-//! `Speaker`, `zk_through_new` a `Through` (`zk_through`); each is in a box that a handle owns, which is all zeros while it
-//! holds nothing. `zk_judge_first` and its like judge single payloads without a handle, and `zk_write_request` and its
-//! like write a frame from its fields. `zk_listing` lists a conversation that is there whole.
+//! `Speaker`, `zk_through_new` a `Through` (`zk_through`); each is in a box that a handle owns, which is all zeros
+//! while it holds nothing. `zk_judge_first` and its like judge single payloads without a handle, and `zk_write_request`
+//! and its like write a frame from its fields. `zk_listing` lists a conversation that is there whole.
 //!
 //! Each call returns numbers: a status, 0 if the call did what it is for, and a struct that include/zk.h declares too.
-//! The contracts repeat those of `Talk`, `Through` and `Speaker` over these numbers. What a caller owes, the header says; its safe
-//! calls check the pointers first. docs/LIBRARY.md is the page for who links the library.
+//! The contracts repeat those of `Talk`, `Through` and `Speaker` over these numbers. What a caller owes, the header
+//! says; its safe calls check the pointers first. docs/LIBRARY.md is the page for who links the library.
 //!
 //! The crate rests on `zk_lines`, `zk_talk` and the types and names of the crates below.
 //!
 //! ```text
-//! struct zk_talk talk = {0};
-//! zk_talk_new(&talk, 4194304, 4194304, 65536, 34);
-//! struct zk_step step = zk_talk_step(&talk, 0, piece, length); /* step.used bytes were used */
-//! zk_talk_free(&talk);
+//! while (length > 0) {
+//!     struct zk_step step = zk_talk_step(talk, side, bytes, length);
+//!     if (step.status != ZK_WELL) return false;
+//!     if (step.whole) put_message(talk, side, text);
+//!     bytes += step.used;
+//!     length -= step.used;
+//! }
 //! ```
 //!
 //! # Choices
@@ -44,23 +47,23 @@ mod answer;
 mod asked;
 mod boxes;
 mod conversation;
-mod cut;
 mod handle;
 mod head;
 mod listing;
-mod loose;
 mod number;
 mod passage;
 mod passed;
 mod payload;
+mod pieces;
+mod raw_box;
 mod read;
 mod read_answer;
-mod said;
+mod say_result;
 mod speaker;
+mod speaker_and_frame;
 mod talk;
 mod through;
 mod version;
-mod voice;
 mod write;
 
 pub use listing::zk_listing;
@@ -74,12 +77,14 @@ pub use speaker::{
 };
 pub use talk::{
     zk_talk_ending_line, zk_talk_fields, zk_talk_finish, zk_talk_free, zk_talk_held, zk_talk_line,
-    zk_talk_new, zk_talk_pass, zk_talk_payload, zk_talk_renew, zk_talk_step, zk_talk_view,
-    zk_talk_waiting,
+    zk_talk_new, zk_talk_offer, zk_talk_pass, zk_talk_payload, zk_talk_renew, zk_talk_step,
+    zk_talk_view, zk_talk_waiting,
 };
 pub use through::{
-    zk_talk_join, zk_through_fields, zk_through_finish, zk_through_free, zk_through_line,
-    zk_through_new, zk_through_payload, zk_through_renew, zk_through_step, zk_through_view,
+    zk_through_ending_line, zk_through_fields, zk_through_finish, zk_through_free, zk_through_held,
+    zk_through_join, zk_through_line, zk_through_new, zk_through_offer, zk_through_pass,
+    zk_through_payload, zk_through_renew, zk_through_resume, zk_through_step, zk_through_view,
+    zk_through_waiting,
 };
 pub use version::zk_version;
 pub use write::{

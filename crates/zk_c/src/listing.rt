@@ -5,8 +5,8 @@ ghost use Rattle.zk_c.specs.{Answer.no_line, Handle.AreNoLimits, Cut.AreCut, Cut
 ghost use Rattle.zk_c.specs.Listing.{message_line, listing, IsListed, ListsUnder, ListsNothing};
 
 use crate::answer::LineAnswer;
-use crate::cut::{Piece, cut_of};
 use crate::number::{NO_MEMORY, RANGE};
+use crate::pieces::{Piece, cut_of};
 use crate::talk::limits_of;
 use std::alloc::{AllocError, Global};
 use zk_lines::{ending_line, put_line};
@@ -51,7 +51,8 @@ fn listed(
     Ok(Some(text))
 }
 
-/// Writes the listing of the pieces, whose bytes come one after the other, if there is room for it.
+/// Writes the listing of the pieces, whose bytes come one after the other, if there is room for it; else the status is
+/// `ROOM`, and the answer has its length. The limits are those of `zk_talk_new`.
 #[unsafe(no_mangle)]
 pub extern "C" fn zk_listing(
     alloc: Global,

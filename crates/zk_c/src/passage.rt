@@ -1,11 +1,12 @@
 //! `Passage`: a conversation that goes on where its profile ends, and whether each side's newest frame is a message.
 ghost use Rattle.std.specs.Prelude.{◌≡◌, false, IfOk};
 ghost use Rattle.zk_c.specs.Passage.{newest_on, answered_on};
-ghost use Rattle.zk_c.specs.Passing.{Begins, IsRenewed, IsPassing, IsView, IsLine, IsFields, IsLeftOut, IsFinish, newest};
+ghost use Rattle.zk_c.specs.Passing.{Begins, IsRenewed, IsPassing, IsView, IsLine, IsFields, IsFinish, newest};
+ghost use Rattle.zk_c.specs.PassingOn.{IsPass, IsOffer, IsResuming, IsPayload, IsWaiting, IsHeld, IsEndingLine};
 
-use crate::answer::{LineAnswer, MessageAnswer};
-use crate::conversation::write_line;
-use crate::number::NO_MESSAGE;
+use crate::answer::{HeldAnswer, LineAnswer, MessageAnswer, WaitingAnswer};
+use crate::conversation::{write_ending, write_line};
+use crate::number::{NO_MESSAGE, WELL};
 use crate::read_answer::{ReadAnswer, read_shown};
 use std::alloc::{AllocError, Global};
 use std::marker::Model;
@@ -80,12 +81,10 @@ impl Passage {
         self.server = false;
     }
 
-    /// Takes the piece up to the end of the first frame that becomes whole, or all of it.
-    ///
-    /// # Errors
-    ///
-    /// Those of `Through::step`.
-    pub fn step(&mut self, side: Side, piece: &[u8]) -> Result<Passed, Fault>
+    /// As `step`.
+    // `STEPS`: whether `step` calls it, and not `pass`. Each has an instance of its own, which is inlined; a call would cost a
+    // step.
+    fn advance<const STEPS: bool>(&mut self, side: Side, piece: &[u8]) -> Result<Passed, Fault>
         ensures { IsPassing self.old side piece.now result self.new }
     {
         let passed = match self.through.step(side, piece) {
@@ -97,6 +96,64 @@ impl Passage {
             Side::Server => self.server = newest(passed.went, self.server),
         }
         Ok(passed)
+    }
+
+    /// Takes the piece up to the end of the first frame that becomes whole, or all of it.
+    ///
+    /// # Errors
+    ///
+    /// Those of `Through::step`.
+    pub fn step(&mut self, side: Side, piece: &[u8]) -> Result<Passed, Fault>
+        ensures { IsPassing self.old side piece.now result self.new }
+    {
+        self.advance::<true>(side, piece)
+    }
+
+    /// The same, and the side shows no message and keeps no frame then.
+    ///
+    /// # Errors
+    ///
+    /// Those of `Through::step`.
+    pub fn pass(&mut self, side: Side, piece: &[u8]) -> Result<Passed, Fault>
+        ensures { IsPass self.old side piece.now result self.new }
+    {
+        let outcome = self.advance::<false>(side, piece);
+        self.through.let_go(side);
+        outcome
+    }
+
+    /// Takes the side's whole frame if it may come next; else nothing changes.
+    ///
+    /// # Errors
+    ///
+    /// Those of `Through::offer`.
+    pub fn offer(&mut self, side: Side, frame: &[u8]) -> Result<Option<Passed>, Fault>
+        ensures { IsOffer self.old side frame.now result self.new }
+    {
+        let offered = match self.through.offer(side, frame) {
+            Ok(offered) => offered,
+            Err(fault) => return Err(fault),
+        };
+        let Some(passed) = offered else {
+            return Ok(None);
+        };
+        match side {
+            Side::Client => self.client = newest(passed.went, self.client),
+            Side::Server => self.server = newest(passed.went, self.server),
+        }
+        Ok(Some(passed))
+    }
+
+    /// Goes on after the refused frame, as a connection that is seen late. Returns how many bytes of the refused piece are
+    /// the refused frame's.
+    ///
+    /// # Errors
+    ///
+    /// Those of `Through::resume`.
+    pub fn resume(&mut self) -> Result<usize, Fault>
+        ensures { IsResuming self.old result self.new }
+    {
+        self.through.resume()
     }
 
     /// Whether the side's newest whole frame is a message.
@@ -152,11 +209,39 @@ impl Passage {
         read_shown(self.through.view(side), room)
     }
 
-    /// Writes the payload of the frame that the side's last step left out or passed over, if there is room for it.
+    /// Writes the payload of the frame that the side's last step left out or passed over, or else of its newest message, if
+    /// there is room for it.
     pub fn payload(&self, side: Side, out: &mut [u8]) -> LineAnswer
-        ensures { IsLeftOut self.now side out.old out.new result }
+        ensures { IsPayload self.now side out.old out.new result }
     {
+        if let Some(left) = self.through.left_out(side) {
+            return LineAnswer::of(Some(left), out);
+        }
+        if !self.is_newest(side) {
+            return LineAnswer::none(NO_MESSAGE);
+        }
         LineAnswer::of(self.through.payload(side), out)
+    }
+
+    /// How many requests wait for their replies, those left out too.
+    pub fn waiting(&self) -> WaitingAnswer
+        ensures { IsWaiting self.now result }
+    {
+        WaitingAnswer {
+            status: WELL,
+            requests: self.through.requests(),
+            weight: self.through.waiting(),
+        }
+    }
+
+    /// How many bytes of the side are held of a frame that isn't whole, or is refused.
+    pub fn held(&self, side: Side) -> HeldAnswer
+        ensures { IsHeld self.now side result }
+    {
+        HeldAnswer {
+            status: WELL,
+            bytes: self.through.held(side),
+        }
     }
 
     /// How the conversation so far ends.
@@ -164,5 +249,12 @@ impl Passage {
         ensures { IsFinish self.now result }
     {
         self.through.finish()
+    }
+
+    /// Writes the line of the ending, if there is room for it.
+    pub fn ending_line(&self, alloc: Global, out: &mut [u8]) -> LineAnswer
+        ensures { IsEndingLine self.now out.old out.new result }
+    {
+        write_ending(alloc, self.finish(), out)
     }
 }

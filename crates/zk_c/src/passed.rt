@@ -1,10 +1,10 @@
 //! `PassedAnswer`: what a step of a passage returns to C.
 ghost use Rattle.std.specs.Prelude.{◌≡◌, pos};
-ghost use Rattle.zk_c.specs.Passing.{no_passed, went_answer, passed_answer};
+ghost use Rattle.zk_c.specs.{Passing.no_passed, Passing.went_answer, Passing.passed_answer, PassingOn.offered_answer, PassingOn.resumed_answer};
 
-use crate::answer::{FaultNumbers, fault_numbers, no_fault};
-use crate::number::{WELL, reason_number};
-use zk_talk::Fault;
+use crate::answer::{FaultNumbers, StepAnswer, fault_numbers, no_fault};
+use crate::number::{RANGE, WELL, reason_number};
+use zk_talk::{Fault, Stepped};
 use zk_through::{Passed, Went};
 
 /// What a step used of a piece, and what became of it.
@@ -111,5 +111,28 @@ impl PassedAnswer {
                 }
             }
         }
+    }
+}
+
+impl PassedAnswer {
+    /// The result of an offer, in numbers.
+    pub fn of_offer(outcome: Result<Option<Passed>, Fault>) -> PassedAnswer
+        ensures { result ≡ offered_answer outcome }
+    {
+        match outcome {
+            Ok(None) => PassedAnswer::none(RANGE),
+            Ok(Some(passed)) => PassedAnswer::of(Ok(passed)),
+            Err(fault) => PassedAnswer::of(Err(fault)),
+        }
+    }
+}
+
+/// How many bytes of the refused piece a passage that goes on after a refused frame has used, in numbers.
+pub fn resumed_answer(outcome: Result<usize, Fault>) -> StepAnswer
+    ensures { result ≡ resumed_answer outcome }
+{
+    match outcome {
+        Ok(used) => StepAnswer::of(Ok(Stepped { used, whole: false })),
+        Err(fault) => StepAnswer::of(Err(fault)),
     }
 }

@@ -53,7 +53,7 @@ fn judged<F: Drop>(read: Result<F, ItemFault>) -> PayloadAnswer
     }
 }
 
-/// Judges whether the payload is that of a connect request.
+/// Judges whether the payload is that of a connect request, as `read_first` of `zk_asks`.
 #[unsafe(no_mangle)]
 pub extern "C" fn zk_judge_first(bytes: &[u8]) -> PayloadAnswer
     // It is taken for one exactly if it is one's, else the first case that applies is reported.
@@ -62,7 +62,8 @@ pub extern "C" fn zk_judge_first(bytes: &[u8]) -> PayloadAnswer
     judged(borrow_first(bytes))
 }
 
-/// Judges whether the payload is that of a request of a profile, 34 or 35.
+/// Judges whether the payload is that of a request of a profile, 34 or 35, as `read_ask` of `zk_asks`; `RANGE` for
+/// another number.
 #[unsafe(no_mangle)]
 pub extern "C" fn zk_judge_request(profile: u32, bytes: &[u8]) -> PayloadAnswer
     // A number that is no profile's is refused.
@@ -76,7 +77,7 @@ pub extern "C" fn zk_judge_request(profile: u32, bytes: &[u8]) -> PayloadAnswer
     judged(borrow_ask(profile, bytes))
 }
 
-/// Judges whether the payload is that of the reply to a connect request.
+/// Judges whether the payload is that of the reply to a connect request, as `read_connected` of `zk_answers`.
 #[unsafe(no_mangle)]
 pub extern "C" fn zk_judge_connected(bytes: &[u8]) -> PayloadAnswer
     // It is taken for one exactly if it is one's, else the first case that applies is reported.

@@ -21,12 +21,13 @@ use zk_talk::{MessageOf, MessageRef};
 pub struct ReadAnswer {
     /// 0; 68 if there are more fields than room; or the reason why the payload is no message's.
     pub status: u32,
-    /// The fault's place in the payload.
+    /// The fault's place in the payload, in bytes; 0 if it has none.
     pub place: u32,
-    /// The number of the message's fields.
+    /// The number of the message's fields, those for which there is no room too.
     pub count: u32,
     /// 1: a connect request. 2: a request. 3: the answer to a connect request. 4: a reply. 5: an event.
     pub kind: u32,
+    /// The xid of a request, a reply or an event.
     pub xid: i32,
     /// The number of a request's operation, or of that which a reply answers.
     pub operation: i32,

@@ -10,9 +10,9 @@ use crate::boxes::VoiceBox;
 use crate::handle::{fill, put_in, take_out, with_value};
 use crate::number::{EMPTY, WELL};
 use crate::payload::PayloadAnswer;
-use crate::said::SayAnswer;
+use crate::say_result::SayAnswer;
+use crate::speaker_and_frame::Voice;
 use crate::talk::limits_of;
-use crate::voice::Voice;
 use std::alloc::Global;
 
 /// A speaker that C keeps, or none: all bytes 0.
@@ -43,7 +43,7 @@ impl SpeakerHandle {
     }
 }
 
-/// Makes a speaker with these limits, which has said nothing. Returns the status.
+/// Makes a speaker that has said nothing. Its limits and the status are as those of `zk_talk_new`.
 #[unsafe(no_mangle)]
 pub extern "C" fn zk_speaker_new(
     alloc: Global,
@@ -63,7 +63,7 @@ pub extern "C" fn zk_speaker_new(
         => |limits| Voice::new(alloc, limits))
 }
 
-/// Begins the speaker anew with the same limits. Returns the status.
+/// Begins the speaker anew with the same limits. Returns the status: `WELL`, or `EMPTY` if the handle holds none.
 #[unsafe(no_mangle)]
 pub extern "C" fn zk_speaker_renew(alloc: Global, handle: &mut SpeakerHandle) -> u32
     // The speaker has said nothing, and the handle keeps it.
@@ -75,7 +75,7 @@ pub extern "C" fn zk_speaker_renew(alloc: Global, handle: &mut SpeakerHandle) ->
     })
 }
 
-/// Says the message whose line the bytes are; its frame is kept until the next line.
+/// Says the message whose line the bytes are, without line feed; its frame is kept until the next message is said.
 #[unsafe(no_mangle)]
 pub extern "C" fn zk_speaker_say(
     alloc: Global,
@@ -85,7 +85,7 @@ pub extern "C" fn zk_speaker_say(
     // The speaker says the line, and the handle keeps it.
     ensures say { Changes (λ n. say_answer n 0 0) (λ v. SaysLine v line.now) handle.old.held.value handle.new.held.value result }
 {
-    with_value!(handle, alloc, SayAnswer::none(EMPTY) => |voice| voice.say(alloc, line))
+    with_value!(handle, alloc, SayAnswer::none(EMPTY) => |voice| voice.say(line))
 }
 
 /// Says the message of the side whose payload the bytes are; its frame is kept until the next message is said.

@@ -5,7 +5,7 @@ ghost use Rattle.std.specs.Prelude.{◌≡◌, ◌≢◌, Some, None, IfSome, Ma
 ghost use Rattle.std.specs.Option.{is_some};
 ghost use Rattle.zk_c.specs.{Numbers.side_of, Read.no_read};
 ghost use Rattle.zk_c.specs.Answer.{no_step, no_ending, ending_answer, no_message, no_line, no_waiting, no_held};
-ghost use Rattle.zk_c.specs.Handle.{AreNumbers, IsNew, IsRenewed, Tells, IsAnswerOf, IsStep, IsPass, IsFinish, IsView, IsLine, IsEndingLine, IsFields, IsPayload, IsWaiting, IsHeld, AreNoLimits};
+ghost use Rattle.zk_c.specs.Handle.{AreNumbers, IsNew, IsRenewed, Tells, TellsOffer, IsAnswerOf, IsStep, IsPass, IsFinish, IsView, IsLine, IsEndingLine, IsFields, IsPayload, IsWaiting, IsHeld, AreNoLimits};
 ghost use Rattle.zk_c.specs.Calls.{IsMaking, OnHeld, OnSide, Renews, TakesOn, WritesOn};
 
 use crate::answer::{
@@ -59,7 +59,9 @@ pub fn limits_of(client: u32, server: u32, waiting: u32, profile: u32) -> Option
     Some(limits.with_profile(profile))
 }
 
-/// Makes a talk with these limits, of which nothing has come. Returns the status.
+/// Makes a talk of which nothing has come, with the limits of `Limits::new` and a profile by its number, 34 or 35.
+/// Returns the status: `WELL`, `IN_USE` if the handle holds one, `RANGE` if a number is out of its range, or
+/// `NO_MEMORY`.
 #[unsafe(no_mangle)]
 pub extern "C" fn zk_talk_new(
     alloc: Global,
@@ -79,7 +81,7 @@ pub extern "C" fn zk_talk_new(
         => |limits| Conversation::new(alloc, limits))
 }
 
-/// Begins the talk anew with the same limits. Returns the status.
+/// Begins the talk anew with the same limits. Returns the status: `WELL`, or `EMPTY` if the handle holds none.
 #[unsafe(no_mangle)]
 pub extern "C" fn zk_talk_renew(alloc: Global, handle: &mut TalkHandle) -> u32
     // The talk has come through the empty history, and the handle keeps it.
@@ -91,7 +93,8 @@ pub extern "C" fn zk_talk_renew(alloc: Global, handle: &mut TalkHandle) -> u32
     })
 }
 
-/// Takes the piece's bytes up to the end of the first frame that becomes whole, or all of them.
+/// Takes the piece's bytes up to the end of the first frame that becomes whole, or all of them, and keeps that frame,
+/// as `Talk::step`. `side` is 0 for the client and 1 for the server, here and in all calls.
 #[unsafe(no_mangle)]
 pub extern "C" fn zk_talk_step(
     alloc: Global,
@@ -107,7 +110,7 @@ pub extern "C" fn zk_talk_step(
     with_value!(handle, alloc, side, StepAnswer => |talk| StepAnswer::of(talk.step(side, piece)))
 }
 
-/// Takes the piece's bytes as `zk_talk_step` does, and keeps no frame.
+/// Takes the piece's bytes as `zk_talk_step` does, and keeps no frame, as `Talk::pass`.
 #[unsafe(no_mangle)]
 pub extern "C" fn zk_talk_pass(
     alloc: Global,
@@ -123,6 +126,24 @@ pub extern "C" fn zk_talk_pass(
     with_value!(handle, alloc, side, StepAnswer => |talk| StepAnswer::of(talk.pass(side, piece)))
 }
 
+/// Takes the side's whole frame if it may come next; else nothing changes.
+#[unsafe(no_mangle)]
+pub extern "C" fn zk_talk_offer(
+    alloc: Global,
+    handle: &mut TalkHandle,
+    side: u32,
+    frame: &[u8],
+) -> StepAnswer
+    // The talk judges the frame, and the handle keeps it.
+    ensures offer { TakesOn no_step TellsOffer side frame.now handle.old.held.value handle.new.held.value result }
+    // A number that is no side's changes nothing.
+    ensures range { side_of side ≡ None → handle.new ≡ handle.old }
+{
+    with_value!(handle, alloc, side, StepAnswer => |talk| {
+        StepAnswer::of_offer(talk.offer(side, frame), frame.len())
+    })
+}
+
 /// The message of the frame that the side keeps.
 #[unsafe(no_mangle)]
 pub extern "C" fn zk_talk_view(alloc: Global, handle: &mut TalkHandle, side: u32) -> MessageAnswer
@@ -134,7 +155,8 @@ pub extern "C" fn zk_talk_view(alloc: Global, handle: &mut TalkHandle, side: u32
     with_value!(handle, alloc, side, MessageAnswer => |talk| talk.view(side))
 }
 
-/// Writes the line of the message whose frame the side keeps, if there is room for it.
+/// Writes the line of the message whose frame the side keeps, without line feed, if there is room for it; else the
+/// status is `ROOM`, and the answer has the line's length.
 #[unsafe(no_mangle)]
 pub extern "C" fn zk_talk_line(
     alloc: Global,
@@ -150,7 +172,8 @@ pub extern "C" fn zk_talk_line(
     with_value!(handle, alloc, side, LineAnswer => |talk| talk.line(side, out))
 }
 
-/// Writes the fields of the message whose frame the side keeps, as far as there is room.
+/// Writes the fields of the message whose frame the side keeps, as many as `room` has places for; if there are more,
+/// the status is `ROOM`.
 #[unsafe(no_mangle)]
 pub extern "C" fn zk_talk_fields(
     alloc: Global,
@@ -166,7 +189,8 @@ pub extern "C" fn zk_talk_fields(
     with_value!(handle, alloc, side, ReadAnswer => |talk| talk.fields(side, room))
 }
 
-/// Writes the payload of the message whose frame the side keeps, if there is room for it.
+/// Writes the payload of the message whose frame the side keeps, if there is room for it; else the status is `ROOM`,
+/// and the answer has its length.
 #[unsafe(no_mangle)]
 pub extern "C" fn zk_talk_payload(
     alloc: Global,

@@ -3,16 +3,20 @@
 
 ghost use Rattle.std.specs.Prelude.{◌≡◌, ◌≢◌, Some, None, MatchOption};
 ghost use Rattle.std.specs.Option.{is_some};
-ghost use Rattle.zk_c.specs.{Numbers.side_of, Answer.no_message, Answer.no_line, Answer.no_ending, Answer.ending_answer, Handle.IsAnswerOf, Read.no_read};
-ghost use Rattle.zk_c.specs.Calls.{IsMaking, OnHeld, OnSide, Renews, TakesOn, WritesOn};
-ghost use Rattle.zk_c.specs.Passing.{no_passed, IsNew, IsJoined, IsRenewed, TellsStep, IsView, IsLine, IsFields, IsLeftOut, IsFinish};
+ghost use Rattle.zk_c.specs.{Numbers.side_of, Handle.IsAnswerOf, Read.no_read};
+ghost use Rattle.zk_c.specs.Answer.{no_step, no_message, no_line, no_ending, no_waiting, no_held, ending_answer};
+ghost use Rattle.zk_c.specs.Calls.{IsMaking, OnHeld, OnSide, Changes, Renews, TakesOn, WritesOn};
+ghost use Rattle.zk_c.specs.Passing.{no_passed, IsNew, IsJoined, IsRenewed, TellsStep, IsView, IsLine, IsFields, IsFinish};
+ghost use Rattle.zk_c.specs.PassingOn.{TellsPass, TellsOffer, TellsResumed, IsPayload, IsWaiting, IsHeld, IsEndingLine};
 
-use crate::answer::{EndingAnswer, LineAnswer, MessageAnswer};
+use crate::answer::{
+    EndingAnswer, HeldAnswer, LineAnswer, MessageAnswer, StepAnswer, WaitingAnswer,
+};
 use crate::boxes::PassageBox;
 use crate::handle::{fill, put_in, take_out, with_value};
 use crate::number::{EMPTY, WELL};
 use crate::passage::Passage;
-use crate::passed::PassedAnswer;
+use crate::passed::{PassedAnswer, resumed_answer};
 use crate::read_answer::ReadAnswer;
 use crate::talk::limits_of;
 use std::alloc::Global;
@@ -46,7 +50,7 @@ impl ThroughHandle {
     }
 }
 
-/// Makes a passage with these limits, of which nothing has come. Returns the status.
+/// Makes a passage of which nothing has come. Its limits and the status are as those of `zk_talk_new`.
 #[unsafe(no_mangle)]
 pub extern "C" fn zk_through_new(
     alloc: Global,
@@ -66,9 +70,10 @@ pub extern "C" fn zk_through_new(
         => |limits| Passage::new(alloc, limits, false))
 }
 
-/// Makes a passage with these limits, of a connection that is seen late. Returns the status.
+/// Makes a passage of a connection that is seen late, as `Through::join`. Its limits and the status are as those of
+/// `zk_talk_new`.
 #[unsafe(no_mangle)]
-pub extern "C" fn zk_talk_join(
+pub extern "C" fn zk_through_join(
     alloc: Global,
     handle: &mut ThroughHandle,
     client: u32,
@@ -86,7 +91,7 @@ pub extern "C" fn zk_talk_join(
         => |limits| Passage::new(alloc, limits, true))
 }
 
-/// Begins the passage anew with the same limits. Returns the status.
+/// Begins the passage anew with the same limits. Returns the status: `WELL`, or `EMPTY` if the handle holds none.
 #[unsafe(no_mangle)]
 pub extern "C" fn zk_through_renew(alloc: Global, handle: &mut ThroughHandle) -> u32
     // Nothing has come, and the handle keeps it.
@@ -98,7 +103,7 @@ pub extern "C" fn zk_through_renew(alloc: Global, handle: &mut ThroughHandle) ->
     })
 }
 
-/// Takes the piece's bytes up to the end of the first frame that becomes whole, or all of them.
+/// Takes the piece's bytes up to the end of the first frame that becomes whole, or all of them, as `Through::step`.
 #[unsafe(no_mangle)]
 pub extern "C" fn zk_through_step(
     alloc: Global,
@@ -112,6 +117,47 @@ pub extern "C" fn zk_through_step(
     ensures range { side_of side ≡ None → handle.new ≡ handle.old }
 {
     with_value!(handle, alloc, side, PassedAnswer => |passage| PassedAnswer::of(passage.step(side, piece)))
+}
+
+/// Takes the piece's bytes as `zk_through_step` does, and the side shows no message and keeps no frame then.
+#[unsafe(no_mangle)]
+pub extern "C" fn zk_through_pass(
+    alloc: Global,
+    handle: &mut ThroughHandle,
+    side: u32,
+    piece: &[u8],
+) -> PassedAnswer
+    // The passage makes the step and keeps nothing of it, and the handle keeps the passage.
+    ensures pass { TakesOn no_passed TellsPass side piece.now handle.old.held.value handle.new.held.value result }
+    // A number that is no side's changes nothing.
+    ensures range { side_of side ≡ None → handle.new ≡ handle.old }
+{
+    with_value!(handle, alloc, side, PassedAnswer => |passage| PassedAnswer::of(passage.pass(side, piece)))
+}
+
+/// Takes the side's whole frame if it may come next, as `Through::offer`; else nothing changes.
+#[unsafe(no_mangle)]
+pub extern "C" fn zk_through_offer(
+    alloc: Global,
+    handle: &mut ThroughHandle,
+    side: u32,
+    frame: &[u8],
+) -> PassedAnswer
+    // The passage judges the frame, and the handle keeps it.
+    ensures offer { TakesOn no_passed TellsOffer side frame.now handle.old.held.value handle.new.held.value result }
+    // A number that is no side's changes nothing.
+    ensures range { side_of side ≡ None → handle.new ≡ handle.old }
+{
+    with_value!(handle, alloc, side, PassedAnswer => |passage| PassedAnswer::of_offer(passage.offer(side, frame)))
+}
+
+/// Goes on after the frame that was refused, as a connection that is seen late.
+#[unsafe(no_mangle)]
+pub extern "C" fn zk_through_resume(alloc: Global, handle: &mut ThroughHandle) -> StepAnswer
+    // The passage goes on, or its fault stays, and the handle keeps it.
+    ensures resume { Changes no_step TellsResumed handle.old.held.value handle.new.held.value result }
+{
+    with_value!(handle, alloc, StepAnswer::none(EMPTY) => |passage| resumed_answer(passage.resume()))
 }
 
 /// The message of the side's newest whole frame.
@@ -161,7 +207,8 @@ pub extern "C" fn zk_through_fields(
     with_value!(handle, alloc, side, ReadAnswer => |passage| passage.fields(side, room))
 }
 
-/// Writes the payload of the frame that the side's last step left out or passed over, if there is room for it.
+/// Writes the payload of the frame that the side's last step left out or passed over, or else of its newest message, if there
+/// is room for it.
 #[unsafe(no_mangle)]
 pub extern "C" fn zk_through_payload(
     alloc: Global,
@@ -170,11 +217,37 @@ pub extern "C" fn zk_through_payload(
     out: &mut [u8],
 ) -> LineAnswer
     // The payload is that of the passage's frame.
-    ensures payload { WritesOn no_line IsLeftOut side handle.old.held.value out.old out.new result }
+    ensures payload { WritesOn no_line IsPayload side handle.old.held.value out.old out.new result }
     // The passage stays as it is.
     ensures same { handle.new.held.value ≡ handle.old.held.value }
 {
     with_value!(handle, alloc, side, LineAnswer => |passage| passage.payload(side, out))
+}
+
+/// How many requests wait for their replies, those left out too, and what they weigh.
+#[unsafe(no_mangle)]
+pub extern "C" fn zk_through_waiting(alloc: Global, handle: &mut ThroughHandle) -> WaitingAnswer
+    // The requests are the passage's.
+    ensures waiting { OnHeld handle.old.held.value (λ n. result ≡ no_waiting n) (λ p. IsWaiting p result) }
+    // The passage stays as it is.
+    ensures same { handle.new.held.value ≡ handle.old.held.value }
+{
+    with_value!(handle, alloc, WaitingAnswer::none(EMPTY) => |passage| passage.waiting())
+}
+
+/// How many bytes of the side are held of a frame that isn't whole, or is refused.
+#[unsafe(no_mangle)]
+pub extern "C" fn zk_through_held(
+    alloc: Global,
+    handle: &mut ThroughHandle,
+    side: u32,
+) -> HeldAnswer
+    // The bytes are the passage's.
+    ensures held { OnSide side handle.old.held.value (λ n. result ≡ no_held n) (λ s p. IsHeld p s result) }
+    // The passage stays as it is.
+    ensures same { handle.new.held.value ≡ handle.old.held.value }
+{
+    with_value!(handle, alloc, side, HeldAnswer => |passage| passage.held(side))
 }
 
 /// How the history so far ends.
@@ -186,6 +259,21 @@ pub extern "C" fn zk_through_finish(alloc: Global, handle: &mut ThroughHandle) -
     ensures same { handle.new.held.value ≡ handle.old.held.value }
 {
     with_value!(handle, alloc, EndingAnswer::none(EMPTY) => |passage| EndingAnswer::of(passage.finish()))
+}
+
+/// Writes the line of the ending of the history so far, if there is room for it.
+#[unsafe(no_mangle)]
+pub extern "C" fn zk_through_ending_line(
+    alloc: Global,
+    handle: &mut ThroughHandle,
+    out: &mut [u8],
+) -> LineAnswer
+    // The line is that of the passage's ending.
+    ensures line { OnHeld handle.old.held.value (λ n. (result ≡ no_line n) × (out.new ≡ out.old)) (λ p. IsEndingLine p out.old out.new result) }
+    // The passage stays as it is.
+    ensures same { handle.new.held.value ≡ handle.old.held.value }
+{
+    with_value!(handle, alloc, LineAnswer::none(EMPTY) => |passage| passage.ending_line(alloc, out))
 }
 
 /// Frees the passage and its memory; with no passage nothing is done.

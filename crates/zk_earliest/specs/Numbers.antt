@@ -1,7 +1,7 @@
 -- Which numbers a length or a count can be, and how many bytes of a number are possible.
 use Rattle.std.specs.Prelude.{◌≡◌, ℕ, ◌+◌, ◌-◌, ◌*◌, ◌/◌, ◌≤◌, ◌⊎◌, List, drop, true, Option, Some, None, Result, Ok, Err}
 use Rattle.std.specs.Int.{w32, from_be_bytes}
-use Rattle.zk_earliest.specs.declared.front.Numbers.{Numbers}
+use Rattle.zk_earliest.specs.declared.possible_lengths.Numbers.{Numbers}
 
 abbrev pub IsOne : Numbers → ℕ → Type 0
 IsOne s n = ((s.null ≡ true) × (n ≡ 4294967295)) ⊎ ((s.from ≤ n) × (n ≤ s.to)) ⊎ (n ≡ s.also)

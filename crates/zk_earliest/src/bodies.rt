@@ -5,8 +5,8 @@ ghost use Rattle.zk_records.specs.declared.op.Op.TheVariants as ops;
 ghost use Rattle.zk_answers.specs.declared.layout.Layout.TheVariants as layouts;
 ghost use Rattle.zk_earliest.specs.Earliest.{Spells, IsEarliest, IsEarliestOf};
 
+use crate::first_impossible::longest;
 use crate::multi::longest_multi;
-use crate::stretch::longest;
 use zk_answers::{Layout, body_rows};
 use zk_asks::ask_rows;
 use zk_jute::{Blob, List, Text};

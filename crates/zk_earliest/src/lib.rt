@@ -11,8 +11,10 @@
 //! The crate rests on `zk_jute`, `zk_records`, `zk_asks` and `zk_answers` for layouts, and on `simdutf8`.
 //!
 //! ```text
-//! let stuck = earliest(Layout::Asked(Op::Exists), b"\0\0\0\x05/a\x01");
-//! // Some(3): with 7 bytes in all, the text has 2 bytes, so the last byte of its length is impossible.
+//! if layout == Layout::Answered(Op::Multi) || body.len() > 1_000_000 {
+//!     return None; // the results of a multi have no layout of their own
+//! }
+//! earliest(layout, body) // Some(3) of an exists request's b"\0\0\0\x05/a\x01": with 7 bytes in all its path has 2
 //! ```
 //!
 //! # Choices
@@ -24,15 +26,15 @@
 #![tactic(auto)]
 
 mod bodies;
-mod front;
+mod first_impossible;
 mod laws;
+mod length_prefixed;
 mod list;
 mod multi;
 mod number;
 mod pair;
-mod run;
+mod possible_lengths;
 mod sizes;
-mod stretch;
 mod text;
 
 pub use bodies::earliest;

@@ -8,8 +8,8 @@ ghost use Rattle.zk_earliest.specs.{Earliest.Spells, Earliest.IsEarliest, Marks.
 ghost use Rattle.zk_earliest.specs.Stops.{Reaches, then_among};
 
 use crate::bodies::{value, values};
+use crate::first_impossible::Stretch;
 use crate::sizes::Sizes;
-use crate::stretch::Stretch;
 use zk_asks::part_rows;
 use zk_jute::{Blob, List, Text};
 use zk_records::{PartOp, fields_of};

@@ -16,7 +16,7 @@ use Rattle.zk_answers.specs.declared.frame.OutcomeOf.TheVariants as outcome
 use Rattle.zk_answers.specs.declared.frame.ServerFrameOf.TheVariants as server
 use Rattle.zk_answers.specs.{Held.PartDone, Held.Body, Held.Outcome, Held.ServerFrame, Rows.op_of_body, Results.mark_before}
 use Rattle.zk_answers.specs.Frames as answers
-use Rattle.zk_fields.specs.{declared.opened.Headed.Headed, declared.opened.Opened.Opened, declared.name.TheConstants.READ_ONLY, Fields.Entry, Fields.Under, Fields.Head, Fields.items_of, Fields.fields_from}
+use Rattle.zk_fields.specs.{declared.payload_fields.Headed.Headed, declared.payload_fields.Opened.Opened, declared.name.TheConstants.READ_ONLY, Fields.Entry, Fields.Under, Fields.Head, Fields.items_of, Fields.fields_from}
 use Rattle.zk_fields.specs.Named.{Shape, Nothing, An, Both, Many, IsOf, Named, items_both}
 use Rattle.zk_fields.specs.{Records.connect_request, Records.connect_response, Records.watcher_event, Records.read_only, Rows.body_entries, Rows.body_behind, Rows.Content, Rows.Fields, Rows.Heads, Rows.ask_content, Rows.body_content}
 use Rattle.zk_fields.specs.Heads.{OfHead, headed_part, headed_result, headed_shape, record_entries, part_entries, result_entries, done_entries}

@@ -5,7 +5,7 @@ use Rattle.std.specs.{Ordering.int_eq, Bool.Decides}
 use Rattle.std.proofs.lemmas.Bool.Decides.{Decides-int_eq}
 use Rattle.zk_records.specs.{declared.op.PartOp.PartOp, Codes.part_number, declared.header.MultiHeader.MultiHeader}
 use Rattle.zk_records.specs.declared.op.PartOp.TheVariants as parts
-use Rattle.zk_fields.specs.declared.opened.Headed.TheVariants as heads
+use Rattle.zk_fields.specs.declared.payload_fields.Headed.TheVariants as heads
 use Rattle.zk_fields.specs.Heads.{part_of, headed_part, headed_result}
 
 known : (k : ℤ) (op : PartOp) → k ≡ part_number op → part_of k ≡ Some op

@@ -12,7 +12,7 @@ use Rattle.zk_answers.specs.{Held.PartDone, Held.Body, Results.mark_before, Resu
 use Rattle.zk_answers.specs.declared.frame.PartDoneOf.TheVariants as done
 use Rattle.zk_answers.specs.declared.frame.BodyOf.TheVariants as body
 use Rattle.zk_answers.specs.Rows as answered
-use Rattle.zk_fields.specs.{declared.opened.Headed.Headed, Fields.Entry, Fields.items_of, Named.Shape, Named.IsOf, Named.Named, Named.items_both}
+use Rattle.zk_fields.specs.{declared.payload_fields.Headed.Headed, Fields.Entry, Fields.items_of, Named.Shape, Named.IsOf, Named.Named, Named.items_both}
 use Rattle.zk_fields.specs.Heads.{headed_part, headed_result, headed_row, headed_shape, by_part, record_entries, by_done, result_entries}
 use Rattle.zk_fields.specs.Rows.{Row, fields, heads, rows, ask_entries, body_entries, ask_behind, body_behind, Content, Fields, ask_content, body_content}
 

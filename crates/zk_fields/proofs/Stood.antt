@@ -7,7 +7,7 @@ use Rattle.zk_jute.specs.Layout.{One, End}
 use Rattle.zk_jute.specs.Reading.{Read, int_at, bool_at, size_at, items_at, ◌>>=◌}
 use Rattle.zk_jute.proofs.{Steps.IsBytes, Steps.BytesAt, Steps.BytesAt-none, Steps.BytesAt-then, Steps.bind_ok, Runs.int_found, Runs.size_found, Primitives.bool_found, Layouts.have_both, Layouts.bytes_both, Layouts.items_found}
 use Rattle.zk_records.specs.{declared.header.MultiHeader.MultiHeader, Records.multi_header}
-use Rattle.zk_fields.specs.{declared.opened.Headed.Headed, Fields.Entry, Fields.Under, Fields.Head, Fields.entry_items, Fields.items_of, Heads.OfHead, Heads.headed_shape, Rows.Content, Rows.Fields, Rows.Heads}
+use Rattle.zk_fields.specs.{declared.payload_fields.Headed.Headed, Fields.Entry, Fields.Under, Fields.Head, Fields.entry_items, Fields.items_of, Heads.OfHead, Heads.headed_shape, Rows.Content, Rows.Fields, Rows.Heads}
 use Rattle.zk_fields.specs.Named.{Shape, Nothing, An, Both, Many, named_same, items_both}
 use Rattle.zk_fields.specs.Walks.{Met, none_met, item_met, met_then, behind, times_met, count_met, list_met, walk, header_at, under, headed, head_met, content_met}
 

@@ -3,7 +3,7 @@ use Rattle.std.proofs.Common.{◌≡◌, ℕ, suc, ◌+◌, ◌-◌, ◌<◌, Li
 use Rattle.std.specs.Prelude.{Option, Some, None, Ok, Err}
 use Rattle.zk_jute.specs.{declared.fault.ItemFault.ItemFault, Item.Item, Item.ACount, Reading.Read, Reading.Fails, Reading.told}
 use Rattle.zk_records.specs.declared.header.MultiHeader.{MultiHeader}
-use Rattle.zk_fields.specs.{declared.field.Field.Field, declared.field.At.At, declared.walk.Walked.Walked, declared.opened.Headed.Headed, Fields.Entry, Fields.Under, Fields.Head, Fields.named, Room.Takes, Heads.OfHead, Heads.headed_shape}
+use Rattle.zk_fields.specs.{declared.field.Field.Field, declared.field.At.At, declared.walk.Walked.Walked, declared.payload_fields.Headed.Headed, Fields.Entry, Fields.Under, Fields.Head, Fields.named, Room.Takes, Heads.OfHead, Heads.headed_shape}
 use Rattle.zk_fields.specs.Walks.{Met, none_met, item_met, met_then, times_met, list_met, walk, under, headed, Walks}
 use Rattle.zk_fields.proofs.Rooms.{takes_nothing, takes_both}
 

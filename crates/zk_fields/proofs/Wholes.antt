@@ -3,7 +3,7 @@ use Rattle.std.proofs.Common.{◌≡◌, ℕ, ◌+◌, ◌<◌, ◌≤◌, ◌^�
 use Rattle.std.proofs.{lemmas.List.length-append, lemmas.List.length-take, lemmas.List.set_past, lemmas.Bool.Decides.nat_tests}
 use Rattle.zk_jute.specs.Item.{Item, bytes_of, HaveBytes}
 use Rattle.zk_jute.proofs.{Layouts.have_parts, Steps.IsBytes, Steps.IsBytes-take}
-use Rattle.zk_fields.specs.{declared.field.Field.Field, declared.field.At.At, declared.walk.Walked.Walked, Fields.Entry, Fields.items_of, Fields.fields_from, Room.written, Room.Fits, Room.Takes, declared.opened.Opened.Opened, Rows.Content}
+use Rattle.zk_fields.specs.{declared.field.Field.Field, declared.field.At.At, declared.walk.Walked.Walked, Fields.Entry, Fields.items_of, Fields.fields_from, Room.written, Room.Fits, Room.Takes, declared.payload_fields.Opened.Opened, Rows.Content}
 use Rattle.zk_fields.specs.Frames.{Framed, framed_items, framed_fields, client_framed, server_framed, client_fields, server_fields, AreWritten, Shows}
 use Rattle.zk_asks.specs.Held.{ClientFrame}
 use Rattle.zk_asks.specs.Frames as asks

@@ -7,8 +7,8 @@ use Rattle.zk_asks.specs.declared.frame.PartOf.TheVariants as part
 use Rattle.zk_asks.specs.{Held.Part, Parts.op_of_part, Parts.part_header}
 use Rattle.zk_answers.specs.declared.frame.PartDoneOf.TheVariants as done
 use Rattle.zk_answers.specs.{Held.PartDone, Results.mark_before}
-use Rattle.zk_fields.specs.{declared.opened.Headed.Headed, Fields.Entry, Fields.Head, Named.Shape, Named.Named, Named.nothing}
-use Rattle.zk_fields.specs.declared.opened.Headed.TheVariants as heads
+use Rattle.zk_fields.specs.{declared.payload_fields.Headed.Headed, Fields.Entry, Fields.Head, Named.Shape, Named.Named, Named.nothing}
+use Rattle.zk_fields.specs.declared.payload_fields.Headed.TheVariants as heads
 use Rattle.zk_fields.specs.Records.{create_ask, delete_ask, set_data_ask, check_ask, path, stat, err}
 
 -- a header that isn't the end marker

@@ -7,8 +7,8 @@ use Rattle.zk_asks.specs.declared.frame.ClientFrameOf.TheVariants as client
 use Rattle.zk_asks.specs.{Held.ClientFrame, Rows.op_of_ask}
 use Rattle.zk_answers.specs.declared.frame.ServerFrameOf.TheVariants as server
 use Rattle.zk_answers.specs.{Held.ServerFrame, Frames.op_of_reply}
-use Rattle.zk_fields.specs.{declared.field.Field.Field, declared.field.At.At, declared.walk.Walked.Walked, declared.opened.Headed.Headed, declared.opened.Opened.Opened}
-use Rattle.zk_fields.specs.declared.opened.Opened.TheVariants as opened
+use Rattle.zk_fields.specs.{declared.field.Field.Field, declared.field.At.At, declared.walk.Walked.Walked, declared.payload_fields.Headed.Headed, declared.payload_fields.Opened.Opened}
+use Rattle.zk_fields.specs.declared.payload_fields.Opened.TheVariants as opened
 use Rattle.zk_fields.specs.{Fields.Entry, Fields.Under, Fields.Head, Fields.named, Fields.fields_from, Named.Shape, Named.Nothing, Named.An, Named.Both, Named.Many}
 use Rattle.zk_fields.specs.{Records.connect_request, Records.connect_response, Records.watcher_event, Records.read_only, Heads.OfHead, Heads.headed_shape, Rows.Content, Rows.Fields, Rows.Heads, Rows.ask_content, Rows.body_content}
 use Rattle.zk_fields.specs.Room.{Takes}

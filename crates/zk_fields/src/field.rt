@@ -8,7 +8,7 @@ ghost use Rattle.zk_fields.specs.Room.{Puts};
 pub struct Field {
     /// The place in the payload where its content begins: for a text or a blob, after its length.
     pub place: u32,
-    /// The bytes of its content.
+    /// The number of bytes of its content: of a text or a blob without its length, of all else the whole item.
     pub length: u32,
     /// The number of an int or a long, 0 or 1 for a boolean, a list's count, or the operation in a part's header.
     pub number: i64,

@@ -16,8 +16,8 @@
 //! The crate rests on `zk_asks` and `zk_answers` for frames, on `zk_records` for records and on `zk_jute` for items.
 //!
 //! ```text
-//! let frame = borrow_ask(Profile::V34, payload)?;
-//! let count = client_fields(&frame, &mut room);
+//! let frame = borrow_ask(Profile::V34, b"\0\0\0\x01\0\0\0\x03\0\0\0\x02/a\x01")?;
+//! assert!(rt; client_fields(&frame, &mut room) == 2); // the path "/a", and whether to watch it
 //! ```
 //!
 //! # Choices
@@ -44,7 +44,7 @@ mod kind;
 mod laws;
 mod list;
 mod name;
-mod opened;
+mod payload_fields;
 mod record;
 mod show;
 mod value;
@@ -54,7 +54,7 @@ mod write;
 pub use field::{At, Field};
 pub use frame::{client_fields, server_fields};
 pub use laws::field_laws;
-pub use opened::{Opened, opened_fields};
+pub use payload_fields::{Opened, opened_fields};
 pub use show::Show;
 pub use walk::Walked;
 pub use write::{Unwritten, write_connected, write_event, write_first, write_reply, write_request};

@@ -1,4 +1,4 @@
-//! The names of fields, by number.
+//! The names of fields, by number: those of zookeeper.jute (`ZK_NAME_PATH` and so on in the header for C).
 
 /// No name: what a multi's header has.
 pub const NONE: u16 = 0;

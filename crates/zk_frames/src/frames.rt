@@ -1,6 +1,7 @@
 //! `Frames`: the newest frame of one direction, taken piece by piece.
-ghost use Rattle.std.specs.Prelude.{◌≡◌, ◌≤◌, ◌+◌, ◌-◌, ℕ, List, [], ◌++◌, ◌↔◌, length, take, drop, IfOk, IfErr, IfSome, IfNone, OnOk, IsTrue, Err, vec_capacity};
+ghost use Rattle.std.specs.Prelude.{◌≡◌, ◌≤◌, ◌+◌, ◌-◌, ℕ, List, [], ◌++◌, ◌↔◌, length, take, drop, IfOk, IfErr, IfSome, IfNone, OnOk, OnErr, IsTrue, MatchBool, false, Ok, Err, vec_capacity};
 ghost use Rattle.zk_frames.specs.{declared.frames.FrameFault.TheVariants.LengthRange, Framing.frame, Advance.left_of, Advance.IsAnswer};
+ghost use Rattle.zk_frames.specs.Framing.{IsFrame, IsBadLength, IsLessOrMore};
 ghost use Rattle.zk_frames.specs.Held.{IsWhole, IsRefused, IsHeld, IsNow, IsLeft, IsTaken, IsRefusal, GoesOnAlways, IsFront};
 
 use crate::cutter::{Standing, cut};
@@ -43,8 +44,8 @@ impl Model for Frames {
 }
 
 impl Frames {
-    /// Holds no bytes yet. Payloads are at most `limit` bytes; memory for a frame of that size is allocated now, and no
-    /// later call allocates.
+    /// Holds no bytes yet. Payloads are at most `limit` bytes (ZooKeeper's `jute.maxbuffer`); memory for a frame of
+    /// that size is allocated now, and no later call allocates.
     ///
     /// # Errors
     ///
@@ -66,8 +67,8 @@ impl Frames {
     ///
     /// # Errors
     ///
-    /// `LengthRange` at the fourth byte of a length below 0 or above the limit. These four bytes are then held, and each
-    /// later call returns the same and takes nothing.
+    /// `LengthRange` at the fourth byte of a length below 0 or above the limit, where ZooKeeper's `readLength` closes
+    /// the connection. These four bytes are then held, and each later call returns the same and takes nothing.
     pub fn take(&mut self, piece: &[u8]) -> Result<Took, FrameFault>
         ensures limit { self.new.limit ≡ self.old.limit }
         ensures now { IfOk result (λ t. IsNow t.whole self.new) }
@@ -120,6 +121,34 @@ impl Frames {
         Some(used)
     }
 
+    /// Whether `bytes` are one whole frame; false: they are less than one, or more. What is held doesn't matter.
+    ///
+    /// # Errors
+    ///
+    /// `LengthRange` if they begin with a length below 0 or above the limit.
+    pub fn is_one(&self, bytes: &[u8]) -> Result<bool, FrameFault>
+        ensures ok { IfOk result (λ one. MatchBool one (IsFrame self.now.limit bytes.now) (IsLessOrMore self.now.limit bytes.now)) }
+        ensures err { OnErr result ((4 ≤ length bytes.now) × IsBadLength self.now.limit (take 4 bytes.now)) }
+        ensures only { IsLessOrMore self.now.limit bytes.now → result ≡ Ok false }
+    {
+        let front = cut(self.limit, &[], bytes);
+        match front.standing {
+            Standing::Open => Ok(false),
+            Standing::Whole => Ok(front.used == bytes.len()),
+            Standing::Refused => Err(FrameFault::LengthRange),
+        }
+    }
+
+    /// Holds this whole frame, whatever was held. Allocates nothing.
+    pub fn put(&mut self, frame: &[u8])
+        requires { IsFrame self.old.limit frame.now }
+        ensures { self.new ≡ record { limit = self.old.limit; bytes = frame.now } }
+    {
+        self.renew();
+        append(&mut self.bytes, frame);
+        self.standing = Standing::Whole;
+    }
+
     /// The payload of the whole frame: its bytes after the length.
     #[inline(always)]
     pub fn payload(&self) -> &[u8]
@@ -154,7 +183,7 @@ impl Frames {
         self.bytes.len() as u32
     }
 
-    /// Forgets the last `count` bytes. A frame that loses a byte isn't whole any more.
+    /// Forgets the last `count` bytes, all of them held. A frame that loses a byte isn't whole any more.
     pub fn untake(&mut self, count: u32)
         requires taken { IsRefused self.old → ⊥ }
         requires held { count ≤ length self.old.bytes }

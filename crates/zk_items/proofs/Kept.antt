@@ -27,3 +27,7 @@ on_none None f p = f p
 pub on_both : {A P Q R : Type 0} (r : Option A) → (P → Q → R) → OnSome r P → OnSome r Q → OnSome r R
 on_both (Some x) f p q = f p q
 on_both None f p q = tt
+
+pub on_good : {A E P Q : Type 0} (r : Result A E) → (P → Q) → OnOk r P → OnOk r Q
+on_good (Ok x) f p = f p
+on_good (Err e) f p = tt

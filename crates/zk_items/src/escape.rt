@@ -5,8 +5,8 @@ ghost use Rattle.zk_items.specs.{Form.Keeps, Leaf.is_plain, Leaf.symbol_spell, O
 
 use crate::append::append_first;
 use crate::class::{Class, Odd};
-use crate::digits::pairs;
-use crate::symbol::is_odd;
+use crate::text_byte::is_odd;
+use crate::write_hex::pairs;
 use std::alloc::AllocError;
 use std::simd::prelude::*;
 

@@ -1,9 +1,10 @@
 //! The items of a line: numbers, texts, blobs, bits, and numbers with names, written and read back exactly.
 //!
-//! A `Reader` goes over a line from left to right: `Reader::int`, `text`, `blob` and their like read the next item, or
-//! return the `LineFault` of its column. The functions `put_*` append an item to a vector, and leave what the vector
-//! began with. Each value has one spelling, and only that is read: no leading zero, no upper-case digit, no escape for
-//! a byte that needs none. `item_laws` says so for each item.
+//! A `Reader` goes over a line from left to right: `Reader::int`, `bit` and their like read the next item, `copy_text`
+//! and `copy_blob` append its bytes, as they are in a payload; each returns the `LineFault` of its column. The
+//! functions `put_*` append an item to a vector, and leave what the vector began with. Each value has one spelling, and
+//! only that is read: no leading zero, no upper-case digit, no escape for a byte that needs none. `item_laws` says so
+//! for each item.
 //!
 //! Texts are written between quotation marks, with `\` and two hexadecimal digits for each byte but 20 to 7e, `"` and
 //! `\`; blobs as `#` and their digits; null as `~`. docs/FORMATS.md has them all.
@@ -11,10 +12,11 @@
 //! The crate rests on `zk_jute` and `zk_records` for values and names, and on `itoa`, `hex` and `thiserror`.
 //!
 //! ```text
-//! let mut line = Reader::new(rt.alloc(), b"7 \"/a\" #6f6b");
-//! line.int()?;        // 7
+//! let mut line = Reader::new(b"7 \"/a\"");
+//! assert!(rt; line.int()? == 7);
 //! line.literal(b" ")?;
-//! line.text()?;       // "/a"
+//! line.copy_text(&mut text)?;
+//! assert!(rt; text.as_slice() == b"\0\0\0\x02/a".as_slice()); // as it is in a payload
 //! ```
 //!
 //! # Choices
@@ -36,17 +38,17 @@ mod class;
 mod code;
 mod copy;
 mod decimal;
-mod digits;
 mod escape;
 mod fault;
 mod laws;
 mod number;
 mod plain;
+mod read_hex;
 mod reader;
-mod symbol;
-mod undigits;
+mod text_byte;
 mod unescape;
 mod write;
+mod write_hex;
 
 pub use code::{
     put_error_code, put_event_code, read_error_code, read_event_code, read_failure_code,

@@ -4,7 +4,7 @@ ghost use Rattle.std.specs.List.{prefix_len};
 ghost use Rattle.zk_items.specs.Leaf.{is_plain};
 
 use crate::class::{Class, Plain, run_by};
-use crate::symbol::is_plain;
+use crate::text_byte::is_plain;
 use std::simd::prelude::*;
 
 /// The length of the run of plain bytes in front.

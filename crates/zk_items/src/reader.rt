@@ -2,22 +2,18 @@
 ghost use Rattle.std.specs.Prelude.{◌≡◌, ◌↔◌, ◌*◌, ◌<◌, ◌≤◌, IsTrue, [], length, take, drop, MatchBool, IfErr, Some, None};
 ghost use Rattle.std.specs.List.{AllByRecursion, flat_map, prefix_len};
 ghost use Rattle.zk_items.specs.{Form.Gives, Form.Keeps, Form.Passes, Form.word_at, Codes.is_next, Many.GivesMore, Many.many_at};
-ghost use Rattle.zk_items.specs.Leaf.{in_name, in_word, is_plain, num_at, bit_at, ro_at, text_at, blob_at, symbol_at, symbol_spell};
+ghost use Rattle.zk_items.specs.Leaf.{in_name, in_word, is_plain, num_at, bit_at, ro_at, symbol_at, symbol_spell};
 
 use crate::append::append_first;
 use crate::decimal::{int_ahead, long_ahead};
 use crate::escape::block_of;
 use crate::fault::{LineFault, LineReason};
-use crate::number::{hex_len, int_of, letters_len, long_of, name_len, number_len};
+use crate::number::{int_of, letters_len, long_of, name_len, number_len};
 use crate::plain::plain_len;
-use crate::symbol::{hex_value, is_plain, text_of};
-use crate::undigits::bytes_of;
+use crate::text_byte::{hex_value, is_plain};
 use crate::unescape::escapes_in;
-use hex::FromHexError;
-use std::alloc::{AllocError, Global};
 use std::marker::Model;
 use std::simd::prelude::*;
-use zk_jute::{Blob, Bytes, Chars, Text};
 
 /// The bytes of three escapes; where fewer are ahead, they are read one by one.
 const RUN: usize = 9;
@@ -41,7 +37,6 @@ macro_rules! number {
 /// What is left of a line.
 #[derive(Drop)]
 pub struct Reader<'a> {
-    alloc: Global,
     whole: usize,
     pub(crate) ahead: &'a [u8],
 }
@@ -55,12 +50,11 @@ impl<'a> Model for Reader<'a> {
 }
 
 impl<'a> Reader<'a> {
-    /// A reader at the beginning of `line`; texts and blobs are allocated with `alloc`.
-    pub fn new(alloc: Global, line: &'a [u8]) -> Self
+    /// A reader at the beginning of `line`.
+    pub fn new(line: &'a [u8]) -> Self
         ensures { result ≡ line.now }
     {
         Reader {
-            alloc,
             whole: line.len(),
             ahead: line,
         }
@@ -78,11 +72,6 @@ impl<'a> Reader<'a> {
             column: u32::try_from(column).unwrap_or(u32::MAX),
             reason,
         }
-    }
-
-    /// The allocator of what is read.
-    pub fn alloc(&self) -> Global {
-        self.alloc
     }
 
     /// The number of bytes that are left.
@@ -197,30 +186,6 @@ impl<'a> Reader<'a> {
         number!(self, long_ahead, long_of)
     }
 
-    /// Reads a blob: `~`, or `#` and the longest run of lower-case digits.
-    #[tactic(auto, using(crate::proofs::Runs::run_passes), unfolding(crate::specs::Leaf::blob_at))]
-    pub fn blob(&mut self) -> Result<Blob, LineFault>
-        ensures { Gives result self.new (blob_at self.old) }
-    {
-        match self.ahead.split_first() {
-            Some((b'~', rest)) => {
-                self.ahead = rest;
-                Ok(Blob::Null)
-            }
-            Some((b'#', rest)) => {
-                let (run, rest) = rest.split_at(hex_len(rest));
-                let bytes = match bytes_of(self.alloc, run) {
-                    Ok(bytes) => bytes,
-                    Err(FromHexError::OutOfMemory) => return Err(LineFault::from(AllocError)),
-                    Err(_) => return Err(self.fault(LineReason::Blob)),
-                };
-                self.ahead = rest;
-                Ok(Blob::Full(Bytes::new(bytes)))
-            }
-            _ => Err(self.fault(LineReason::Blob)),
-        }
-    }
-
     /// Reads the next byte of a text, `None` at its end; else returns `fault`.
     #[tactic(auto, unfolding(crate::specs::Leaf::symbol_at))]
     fn symbol(&mut self, fault: LineFault) -> Result<Option<u8>, LineFault>
@@ -255,7 +220,7 @@ impl<'a> Reader<'a> {
     }
 
     /// Passes the longest run of plain bytes, and returns it.
-    fn plain(&mut self) -> &'a [u8]
+    pub(crate) fn plain(&mut self) -> &'a [u8]
         ensures run { result.now ≡ take (prefix_len is_plain self.old) self.old }
         ensures rest { self.new ≡ drop (prefix_len is_plain self.old) self.old }
     {
@@ -307,29 +272,5 @@ impl<'a> Reader<'a> {
             }
         }
         Err(fault)
-    }
-
-    /// Reads a text: `~`, or its bytes between quotation marks.
-    #[tactic(auto, unfolding(crate::specs::Leaf::text_at))]
-    pub fn text(&mut self) -> Result<Text, LineFault>
-        ensures { Gives result self.new (text_at self.old) }
-    {
-        let fault = self.fault(LineReason::Text);
-        match self.ahead.split_first() {
-            Some((b'~', rest)) => {
-                self.ahead = rest;
-                Ok(Text::Null)
-            }
-            Some((b'"', rest)) => {
-                self.ahead = rest;
-                let mut bytes = Vec::new(self.alloc);
-                self.inside(fault, &mut bytes)?;
-                match text_of(bytes) {
-                    Some(text) => Ok(Text::Full(Chars::new(text))),
-                    None => Err(fault),
-                }
-            }
-            _ => Err(fault),
-        }
     }
 }

@@ -6,10 +6,10 @@ ghost use Rattle.zk_items.specs.Form.{Keeps};
 ghost use Rattle.zk_items.specs.Leaf.{int, long, is_plain, text_fits, text_spell, blob_fits, blob_spell, symbol_spell, bit_spell, ro_spell};
 
 use crate::append::append_first;
-use crate::digits::put_digits;
 use crate::escape::{block_of, odd_len, put_escapes};
 use crate::plain::{are_plain, plain_len};
-use crate::symbol::{hex_digit, is_plain};
+use crate::text_byte::{hex_digit, is_plain};
+use crate::write_hex::put_digits;
 use itoa::write_digits;
 use std::alloc::AllocError;
 use zk_jute::{Blob, BlobRef, Text, TextRef};

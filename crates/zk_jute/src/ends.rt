@@ -4,8 +4,8 @@ ghost use Rattle.zk_jute.specs.{Layout.IsValueOf, Reading.items_at, Reading.time
 ghost use Rattle.zk_jute.specs.Wired.{Wired, int, long, boolean, ustring, buffer, vector, ◌and◌};
 ghost use Rattle.zk_jute.specs.Ends.{IsUtf8Between, TextsIfUtf8, IsRunOfLowSize};
 
+use crate::length_prefixed::{run_at, size_at, text_at};
 use crate::number::{bool_at, int_at, long_at};
-use crate::run::{run_at, size_at, text_at};
 use crate::series::{Element, Series};
 use crate::utf8::is_long_text;
 use crate::value::{Blob, BlobRef, List, Text, TextRef};

@@ -16,9 +16,9 @@
 //! UTF-8 and on `thiserror`.
 //!
 //! ```text
-//! const LIST: &[u8] = b"\0\0\0\x02\0\0\0\x02/a\xff\xff\xff\xff";
-//! let (list, end) = read_ref::<TextList>(LIST, 0)?;
-//! // list.count() is 2, and end is 14: the text "/a", and null.
+//! let payload = b"\0\0\0\x02\0\0\0\x02/a\xff\xff\xff\xff"; // the text "/a", and null
+//! let (list, end) = read_ref::<TextList>(payload, 0)?;
+//! assert!(rt; list.count() == 2 && end == 14);
 //! ```
 //!
 //! # Choices
@@ -54,17 +54,17 @@
 #![tactic(auto)]
 
 mod ascii;
-mod at;
 mod ends;
 mod fault;
-mod left;
+mod length_prefixed;
 mod list;
 mod number;
 mod output;
 mod pair;
 mod payload;
+mod read_at;
 mod record;
-mod run;
+mod rest_of_list;
 mod sequence;
 mod series;
 mod text;
@@ -74,15 +74,15 @@ mod verdict;
 mod view;
 mod wire;
 
-pub use at::{known_at, read_ref, scan};
 pub use ends::Ends;
 pub use fault::{ItemFault, Reason, reason_name};
-pub use left::{Left, Lent};
+pub use length_prefixed::size_at;
 pub use number::{bool_at, int_at, long_at};
 pub use output::Output;
 pub use payload::{known_flagged, read_flagged, scan_flagged};
+pub use read_at::{known_at, read_ref, scan};
 pub use record::{Record, Written};
-pub use run::size_at;
+pub use rest_of_list::{Left, Lent};
 pub use sequence::{KnownIn, Member, Members, Sequence};
 pub use series::{Element, Series, TextList, known_list};
 pub use value::{

@@ -5,10 +5,10 @@ ghost use Rattle.std.specs.Prelude.{◌≡◌, ◌≢◌, ◌≤◌, Option, Boo
 ghost use Rattle.zk_jute.specs.{declared.fault.Reason.TheVariants.NoMemory, Item.bytes_of, Item.HaveBytes, Layout.IsValueOf, Told.StandsAt, Told.IsReadAs, Told.IsToldFault, Told.IsTold, Told.HasSureFault, Told.IsSurelyTold};
 ghost use Rattle.zk_jute.specs.Flagged.{flag_items, flagged, IsFlaggedFault, OneIsFlagged};
 
-use crate::at::read_ref;
 use crate::ends::Ends;
 use crate::fault::{ItemFault, Reason};
 use crate::output::Output;
+use crate::read_at::read_ref;
 use crate::view::View;
 use crate::wire::{Spell, Wire};
 use std::alloc::Global;
@@ -53,7 +53,7 @@ fn with_flag<T: Ends>(
 ///
 /// # Errors
 ///
-/// The first fault of the value or of the boolean; `Trailing` at bytes after the boolean; `NoMemory`.
+/// The first fault of the value or of the boolean; `Trailing` at bytes after the boolean; `NoMemory` if it is refused.
 pub fn read_flagged<T: Wire>(alloc: Global, payload: &[u8]) -> Result<(T, Option<bool>), ItemFault>
     // What is read is the whole payload.
     ensures found { IfOk result (λ x. HaveBytes (flagged T.wired x.0 x.1) × (payload.now ≡ bytes_of (flagged T.wired x.0 x.1))) }

@@ -3,9 +3,9 @@ ghost use Rattle.std.specs.Prelude.{◌≡◌, ◌≤◌, ◌↔◌, ℕ, List, 
 ghost use Rattle.zk_jute.specs.{Held.Text, Held.Vector, Item.HaveBytes, Told.StandsAt, Reading.end_of, Reading.items_at, Reading.read_map, Reading.times_at, Standing.OneStands, Values.text_items, Values.list_items};
 ghost use Rattle.zk_jute.specs.Shown.{ListIsThere, IsNull, count_of, elements_of, list_at, text_value, text_is_value};
 
-use crate::at::known_at;
 use crate::ends::Ends;
-use crate::run::known_size;
+use crate::length_prefixed::known_size;
+use crate::read_at::known_at;
 use crate::sequence::{KnownIn, Member, Members, Sequence};
 use crate::value::{Nullable, TextRef};
 use crate::view::View;

@@ -3,8 +3,8 @@ ghost use Rattle.std.specs.Prelude.{◌≡◌, ◌≤◌, length, Ok, IsOk};
 ghost use Rattle.zk_jute.specs.Reading.{items_at};
 
 use crate::ends::Ends;
+use crate::length_prefixed::{known_run, known_text};
 use crate::number::{bool_of, int_of, long_of};
-use crate::run::{known_run, known_text};
 use crate::value::{BlobRef, BytesRef, CharsRef, TextRef};
 
 /// A value that is borrowed from a payload. What is known to be there is not judged again.

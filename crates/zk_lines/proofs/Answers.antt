@@ -12,12 +12,12 @@ use Rattle.zk_answers.specs.declared.frame.BodyOf.TheVariants as body
 use Rattle.zk_answers.specs.declared.frame.OutcomeOf.TheVariants as outcome
 use Rattle.zk_items.specs.Form.{Read, ◌>>=◌, read_map, stops, word_at}
 use Rattle.zk_items.specs.{Leaf.int, Leaf.long, Leaf.text, Codes.error_code, Codes.failure_code, Codes.error_name, Laws.Lawful, Laws.LawfulBefore}
-use Rattle.zk_lines.specs.{Words.field, Words.word_of, declared.done.DoneName.DoneName, Series.if_passed, Series.list_of, Records.stat, Rows.row_at}
+use Rattle.zk_lines.specs.{Words.field, Words.word_of, declared.multi_result.DoneName.DoneName, Series.if_passed, Series.list_of, Records.stat, Rows.row_at}
 use Rattle.zk_lines.specs.declared.word.Word.TheVariants as words
 use Rattle.zk_items.proofs.Forms.{IsField, fields_is, and_is, led_is, bind_some, some_is, word_again, word_sound}
 use Rattle.zk_items.proofs.{Numbers.int_is, Numbers.long_is, Codes.code_is, Codes.other_code_is}
 use Rattle.zk_lines.proofs.{Words.field_is, Words.word_stops, Named.IsNames, Named.IsFound, Named.IsRead, Named.named_is, Named.names_of, Named.mapped, LawsPrinted.Printed, Held.int_fits, Shown.error_shown, Asks.op_names}
-use Rattle.zk_lines.specs.declared.done.DoneName.TheVariants as names
+use Rattle.zk_lines.specs.declared.multi_result.DoneName.TheVariants as names
 use Rattle.zk_lines.specs.Answers as answers
 use Rattle.zk_lines.proofs.Rows.{IsItem, IsRow, IsRowOf, IsTable, ◌with◌, field_of, row_of_fields, row_of_record, nothing_is, table_opens, table_again, table_sound, table_held, table_series, table_shown}
 use Rattle.zk_lines.proofs.Items.{int_item, long_item, ro_item, blob_item, texts_item, acls_item, event_code_item, path_field, version_field, stat_field}

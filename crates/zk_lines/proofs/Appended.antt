@@ -1,6 +1,7 @@
 -- What is read of a line into bytes, part by part.
 use Rattle.std.proofs.Common.{◌≡◌, ℕ, List, [], ◌++◌, take, drop, Option, Some, None, refl, sym, ap, subst, ◌∙◌, append_assoc, ltb-true, w32, to_z, of_z, to_z-of_z}
-use Rattle.std.specs.Prelude.{IfSome, ◌^◌, true, ℤ, pos, negsuc}
+use Rattle.std.specs.Prelude.{IfSome, IfOk, IfErr, OnOk, Result, Ok, Err, ◌^◌, true, ℤ, pos, negsuc}
+use Rattle.std.specs.Result.{IsErrAnd}
 use Rattle.std.specs.List.{prefix_len}
 use Rattle.std.proofs.lemmas.List.{append-nil}
 use Rattle.zk_jute.specs.Item.{Item, AnInt, bytes_of, HasBytes, HaveBytes}
@@ -8,7 +9,8 @@ use Rattle.zk_records.specs.{Codes.op_number, Codes.part_number, declared.op.Op.
 use Rattle.zk_records.specs.declared.op.Op.TheVariants as ops
 use Rattle.zk_records.specs.declared.op.PartOp.TheVariants as parts
 use Rattle.zk_jute.proofs.Layouts.{have_both, bytes_both}
-use Rattle.zk_items.specs.Form.{Read, ◌>>=◌, word_at}
+use Rattle.zk_items.specs.Form.{Read, Fails, ◌>>=◌, word_at}
+use Rattle.zk_items.specs.declared.fault.LineFault.{LineFault}
 use Rattle.zk_items.specs.{Leaf.in_name, Leaf.in_range, Copied.Copied}
 use Rattle.zk_lines.specs.{Named.named_at, Words.field_at, Words.word_of, declared.word.Word.Word}
 
@@ -102,3 +104,24 @@ part_kind _ = refl
 pub if_some : {A : Type 0} {P Q : A → Type 0} (r : Option A) → ((x : A) → P x → Q x) → IfSome r P → IfSome r Q
 if_some (Some x) f p = f x p
 if_some None f p = tt
+
+-- ---- results
+
+pub on_good : {A E P Q : Type 0} (r : Result A E) → (P → Q) → OnOk r P → OnOk r Q
+on_good (Ok x) f p = f p
+on_good (Err e) f p = tt
+
+pub if_good : {A E : Type 0} {P Q : A → Type 0} (r : Result A E) → ((x : A) → P x → Q x) → IfOk r P → IfOk r Q
+if_good (Ok x) f p = f x p
+if_good (Err e) f p = tt
+
+-- ---- where nothing is read
+
+pub refused_by : {A X Y : Type 0} {x : Option X} {y : Option Y} (r : Result A LineFault) → (x ≡ None → y ≡ None) → IfErr r (λ e. Fails e x) → IfErr r (λ e. Fails e y)
+refused_by (Ok a) f p = tt
+refused_by (Err e) f p = λ n. f (p n)
+
+-- the fault of a `?`
+pub handed_on : {A X Y : Type 0} {x : Option X} {y : Option Y} (f : LineFault) (r : Result A LineFault) → IsErrAnd r (λ e. e ≡ f) → Fails f x → (x ≡ None → y ≡ None) → IfErr r (λ e. Fails e y)
+handed_on f (Ok a) i p k = tt
+handed_on f (Err e) i p k = λ n. k (p (λ z. n (ap (λ (g : LineFault). g.reason) i ∙ z)))

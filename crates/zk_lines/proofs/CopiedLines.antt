@@ -1,5 +1,5 @@
 -- A line that is read into bytes is that of one message, whose payload they are.
-use Rattle.std.proofs.Common.{◌≡◌, ℕ, ℤ, List, [], Option, Some, None, Bool, true, false, refl, sym, ap, ◌∙◌, bytes_eq}
+use Rattle.std.proofs.Common.{◌≡◌, ℕ, ℤ, List, [], ◌++◌, Option, Some, None, Bool, true, false, refl, sym, ap, subst, ◌∙◌, bytes_eq}
 use Rattle.std.specs.Prelude.{codes}
 use Rattle.zk_jute.specs.Item.{Item, bytes_of}
 use Rattle.zk_records.specs.{Held.ConnectRequest, Held.ConnectResponse, Held.WatcherEvent, declared.op.Op.Op}
@@ -12,13 +12,13 @@ use Rattle.zk_answers.specs.declared.frame.ServerFrameOf.TheVariants as server
 use Rattle.zk_answers.specs.Frames as answered
 use Rattle.zk_items.specs.Form.{Read, ◌>>=◌, read_map, word_at}
 use Rattle.zk_items.specs.{Codes.is_zero, Copied.Copied}
-use Rattle.zk_talk.specs.{Held.Message, declared.message.Kind.Kind, Payloads.client_payload, Payloads.server_payload, Said.payload_of, Written.IsTrueFailure, Written.items_of, Written.kind_of}
+use Rattle.zk_talk.specs.{Held.Message, declared.message.Kind.Kind, Payloads.client_payload, Payloads.server_payload, Said.payload_of, Written.IsTrueFailure, Written.IsWritten, Written.items_of, Written.kind_of}
 use Rattle.zk_talk.specs.declared.message.Kind.TheVariants as kinds
 use Rattle.zk_talk.specs.declared.message.MessageOf.TheVariants as message
 use Rattle.zk_lines.specs.Asks as asks
 use Rattle.zk_lines.specs.Answers as answers
 use Rattle.zk_lines.specs.{Copied.CopiedMessage, Copied.IsCopied, Series.if_passed}
-use Rattle.zk_lines.specs.Lines.{letters, client_at, server_at, message_at, Fits, whole, said}
+use Rattle.zk_lines.specs.Lines.{line, letters, client_at, server_at, message_at, Fits, whole, said}
 use Rattle.zk_lines.proofs.Lines.{asked_at, answered_at, message_found}
 
 -- ---- a frame that is read, and its kind
@@ -111,3 +111,9 @@ line_copied bytes old new kind c =
     let m = c.message in
     let found = message_found bytes m c.is in
     (bytes_of (items_of m), m, c.appended, found.0, found.1, record { kind_is = c.kind_is; failure = true_failure m found.1; have = c.have; is = payload_is m })
+
+-- the message whose payload was appended to nothing has the line
+pub viewed : (bytes old new p : List ℕ) (kind : Kind) → old ≡ [] → p ≡ new → IsCopied kind bytes old new → (m : Message) × IsWritten kind p m × ((bytes ≡ line m) × Fits m)
+viewed bytes old new p kind none is c =
+    let same : c.0 ≡ p = sym (is ∙ c.2 ∙ ap (λ (o : List ℕ). o ++ c.0) none) in
+    (c.1, subst (λ (l : List ℕ). IsWritten kind l c.1) same c.5, (c.3, c.4))

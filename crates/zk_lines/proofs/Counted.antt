@@ -1,6 +1,6 @@
 -- Items one after another are read into bytes.
 use Rattle.std.proofs.Common.{◌≡◌, ℕ, ◌+◌, ◌-◌, ◌<◌, ◌^◌, List, [], ◌∷◌, ◌++◌, length, take, drop, Option, Some, None, refl, sym, ap, subst, ◌∙◌, append_assoc, arith, length-append}
-use Rattle.std.specs.Prelude.{IfNone, OnSome, pos, negsuc}
+use Rattle.std.specs.Prelude.{OnErr, OnOk, Result, Ok, Err, pos, negsuc}
 use Rattle.std.specs.List.{flat_map}
 use Rattle.std.proofs.lemmas.List.{append-nil, take_at}
 use Rattle.zk_jute.specs.{Item.Item, Item.bytes_of, Item.HaveBytes, Item.int_bytes, Values.list_items}
@@ -8,7 +8,7 @@ use Rattle.zk_jute.specs.declared.value.Nullable.TheVariants as nullable
 use Rattle.zk_jute.proofs.Layouts.{have_both, bytes_both}
 use Rattle.zk_items.specs.Form.{Read, ◌>>=◌, Keeps, read_map, word_at}
 use Rattle.zk_items.specs.{Many.many_at, Many.with_first, Many.with_front, Copied.Copied}
-use Rattle.zk_items.proofs.{Copies.room_filled, Kept.keeps_more, Many.no_front, Many.step_some, Many.step_end}
+use Rattle.zk_items.proofs.{Copies.room_filled, Kept.keeps_more, Many.no_front, Many.step_some, Many.step_end, Many.step_none}
 use Rattle.zk_lines.specs.Series.{element_at, series_at, full_at, list_at, if_passed}
 
 -- ---- the loop
@@ -51,6 +51,10 @@ module _ {X : Type 0} (at : List ℕ → Read (Option X)) (items : X → List It
             ∙ ap (λ (l : List ℕ). old ++ l) (sym (bytes_both (flat_map items xs) (items x)) ∙ ap bytes_of (sym (flat_more xs x)));
       }
 
+  pub none_more : (from line old new : List ℕ) (turns turn : ℕ) → turn < turns → length from ≡ turns → Begun at items from line old new turns turn → at line ≡ None → many_at at (length from) from ≡ None
+  none_more from line old new turns turn less long b e =
+      ap (λ (n : ℕ). many_at at n from) long ∙ sym b.read ∙ step_none at b.values (turns - turn) (turns - (turn + 1)) line (omega arith) e
+
   pub all_read : (from line rest old new : List ℕ) (turns turn : ℕ) → turn < turns → length from ≡ turns → Begun at items from line old new turns turn → at line ≡ Some (None, rest)
       → (c : Copied (λ bytes. many_at at (length bytes) bytes) (flat_map items) from rest old new) × (turn + 1 ≡ length c.value + 1)
   all_read from line rest old new turns turn less long b e = (
@@ -77,6 +81,31 @@ module _ {X : Type 0} (sep close : ℕ) (at : List ℕ → Read X) where
   pub element_none : (line rest : List ℕ) → word_at (close ∷ []) line ≡ Some rest → element_at sep close at line ≡ Some (None, rest)
   unfolding element_at
   element_none line rest word = ap (λ (o : Option (List ℕ)). if_passed {A = Option X × List ℕ} o (λ rest. Some (None, rest)) (word_at (sep ∷ []) line >>= λ rest. at rest >>= λ q. Some (Some q.0, q.1))) word
+
+  pub element_unled : (line : List ℕ) → word_at (close ∷ []) line ≡ None → word_at (sep ∷ []) line ≡ None → element_at sep close at line ≡ None
+  unfolding element_at
+  element_unled line other word =
+      ap (λ (o : Option (List ℕ)). if_passed {A = Option X × List ℕ} o (λ rest. Some (None, rest)) (word_at (sep ∷ []) line >>= λ rest. at rest >>= λ q. Some (Some q.0, q.1))) other
+      ∙ ap (λ (o : Option (List ℕ)). o >>= λ rest. at rest >>= λ q. Some (Some q.0, q.1)) word
+
+  pub element_unread : (line mid : List ℕ) → word_at (close ∷ []) line ≡ None → word_at (sep ∷ []) line ≡ Some mid → at mid ≡ None → element_at sep close at line ≡ None
+  unfolding element_at
+  element_unread line mid other word read =
+      ap (λ (o : Option (List ℕ)). if_passed {A = Option X × List ℕ} o (λ rest. Some (None, rest)) (word_at (sep ∷ []) line >>= λ rest. at rest >>= λ q. Some (Some q.0, q.1))) other
+      ∙ ap (λ (o : Option (List ℕ)). o >>= λ rest. at rest >>= λ q. Some (Some q.0, q.1)) word
+      ∙ ap (λ (r : Read X). r >>= λ q. Some (Some q.0, q.1)) read
+
+  pub series_unread : (line : List ℕ) → word_at (close ∷ []) line ≡ None → at line ≡ None → series_at sep close at line ≡ None
+  unfolding series_at
+  series_unread line other read =
+      ap (λ (o : Option (List ℕ)). if_passed {A = List X × List ℕ} o (λ rest. Some ([], rest)) (at line >>= λ q. with_first q.0 (many_at (element_at sep close at) (length q.1) q.1))) other
+      ∙ ap (λ (r : Read X). r >>= λ q. with_first q.0 (many_at (element_at sep close at) (length q.1) q.1)) read
+
+  pub series_cut : {items : X → List Item} {line mid old first : List ℕ} → word_at (close ∷ []) line ≡ None → (c : Copied at items line mid old first) → many_at (element_at sep close at) (length mid) mid ≡ None → series_at sep close at line ≡ None
+  unfolding series_at
+  series_cut {line} other c none =
+      ap (λ (o : Option (List ℕ)). if_passed {A = List X × List ℕ} o (λ rest. Some ([], rest)) (at line >>= λ q. with_first q.0 (many_at (element_at sep close at) (length q.1) q.1))) other
+      ∙ ap (λ (r : Read X). r >>= λ q. with_first q.0 (many_at (element_at sep close at) (length q.1) q.1)) c.read ∙ ap (with_first c.value) none
 
   pub series_empty : (items : X → List Item) (line rest old : List ℕ) → word_at (close ∷ []) line ≡ Some rest
       → (c : Copied (series_at sep close at) (flat_map items) line rest old old) × (0 ≡ length c.value)
@@ -144,11 +173,19 @@ module _ {X : Type 0} (at : List ℕ → Read X) (items : X → List Item) where
     appended = c.appended;
   }
 
+  pub list_unled : (line : List ℕ) → word_at (126 ∷ []) line ≡ None → word_at (91 ∷ []) line ≡ None → list_at at line ≡ None
+  unfolding list_at
+  list_unled line other word = ap (λ (o : Option (List ℕ)). if_passed {A = _} o (λ rest. Some (nullable.Null, rest)) (word_at (91 ∷ []) line >>= full_at at)) other ∙ ap (λ (o : Option (List ℕ)). o >>= full_at at) word
+
+  pub list_unread : (line mid : List ℕ) → word_at (126 ∷ []) line ≡ None → word_at (91 ∷ []) line ≡ Some mid → full_at at mid ≡ None → list_at at line ≡ None
+  unfolding list_at
+  list_unread line mid other word none = ap (λ (o : Option (List ℕ)). if_passed {A = _} o (λ rest. Some (nullable.Null, rest)) (word_at (91 ∷ []) line >>= full_at at)) other ∙ ap (λ (o : Option (List ℕ)). o >>= full_at at) word ∙ none
+
 -- whether the count is put in or not, what stood there before stands
-pub kept : {A : Type 0} (r : Option A) (old room mid size last new : List ℕ) (start : ℕ) → start ≡ length old → mid ≡ old ++ room → Keeps mid last → OnSome r (new ≡ take start last ++ (size ++ drop (start + 4) last)) → IfNone r (new ≡ last)
+pub kept : {A E : Type 0} (r : Result A E) (old room mid size last new : List ℕ) (start : ℕ) → start ≡ length old → mid ≡ old ++ room → Keeps mid last → OnOk r (new ≡ take start last ++ (size ++ drop (start + 4) last)) → OnErr r (new ≡ last)
     → Keeps old new
-kept (Some x) old room mid size last new start begins roomy keeps set same =
+kept (Ok x) old room mid size last new start begins roomy keeps set same =
     let stood : take (length old) mid ≡ old = ap (take (length old)) roomy ∙ take_at old room (length old) refl in
     let first : take start last ≡ old = ap (λ (n : ℕ). take n last) begins ∙ keeps old stood in
     keeps_more old (size ++ drop (start + 4) last) new (set ∙ ap (λ (l : List ℕ). l ++ (size ++ drop (start + 4) last)) first)
-kept None old room mid size last new start begins roomy keeps set same = λ front is. ap (take (length front)) same ∙ keeps front (keeps_more old room mid roomy front is)
+kept (Err e) old room mid size last new start begins roomy keeps set same = λ front is. ap (take (length front)) same ∙ keeps front (keeps_more old room mid roomy front is)

@@ -1,6 +1,6 @@
 -- A message's line is read as the message, and what is read has the line.
 use Rattle.std.proofs.Common.{◌≡◌, ◌≢◌, ℕ, zero, suc, ℤ, List, [], ◌∷◌, ◌++◌, take, Option, Some, None, Result, Ok, Err, Bool, true, false, ◌==◌, ◌&&◌, refl, ap, sym, subst, ◌∙◌, cond, arith, bytes_eq, ne_eqb, ◌≤◌}
-use Rattle.std.specs.Prelude.{codes}
+use Rattle.std.specs.Prelude.{codes, IfErr}
 use Rattle.std.specs.{Fmt.signed_decimal, List.prefix_len, List.AllByRecursion}
 use Rattle.std.proofs.lemmas.List.{append-nil}
 use Rattle.zk_asks.specs.Held.{Ask, ClientFrame}
@@ -8,11 +8,12 @@ use Rattle.zk_asks.specs.declared.frame.ClientFrameOf.TheVariants as client
 use Rattle.zk_answers.specs.Held.{Reply, ServerFrame}
 use Rattle.zk_answers.specs.declared.frame.ServerFrameOf.TheVariants as server
 use Rattle.zk_talk.specs.Held.{Message}
+use Rattle.zk_talk.specs.declared.message.Kind.{Kind}
 use Rattle.zk_talk.specs.declared.message.MessageOf.TheVariants as message
 use Rattle.zk_items.specs.{declared.fault.LineFault.LineFault, declared.fault.LineReason.LineReason, Leaf.in_word, Leaf.in_number, Leaf.in_range}
 use Rattle.zk_items.specs.declared.fault.LineReason.TheVariants as reasons
 use Rattle.zk_records.specs.Held.{ConnectRequest, ConnectResponse, WatcherEvent}
-use Rattle.zk_items.specs.Form.{Read, ◌>>=◌, read_map, led, word_at, Answers}
+use Rattle.zk_items.specs.Form.{Read, ◌>>=◌, read_map, led, word_at, Answers, Fails}
 use Rattle.zk_items.proofs.{Forms.led_is, Forms.bind_some, Forms.word_sound, Numbers.wide, Numbers.written_value}
 use Rattle.zk_lines.specs.{Words.word_of, Series.if_passed}
 use Rattle.zk_lines.specs.Asks as asks
@@ -175,8 +176,8 @@ named_memory : (r : LineReason) → (r ≢ reasons.NoMemory → ⊥) → r ≡ r
 named_memory reasons.NoMemory h = refl
 named_memory _ h = absurd (h (λ e. absurd cc))
 
-pub message_only : (bytes : List ℕ) (r : Result Message LineFault) → Answers r (message_at bytes) → (m : Message) → Fits m → bytes ≡ line m → Reads m r
-message_only bytes (Ok n) h m fit e = let k : message_at bytes ≡ Some m = ap message_at e ∙ line_again m fit in let j : Some n ≡ Some m = sym h ∙ k in cc
-message_only bytes (Err x) h m fit e = named_memory x.reason (λ other.
+pub line_only : (bytes : List ℕ) (r : Result Kind LineFault) → IfErr r (λ e. Fails e (message_at bytes)) → IfErr r (λ e. (m : Message) → Fits m → bytes ≡ line m → e.reason ≡ reasons.NoMemory)
+line_only bytes (Ok k) h = tt
+line_only bytes (Err x) h = λ m fit e. named_memory x.reason (λ other.
     let k : message_at bytes ≡ Some m = ap message_at e ∙ line_again m fit in
     let j : ◌≡◌ {A = Option Message} None (Some m) = sym (h other) ∙ k in cc)

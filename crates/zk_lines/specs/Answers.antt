@@ -11,9 +11,9 @@ use Rattle.zk_answers.specs.declared.frame.OutcomeOf.TheVariants as outcome
 use Rattle.zk_answers.specs.Rows as answered
 use Rattle.zk_items.specs.Form.{Form, Read, ◌>>=◌, read_map, fields, ◌and◌, word_at}
 use Rattle.zk_items.specs.{Leaf.int, Leaf.long, Leaf.ro, Leaf.text, Leaf.blob, Codes.error_code, Codes.failure_code, Codes.event_code}
-use Rattle.zk_lines.specs.{Words.word_of, Words.field, declared.word.Word.Word, declared.done.DoneName.DoneName, Series.list_of, Series.multi_of, Series.if_passed, Records.acl, Records.stat, Named.Bodies, Named.first_named, Named.named}
+use Rattle.zk_lines.specs.{Words.word_of, Words.field, declared.word.Word.Word, declared.multi_result.DoneName.DoneName, Series.list_of, Series.multi_of, Series.if_passed, Records.acl, Records.stat, Named.Bodies, Named.first_named, Named.named}
 use Rattle.zk_lines.specs.declared.word.Word.TheVariants as words
-use Rattle.zk_lines.specs.declared.done.DoneName.TheVariants as names
+use Rattle.zk_lines.specs.declared.multi_result.DoneName.TheVariants as names
 use Rattle.zk_lines.specs.Rows.{Row, holds, nothing, bare, Content, remake, row_at, Written, written, bodies_of}
 use Rattle.zk_lines.specs.Asks.{op_named}
 

@@ -1,4 +1,4 @@
-//! The lines of a server's messages: written and read.
+//! The lines of a server's messages, written.
 ghost use Rattle.std.specs.Prelude.{◌≡◌, ◌++◌, OnOk};
 ghost use Rattle.zk_items.specs.{Form.Gives, Form.Keeps, Codes.failure_code, Leaf.int, Leaf.long};
 ghost use Rattle.zk_lines.specs.Words.{word_of};
@@ -7,9 +7,6 @@ ghost use Rattle.zk_lines.specs.Answers as answers;
 ghost use Rattle.zk_lines.specs.Lines as lines;
 ghost use Rattle.zk_lines.specs.Rows.{only_written};
 
-use crate::body::read_body;
-use crate::item::{Item, read_field, read_fields};
-use crate::name::{key, op_named};
 use crate::put::{Put, put_field, put_fields};
 use crate::word::{Word, field_word, put_word, read_word, word_bytes};
 use std::alloc::AllocError;
@@ -30,17 +27,6 @@ pub fn read_failure(line: &mut Reader<'_>) -> Result<Failure, LineFault>
     match Failure::new(read_failure_code(line)?) {
         Some(failure) => Ok(failure),
         None => Err(fault),
-    }
-}
-
-/// Reads the outcome of an operation: a failure if ` err=` comes next, else a body.
-fn read_outcome(line: &mut Reader<'_>, op: Op) -> Result<Outcome, LineFault>
-    ensures { Gives result line.new (answers.outcome_at op line.old) }
-{
-    if line.passes(word_bytes(Word::Err)) {
-        Ok(Outcome::Failed(op, read_failure(line)?))
-    } else {
-        Ok(Outcome::Done(read_body(line, op)?))
     }
 }
 
@@ -80,25 +66,6 @@ impl<'a> Put for OutcomeRef<'a> {
     }
 }
 
-/// Reads the operation's name, the zxid and the outcome.
-fn read_named(line: &mut Reader<'_>) -> Result<(i64, Outcome), LineFault>
-    ensures { Gives result line.new (answers.named_outcome.at line.old) }
-{
-    let op = key!(line, op_named);
-    let zxid = read_field(line, Word::Zxid)?;
-    let outcome = read_outcome(line, op)?;
-    Ok((zxid, outcome))
-}
-
-fn read_reply(line: &mut Reader<'_>) -> Result<Reply, LineFault>
-    ensures { Gives result line.new (answers.reply.at line.old) }
-{
-    let xid = line.int()?;
-    read_word(line, Word::Blank)?;
-    let (zxid, outcome) = read_named(line)?;
-    Ok(Reply { xid, zxid, outcome })
-}
-
 /// Appends a reply: its xid, its operation's name, its zxid and its outcome.
 #[tactic(auto, using(zk_items::proofs::Kept::then_spelled, zk_items::proofs::Kept::keeps_more))]
 fn put_named<O: Put>(
@@ -135,16 +102,6 @@ impl<'a> Put for ReplyRef<'a> {
     }
 }
 
-fn read_connected<B: Item>(
-    line: &mut Reader<'_>,
-) -> Result<(ConnectResponseOf<B>, Option<bool>), LineFault>
-    ensures { Gives result line.new ((answers.connected_of B.form).at line.old) }
-{
-    let hello = fields_of!(ConnectResponse, read_fields, line, ConnectResponseOf);
-    let read_only = read_field(line, Word::ReadOnly)?;
-    Ok((hello, read_only))
-}
-
 /// Appends the connect response's fields in order.
 fn put_connected<B: Put>(
     out: &mut Vec<u8>,
@@ -174,16 +131,6 @@ macro_rules! after_first {
 pub(crate) use after_first;
 pub(crate) use event_fields;
 
-fn read_event<T: Item>(line: &mut Reader<'_>) -> Result<(i64, WatcherEventOf<T>), LineFault>
-    ensures { Gives result line.new ((answers.event_of T.form).at line.old) }
-{
-    let zxid = read_field(line, Word::Zxid)?;
-    read_word(line, Word::Kind)?;
-    let kind = read_event_code(line)?;
-    let event = event_fields!(read_fields, line, WatcherEventOf, kind);
-    Ok((zxid, event))
-}
-
 /// Appends the zxid and an event's fields in order.
 fn put_event<T: Put>(
     out: &mut Vec<u8>,
@@ -198,23 +145,6 @@ fn put_event<T: Put>(
     put_word(out, Word::Kind)?;
     put_event_code(out, event.kind)?;
     event_fields!(put_fields, out, event)
-}
-
-/// Reads the server's message, after `S `.
-pub fn read_server(line: &mut Reader<'_>) -> Result<ServerFrame, LineFault>
-    ensures { Gives result line.new (lines.server_at line.old) }
-{
-    if line.letters() == b"connect".as_slice() {
-        line.literal(b"connect")?;
-        let (hello, read_only) = read_connected(line)?;
-        Ok(ServerFrame::Connected { hello, read_only })
-    } else if line.letters() == b"event".as_slice() {
-        line.literal(b"event")?;
-        let (zxid, event) = read_event(line)?;
-        Ok(ServerFrame::Event { zxid, event })
-    } else {
-        Ok(ServerFrame::Answered(read_reply(line)?))
-    }
 }
 
 /// `server!(out, frame)` appends a server's line.

@@ -1,4 +1,4 @@
-//! The lines of a client's messages: written and read.
+//! The lines of a client's messages, written.
 ghost use Rattle.std.specs.Prelude.{◌≡◌, ◌++◌, OnOk, codes};
 ghost use Rattle.std.specs.Fmt.{signed_decimal};
 ghost use Rattle.zk_items.specs.{Form.Gives, Form.Keeps, Leaf.int};
@@ -7,8 +7,6 @@ ghost use Rattle.zk_lines.specs.Asks as asks;
 ghost use Rattle.zk_lines.specs.Lines as lines;
 ghost use Rattle.zk_lines.specs.Rows.{only_written, row_at};
 
-use crate::item::{Item, read_field, read_fields};
-use crate::name::{key, op_named, part_named};
 use crate::put::{Put, put_field, put_fields};
 use crate::word::{Word, field_word};
 use std::alloc::AllocError;
@@ -30,20 +28,6 @@ macro_rules! put_part {
     }};
 }
 
-/// Reads the record of a part of the operation `op`.
-fn read_part(line: &mut Reader<'_>, op: PartOp) -> Result<Part, LineFault>
-    ensures { Gives result line.new (row_at (asks.part_line_of op) line.old) }
-{
-    macro_rules! row {
-        ($op:ident: $($part:ident: $record:ident $borrowed:ident),+) => {
-            Ok(match $op {
-                $(PartOp::$part => Part::$part(Item::read(line)?),)+
-            })
-        };
-    }
-    part_rows!(row, op)
-}
-
 impl Put for Part {
     ghost form = { asks.part_form };
 
@@ -60,13 +44,6 @@ impl<'a> Put for PartRef<'a> {
     }
 }
 
-impl Item for Part {
-    fn read(line: &mut Reader<'_>) -> Result<Self, LineFault> {
-        let op = key!(line, part_named);
-        read_part(line, op)
-    }
-}
-
 /// `ask_rows!(put_ask, out, ask)` appends what follows a request's name.
 macro_rules! put_ask {
     ($out:ident, $ask:ident: $($($held:ident)|+: $record:ident $borrowed:ident),+; $($bare:ident)|+) => {
@@ -76,22 +53,6 @@ macro_rules! put_ask {
             AskOf::Multi(parts) => parts.put($out),
         }
     };
-}
-
-/// Reads the record of a request of the operation `op`.
-fn read_body(line: &mut Reader<'_>, op: Op) -> Result<Ask, LineFault>
-    ensures { Gives result line.new (row_at (asks.line_of op) line.old) }
-{
-    macro_rules! row {
-        ($op:ident: $($($held:ident)|+: $record:ident $borrowed:ident),+; $($bare:ident)|+) => {
-            Ok(match $op {
-                $($(Op::$held => Ask::$held(Item::read(line)?),)+)+
-                $(Op::$bare => Ask::$bare,)+
-                Op::Multi => Ask::Multi(Items::read(line)?),
-            })
-        };
-    }
-    ask_rows!(row, op)
 }
 
 /// Appends what follows a request's name.
@@ -131,24 +92,6 @@ impl<'a> Put for AskRef<'a> {
     }
 }
 
-impl Item for Ask {
-    fn read(line: &mut Reader<'_>) -> Result<Self, LineFault> {
-        let op = key!(line, op_named);
-        read_body(line, op)
-    }
-}
-
-/// Reads the connect request.
-fn read_connect<B: Item>(
-    line: &mut Reader<'_>,
-) -> Result<(ConnectRequestOf<B>, Option<bool>), LineFault>
-    ensures { Gives result line.new ((asks.connect_of B.form).at line.old) }
-{
-    let hello = fields_of!(ConnectRequest, read_fields, line, ConnectRequestOf);
-    let read_only = read_field(line, Word::ReadOnly)?;
-    Ok((hello, read_only))
-}
-
 /// Appends the connect request's fields in order.
 fn put_connect<B: Put>(
     out: &mut Vec<u8>,
@@ -172,21 +115,6 @@ fn put_request<A: Put>(out: &mut Vec<u8>, xid: i32, ask: &A) -> Result<(), Alloc
     out.extend_from_slice(b"C ")?;
     put_int(out, xid)?;
     put_field(out, Word::Blank, ask)
-}
-
-/// Reads the client's message, after `C `.
-pub fn read_client(line: &mut Reader<'_>) -> Result<ClientFrame, LineFault>
-    ensures { Gives result line.new (lines.client_at line.old) }
-{
-    if line.letters() == b"connect".as_slice() {
-        line.literal(b"connect")?;
-        let (hello, read_only) = read_connect(line)?;
-        Ok(ClientFrame::Connect { hello, read_only })
-    } else {
-        let xid = line.int()?;
-        let ask = read_field(line, Word::Blank)?;
-        Ok(ClientFrame::Ask { xid, ask })
-    }
 }
 
 /// `client!(out, frame)` appends a client's line.

@@ -1,13 +1,12 @@
 //! The bodies of replies in a line: written and read, by operation.
-ghost use Rattle.std.specs.Prelude.{◌≡◌, ◌++◌, OnOk, OnSome};
+ghost use Rattle.std.specs.Prelude.{◌≡◌, ◌++◌, IfErr, OnOk};
 ghost use Rattle.zk_answers.specs.Rows.{body_items};
-ghost use Rattle.zk_items.specs.{Copied.Copied, Form.Gives, Form.Keeps};
+ghost use Rattle.zk_items.specs.{Copied.Copied, Form.Fails, Form.Gives, Form.Keeps};
 ghost use Rattle.zk_lines.specs.Copied.{with_stat};
 ghost use Rattle.zk_lines.specs.Answers as answers;
 ghost use Rattle.zk_lines.specs.Rows.{only_written, row_at};
 
-use crate::copies::{Copies, copy_field, copy_multi};
-use crate::item::{Item, read_field};
+use crate::copy_item::{Copies, copy_field, copy_multi};
 use crate::put::{Put, put_field};
 use crate::word::{Word, field_word};
 use std::alloc::AllocError;
@@ -15,15 +14,6 @@ use zk_answers::{Body, BodyOf, BodyRef, PartDone, body_rows};
 use zk_items::{LineFault, Reader};
 use zk_jute::Items;
 use zk_records::{Op, Stat, owned};
-
-/// Reads the field after `word`, and the `Stat` after it.
-fn read_with_stat<T: Item>(line: &mut Reader<'_>, word: Word) -> Result<(T, Stat), LineFault>
-    ensures { Gives result line.new ((answers.with_stat word T.form).at line.old) }
-{
-    let value = read_field(line, word)?;
-    let stat = read_field(line, Word::Stat)?;
-    Ok((value, stat))
-}
 
 /// `body_rows!(put_body, out, body)` appends the body.
 macro_rules! put_body {
@@ -40,40 +30,25 @@ macro_rules! put_body {
     };
 }
 
-/// Reads the body of a reply to `op`.
-pub fn read_body(line: &mut Reader<'_>, op: Op) -> Result<Body, LineFault>
-    ensures { Gives result line.new (row_at (answers.line_of op) line.old) }
-{
-    macro_rules! row {
-        ($op:ident: $($($one:ident)|+: $only:ident $name:ident $kind:ident),+;
-         $($both:ident: $first:ident $first_name:ident $first_kind:ident $borrowed:ident),+; $($bare:ident)|+) => {
-            Ok(match $op {
-                $($(Op::$one => Body::$one { $only: read_field(line, field_word!($only))? },)+)+
-                $(Op::$both => {
-                    let ($first, stat) = read_with_stat(line, field_word!($first))?;
-                    Body::$both { $first, stat }
-                })+
-                $(Op::$bare => Body::$bare,)+
-                Op::Multi => Body::Multi(Items::read(line)?),
-            })
-        };
-    }
-    body_rows!(row, op)
-}
-
 /// Reads the field after `word`, and the `Stat` after it, and appends their bytes.
-fn copy_with_stat<T: Copies>(line: &mut Reader<'_>, word: Word, out: &mut Vec<u8>) -> Option<()>
-    ensures copied { OnSome result (Copied (answers.with_stat word T.form).at (with_stat T.items) line.old line.new out.old.items out.new.items) }
+fn copy_with_stat<T: Copies>(
+    line: &mut Reader<'_>,
+    word: Word,
+    out: &mut Vec<u8>,
+) -> Result<(), LineFault>
+    ensures copied { OnOk result (Copied (answers.with_stat word T.form).at (with_stat T.items) line.old line.new out.old.items out.new.items) }
+    ensures refused { IfErr result (λ e. Fails e ((answers.with_stat word T.form).at line.old)) }
     ensures keeps { Keeps out.old.items out.new.items }
 {
     copy_field::<T>(line, word, out)?;
     copy_field::<Stat>(line, Word::Stat, out)?;
-    Some(())
+    Ok(())
 }
 
 /// Reads the body of a reply to `op`, and appends its bytes.
-pub fn copy_body(line: &mut Reader<'_>, op: Op, out: &mut Vec<u8>) -> Option<()>
-    ensures copied { OnSome result (Copied (row_at (answers.line_of op)) body_items line.old line.new out.old.items out.new.items) }
+pub fn copy_body(line: &mut Reader<'_>, op: Op, out: &mut Vec<u8>) -> Result<(), LineFault>
+    ensures copied { OnOk result (Copied (row_at (answers.line_of op)) body_items line.old line.new out.old.items out.new.items) }
+    ensures refused { IfErr result (λ e. Fails e ((row_at (answers.line_of op)) line.old)) }
     ensures keeps { Keeps out.old.items out.new.items }
 {
     macro_rules! row {
@@ -82,7 +57,7 @@ pub fn copy_body(line: &mut Reader<'_>, op: Op, out: &mut Vec<u8>) -> Option<()>
             match $op {
                 $($(Op::$one => copy_field::<owned!($kind)>(line, field_word!($only), out),)+)+
                 $(Op::$both => copy_with_stat::<owned!($first_kind)>(line, field_word!($first), out),)+
-                $(Op::$bare => Some(()),)+
+                $(Op::$bare => Ok(()),)+
                 Op::Multi => copy_multi::<PartDone>(line, out),
             }
         };

@@ -1,17 +1,17 @@
 //! A client's line, read into the bytes of its message's payload.
-ghost use Rattle.std.specs.Prelude.{◌≡◌, IfSome, OnSome};
+ghost use Rattle.std.specs.Prelude.{◌≡◌, IfErr, IfOk, OnOk};
 ghost use Rattle.zk_asks.specs.declared.frame.ClientFrameOf.TheVariants as client;
 ghost use Rattle.zk_asks.specs.{Frames.frame_items, Parts.record_of, Rows.body_items};
-ghost use Rattle.zk_items.specs.{Copied.Copied, Form.Keeps};
+ghost use Rattle.zk_items.specs.{Copied.Copied, Form.Fails, Form.Keeps};
 ghost use Rattle.zk_talk.specs.{Written.kind_of, declared.message.MessageOf.TheVariants.Client};
 ghost use Rattle.zk_lines.specs.Asks as asks;
 ghost use Rattle.zk_lines.specs.{Lines.client_at, Rows.row_at};
 
-use crate::copies::{Copies, append, append_header, copy_field, copy_fields, copy_multi};
-use crate::name::{op_named, part_named};
+use crate::copy_item::{Copies, append, append_header, copy_field, copy_fields, copy_multi};
+use crate::name::{key, op_named, part_named};
 use crate::word::{Word, field_word, read_word};
 use zk_asks::{Part, ask_rows, part_rows};
-use zk_items::Reader;
+use zk_items::{LineFault, LineReason, Reader};
 use zk_records::{
     AuthAsk, CheckAsk, CreateAsk, DeleteAsk, Op, PartOp, PathAsk, SetAclAsk, SetDataAsk,
     SetWatchesAsk, WatchAsk, fields_of, op_number, owned, part_number,
@@ -19,8 +19,9 @@ use zk_records::{
 use zk_talk::Kind;
 
 /// Reads the record of a part of the operation `op`, and appends its bytes.
-fn copy_part(line: &mut Reader<'_>, op: PartOp, out: &mut Vec<u8>) -> Option<()>
-    ensures copied { OnSome result (Copied (row_at (asks.part_line_of op)) record_of line.old line.new out.old.items out.new.items) }
+fn copy_part(line: &mut Reader<'_>, op: PartOp, out: &mut Vec<u8>) -> Result<(), LineFault>
+    ensures copied { OnOk result (Copied (row_at (asks.part_line_of op)) record_of line.old line.new out.old.items out.new.items) }
+    ensures refused { IfErr result (λ e. Fails e ((row_at (asks.part_line_of op)) line.old)) }
     ensures keeps { Keeps out.old.items out.new.items }
 {
     macro_rules! row {
@@ -34,23 +35,24 @@ fn copy_part(line: &mut Reader<'_>, op: PartOp, out: &mut Vec<u8>) -> Option<()>
 }
 
 impl Copies for Part {
-    fn copy(line: &mut Reader<'_>, out: &mut Vec<u8>) -> Option<()> {
-        let op = part_named(line.name())?;
+    fn copy(line: &mut Reader<'_>, out: &mut Vec<u8>) -> Result<(), LineFault> {
+        let op = key!(line, part_named);
         append_header(out, part_number(op), false, -1)?;
         copy_part(line, op, out)
     }
 }
 
 /// Reads the record of a request of the operation `op`, and appends its bytes.
-fn copy_body(line: &mut Reader<'_>, op: Op, out: &mut Vec<u8>) -> Option<()>
-    ensures copied { OnSome result (Copied (row_at (asks.line_of op)) body_items line.old line.new out.old.items out.new.items) }
+fn copy_body(line: &mut Reader<'_>, op: Op, out: &mut Vec<u8>) -> Result<(), LineFault>
+    ensures copied { OnOk result (Copied (row_at (asks.line_of op)) body_items line.old line.new out.old.items out.new.items) }
+    ensures refused { IfErr result (λ e. Fails e ((row_at (asks.line_of op)) line.old)) }
     ensures keeps { Keeps out.old.items out.new.items }
 {
     macro_rules! row {
         ($op:ident: $($($held:ident)|+: $record:ident $borrowed:ident),+; $($bare:ident)|+) => {
             match $op {
                 $($(Op::$held)|+ => $record::copy(line, out),)+
-                $(Op::$bare => Some(()),)+
+                $(Op::$bare => Ok(()),)+
                 Op::Multi => copy_multi::<Part>(line, out),
             }
         };
@@ -59,39 +61,42 @@ fn copy_body(line: &mut Reader<'_>, op: Op, out: &mut Vec<u8>) -> Option<()>
 }
 
 /// Reads the connect request, and appends its bytes.
-fn copy_connect(line: &mut Reader<'_>, out: &mut Vec<u8>) -> Option<()>
-    ensures copied { OnSome result (Copied asks.connect.at (λ p. frame_items (client.Connect p.0 p.1)) line.old line.new out.old.items out.new.items) }
+fn copy_connect(line: &mut Reader<'_>, out: &mut Vec<u8>) -> Result<(), LineFault>
+    ensures copied { OnOk result (Copied asks.connect.at (λ p. frame_items (client.Connect p.0 p.1)) line.old line.new out.old.items out.new.items) }
+    ensures refused { IfErr result (λ e. Fails e (asks.connect.at line.old)) }
     ensures keeps { Keeps out.old.items out.new.items }
 {
     fields_of!(ConnectRequest, copy_fields, line, out);
     copy_field::<Option<bool>>(line, Word::ReadOnly, out)?;
-    Some(())
+    Ok(())
 }
 
 /// Reads a request, and appends its bytes.
-fn copy_request(line: &mut Reader<'_>, out: &mut Vec<u8>) -> Option<()>
-    ensures copied { OnSome result (Copied asks.request.at (λ p. frame_items (client.Ask p.0 p.1)) line.old line.new out.old.items out.new.items) }
+fn copy_request(line: &mut Reader<'_>, out: &mut Vec<u8>) -> Result<(), LineFault>
+    ensures copied { OnOk result (Copied asks.request.at (λ p. frame_items (client.Ask p.0 p.1)) line.old line.new out.old.items out.new.items) }
+    ensures refused { IfErr result (λ e. Fails e (asks.request.at line.old)) }
     ensures keeps { Keeps out.old.items out.new.items }
 {
-    let xid = line.int().ok()?;
-    read_word(line, Word::Blank).ok()?;
-    let op = op_named(line.name())?;
+    let xid = line.int()?;
+    read_word(line, Word::Blank)?;
+    let op = key!(line, op_named);
     append(out, &xid)?;
     append(out, &op_number(op))?;
     copy_body(line, op, out)
 }
 
 /// Reads the client's message, after `C `, and appends its bytes.
-pub fn copy_client(line: &mut Reader<'_>, out: &mut Vec<u8>) -> Option<Kind>
-    ensures copied { IfSome result (λ kind. (c : Copied client_at frame_items line.old line.new out.old.items out.new.items) × (kind_of (Client c.value) ≡ kind)) }
+pub fn copy_client(line: &mut Reader<'_>, out: &mut Vec<u8>) -> Result<Kind, LineFault>
+    ensures copied { IfOk result (λ kind. (c : Copied client_at frame_items line.old line.new out.old.items out.new.items) × (kind_of (Client c.value) ≡ kind)) }
+    ensures refused { IfErr result (λ e. Fails e (client_at line.old)) }
     ensures keeps { Keeps out.old.items out.new.items }
 {
     if line.letters() == b"connect".as_slice() {
-        line.literal(b"connect").ok()?;
+        line.literal(b"connect")?;
         copy_connect(line, out)?;
-        Some(Kind::Connect)
+        Ok(Kind::Connect)
     } else {
         copy_request(line, out)?;
-        Some(Kind::Ask)
+        Ok(Kind::Ask)
     }
 }

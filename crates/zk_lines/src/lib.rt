@@ -14,7 +14,10 @@
 //!
 //! ```text
 //! let message = read_line(rt.alloc(), b"C 1 sync path=\"/a\"")?;
-//! let line = line_of(rt.alloc(), &message)?; // C 1 sync path="/a"
+//! let line = line_of(rt.alloc(), &message);
+//! drop(message);
+//! let line = line?;
+//! assert!(rt; line.as_slice() == b"C 1 sync path=\"/a\"".as_slice());
 //! ```
 //!
 //! # Choices
@@ -31,23 +34,22 @@
 mod answer;
 mod ask;
 mod body;
-mod copies;
-mod copy;
 mod copy_answer;
 mod copy_ask;
-mod done;
+mod copy_item;
+mod copy_lines;
 mod ending;
-mod item;
 mod laws;
 mod line;
 mod list;
+mod multi_result;
 mod name;
 mod put;
 mod record;
 mod request;
 mod word;
 
-pub use copy::copy_line;
+pub use copy_lines::copy_line;
 pub use ending::ending_line;
 pub use laws::{ending_laws, line_laws};
 pub use line::{line_of, line_of_ref, put_line, put_line_ref, read_line};

@@ -5,12 +5,11 @@ ghost use Rattle.zk_lines.specs.Lines as lines;
 ghost use Rattle.zk_lines.specs.{Lines.Fits, Lines.Reads, Lines.whole, Lines.message_at, Rows.only_written};
 ghost use Rattle.zk_talk.specs.Held.{Message};
 
-use crate::answer::read_server;
-use crate::ask::read_client;
+use crate::copy_lines::copy_line;
 use crate::put::Put;
 use std::alloc::{AllocError, Global};
-use zk_items::{LineFault, LineReason, Reader};
-use zk_talk::{Message, MessageOf, MessageRef};
+use zk_items::LineFault;
+use zk_talk::{Message, MessageOf, MessageRef, message_ref};
 
 /// The capacity that most lines fit into, so that few of them grow twice.
 const USUAL: usize = 256;
@@ -36,13 +35,15 @@ impl Put for Message {
 impl<'a> Put for MessageRef<'a> {
     ghost form = { only_written Fits lines.line };
 
-    #[inline]
+    // A call of its own would cost `show`.
+    #[inline(always)]
     fn put(&self, out: &mut Vec<u8>) -> Result<(), AllocError> {
         message!(out, self)
     }
 }
 
 /// Appends the message's line; appends nothing if memory is refused.
+#[inline(always)]
 fn put_whole<M: Put>(out: &mut Vec<u8>, message: &M) -> Result<(), AllocError>
     ensures line { OnOk result (out.new.items ≡ out.old.items ++ M.form.spell message.now) }
     ensures fits { OnOk result (M.form.fits message.now) }
@@ -86,6 +87,7 @@ pub fn put_line(out: &mut Vec<u8>, message: &Message) -> Result<(), AllocError>
 /// # Errors
 ///
 /// `AllocError` if memory is refused; then `out` is unchanged.
+#[inline(always)]
 pub fn put_line_ref(out: &mut Vec<u8>, message: &MessageRef<'_>) -> Result<(), AllocError>
     ensures line { OnOk result (out.new.items ≡ out.old.items ++ lines.line message.now) }
     // Two messages that fit have two lines.
@@ -122,43 +124,18 @@ pub fn line_of_ref(alloc: Global, message: &MessageRef<'_>) -> Result<Vec<u8>, A
     spelled(alloc, message)
 }
 
-/// `frame`, where nothing is left of the line; else the fault there.
-fn alone<F: Drop>(line: &Reader<'_>, frame: F) -> Result<F, LineFault>
-    ensures { Answers result (whole (Some (frame, line.now))) }
-{
-    if line.is_done() {
-        Ok(frame)
-    } else {
-        Err(line.fault(LineReason::Rest))
-    }
-}
-
-/// Reads the message, whose side comes first.
-fn read_message(line: &mut Reader<'_>) -> Result<Message, LineFault>
-    ensures { Answers result (message_at line.old) }
-{
-    if line.passes(b"C ") {
-        let frame = read_client(line)?;
-        Ok(Message::Client(alone(line, frame)?))
-    } else {
-        line.literal(b"S ")?;
-        let frame = read_server(line)?;
-        Ok(Message::Server(alone(line, frame)?))
-    }
-}
-
 /// The message whose line `bytes` are, without line feed.
 ///
 /// # Errors
 ///
 /// The item of the line that can't be read: its column, and the reason; `NoMemory`.
-#[tactic(auto, using(crate::proofs::Lines::message_found, crate::proofs::Lines::message_only))]
 pub fn read_line(alloc: Global, bytes: &[u8]) -> Result<Message, LineFault>
     // What is read has this line.
     ensures found { IfOk result (λ m. (bytes.now ≡ lines.line m) × Fits m) }
     // A message that has this line is read, unless memory is refused.
     ensures only { (m : Message) → Fits m → bytes.now ≡ lines.line m → Reads m result }
 {
-    let mut line = Reader::new(alloc, bytes);
-    read_message(&mut line)
+    let mut payload = Vec::new(alloc);
+    let kind = copy_line(bytes, &mut payload)?;
+    Ok(message_ref(kind, &payload).to_message(alloc)?)
 }

@@ -1,13 +1,13 @@
 //! Lists of items in a line: written, owned or borrowed, and read.
-ghost use Rattle.std.specs.Prelude.{◌≡◌, ◌+◌, ◌++◌, ◌∷◌, [], List, length, IfSome, OnOk, OnSome};
+ghost use Rattle.std.specs.Prelude.{◌≡◌, ◌+◌, ◌++◌, ◌<◌, ◌≤◌, ◌^◌, ◌∷◌, [], List, length, take, drop, pos, IfErr, IfOk, OnErr, OnOk};
+ghost use Rattle.zk_jute.specs.Item.{int_bytes};
 ghost use Rattle.std.specs.List.{flat_map, AllByRecursion};
 ghost use Rattle.zk_jute.specs.Values.{list_items};
-ghost use Rattle.zk_items.specs.{Copied.Copied, Form.Gives, Form.GivesSeen, Form.Keeps, Many.many_at, Many.with_first};
+ghost use Rattle.zk_items.specs.{Copied.Copied, Form.Fails, Form.Gives, Form.GivesSeen, Form.Keeps, Many.many_at, Many.with_first};
 ghost use Rattle.zk_lines.specs.Copied.{CopiedOthers, CopiedSeries};
 ghost use Rattle.zk_lines.specs.Series.{element_at, series_at, full_at, list_of, multi_of, series_spell};
 
-use crate::copies::{Copies, append};
-use crate::item::Item;
+use crate::copy_item::{Copies, append};
 use crate::put::Put;
 use crate::word::{Word, put_word, read_word};
 use std::alloc::{AllocError, Global};
@@ -35,89 +35,56 @@ pub const PARTS: Signs = Signs {
     behind: b'}',
 };
 
-#[tactic(auto, unfolding(crate::specs::Series::element_at))]
-fn element<T: Item>(line: &mut Reader<'_>, signs: Signs) -> Result<Option<T>, LineFault>
-    ensures { Gives result line.new (element_at signs.between signs.behind T.form.at line.old) }
-{
-    if line.passes(&[signs.behind]) {
-        return Ok(None);
-    }
-    line.literal(&[signs.between])?;
-    Ok(Some(T::read(line)?))
-}
-
-/// Reads the items after the first.
-fn elements<T: Item>(line: &mut Reader<'_>, signs: Signs, first: T) -> Result<Vec<T>, LineFault>
-    ensures { GivesSeen (λ v. v.items) result line.new (with_first first (many_at (element_at signs.between signs.behind T.form.at) (length line.old) line.old)) }
-{
-    let turns = line.left();
-    let mut items = Vec::new(line.alloc());
-    items.push(first)?;
-    for turn in 0..turns {
-        match element(line, signs) {
-            Ok(None) => return Ok(items),
-            Ok(Some(item)) => items.push(item)?,
-            Err(e) => return Err(e),
-        }
-    }
-    Err(line.fault(LineReason::Word))
-}
-
-/// Reads items, with a sign between two and one after the last.
-#[tactic(auto, unfolding(crate::specs::Series::series_at))]
-pub fn read_series<T: Item>(line: &mut Reader<'_>, signs: Signs) -> Result<Items<T>, LineFault>
-    ensures { Gives result line.new (series_at signs.between signs.behind T.form.at line.old) }
-{
-    if line.passes(&[signs.behind]) {
-        return Ok(Items::new(Vec::new(line.alloc())));
-    }
-    let first = T::read(line)?;
-    Ok(Items::new(elements(line, signs, first)?))
-}
-
 /// Reads the items after the first, and appends their bytes; returns how many there are, with the first.
-fn copy_others<T: Copies>(line: &mut Reader<'_>, signs: Signs, out: &mut Vec<u8>) -> Option<usize>
-    ensures copied { IfSome result (λ n. CopiedOthers signs.between signs.behind T.form.at T.items n line.old line.new out.old.items out.new.items) }
+fn copy_others<T: Copies>(
+    line: &mut Reader<'_>,
+    signs: Signs,
+    out: &mut Vec<u8>,
+) -> Result<usize, LineFault>
+    ensures copied { IfOk result (λ n. CopiedOthers signs.between signs.behind T.form.at T.items n line.old line.new out.old.items out.new.items) }
+    ensures refused { IfErr result (λ e. Fails e (many_at (element_at signs.between signs.behind T.form.at) (length line.old) line.old)) }
     ensures keeps { Keeps out.old.items out.new.items }
 {
     let turns = line.left();
     for turn in 0..turns {
         if line.passes(&[signs.behind]) {
-            return Some(turn + 1);
+            return Ok(turn + 1);
         }
-        line.literal(&[signs.between]).ok()?;
+        line.literal(&[signs.between])?;
         T::copy(line, out)?;
     }
-    None
+    Err(line.fault(LineReason::Word))
 }
 
 /// Reads items, with a sign between two and one after the last, and appends their bytes; returns how many there are.
-/// `None`: undecided; what `out` began with it begins with.
-// Stands for `read_series`.
+/// Whatever `out` began with, it begins with.
 pub fn copy_series<T: Copies>(
     line: &mut Reader<'_>,
     signs: Signs,
     out: &mut Vec<u8>,
-) -> Option<usize>
-    ensures copied { IfSome result (λ n. CopiedSeries signs.between signs.behind T.form.at T.items n line.old line.new out.old.items out.new.items) }
+) -> Result<usize, LineFault>
+    ensures copied { IfOk result (λ n. CopiedSeries signs.between signs.behind T.form.at T.items n line.old line.new out.old.items out.new.items) }
+    ensures refused { IfErr result (λ e. Fails e (series_at signs.between signs.behind T.form.at line.old)) }
     ensures keeps { Keeps out.old.items out.new.items }
 {
     if line.passes(&[signs.behind]) {
-        return Some(0);
+        return Ok(0);
     }
     T::copy(line, out)?;
     copy_others::<T>(line, signs, out)
 }
 
 /// Reads items between brackets, after the first of these, and appends their count and their bytes.
-fn copy_counted<T: Copies>(line: &mut Reader<'_>, out: &mut Vec<u8>) -> Option<()>
-    ensures copied { OnSome result (Copied (full_at T.form.at) (list_items T.items) line.old line.new out.old.items out.new.items) }
+fn copy_counted<T: Copies>(line: &mut Reader<'_>, out: &mut Vec<u8>) -> Result<(), LineFault>
+    ensures copied { OnOk result (Copied (full_at T.form.at) (list_items T.items) line.old line.new out.old.items out.new.items) }
+    ensures refused { IfErr result (λ e. Fails e ((full_at T.form.at) line.old)) }
     ensures keeps { Keeps out.old.items out.new.items }
 {
     let start = out.len();
     append(out, &0_i32)?;
     let count = copy_series::<T>(line, COMMAS, out)?;
-    set_count(out, start, count)
+    set_count(out, start, count)?;
+    Ok(())
 }
 
 impl<'a, T: Put> Put for Lent<'a, T> {
@@ -188,23 +155,13 @@ impl<T: Put> Put for List<T> {
     }
 }
 
-impl<T: Item> Item for List<T> {
-    #[tactic(auto, unfolding(crate::specs::Series::list_at))]
-    fn read(line: &mut Reader<'_>) -> Result<Self, LineFault> {
+impl<T: Copies> Copies for List<T> {
+    fn copy(line: &mut Reader<'_>, out: &mut Vec<u8>) -> Result<(), LineFault> {
         if line.passes(b"~") {
-            return Ok(List::Null);
+            append(out, &-1_i32)?;
+            return Ok(());
         }
         line.literal(b"[")?;
-        Ok(List::Full(read_series(line, COMMAS)?))
-    }
-}
-
-impl<T: Copies> Copies for List<T> {
-    fn copy(line: &mut Reader<'_>, out: &mut Vec<u8>) -> Option<()> {
-        if line.passes(b"~") {
-            return append(out, &-1_i32);
-        }
-        line.literal(b"[").ok()?;
         copy_counted::<T>(line, out)
     }
 }
@@ -232,13 +189,6 @@ impl<T: Put> Put for Items<T> {
     fn put(&self, out: &mut Vec<u8>) -> Result<(), AllocError> {
         put_word(out, Word::Parts)?;
         put_series(out, self.as_slice().iter(), PARTS)
-    }
-}
-
-impl<T: Item> Item for Items<T> {
-    fn read(line: &mut Reader<'_>) -> Result<Self, LineFault> {
-        read_word(line, Word::Parts)?;
-        read_series(line, PARTS)
     }
 }
 

@@ -3,7 +3,7 @@ ghost use Rattle.std.specs.Prelude.{◌≡◌, bytes_eq};
 ghost use Rattle.zk_lines.specs.Asks as asks;
 ghost use Rattle.zk_lines.specs.Answers as answers;
 
-use crate::done::{DoneName, done_name};
+use crate::multi_result::{DoneName, done_name};
 use zk_records::{Op, PartOp, op_rows, part_codes};
 
 /// Whether `name`, of a line, is `row_name`, the name in a row of the operations or parts.

@@ -3,8 +3,7 @@ ghost use Rattle.std.specs.Prelude.{◌≡◌, ◌++◌, ◌∷◌, ◌+◌, ◌
 ghost use Rattle.zk_items.specs.{Form.Form, Form.Gives, Form.Keeps, Leaf.int};
 ghost use Rattle.zk_lines.specs.Records as records;
 
-use crate::copies::{Copies, copy_field};
-use crate::item::{Item, read_field};
+use crate::copy_item::{Copies, copy_field};
 use crate::put::{Put, put_field};
 use crate::word::{Word, read_word};
 use std::alloc::AllocError;
@@ -34,24 +33,12 @@ impl<T: Put> Put for AclOf<IdOf<T>> {
     }
 }
 
-impl<T: Item> Item for AclOf<IdOf<T>> {
-    fn read(line: &mut Reader<'_>) -> Result<Self, LineFault> {
-        let perms = line.int()?;
-        let scheme = read_field(line, Word::Colon)?;
-        let ident = read_field(line, Word::Colon)?;
-        Ok(AclOf {
-            perms,
-            who: IdOf { scheme, ident },
-        })
-    }
-}
-
 impl Copies for Acl {
-    fn copy(line: &mut Reader<'_>, out: &mut Vec<u8>) -> Option<()> {
+    fn copy(line: &mut Reader<'_>, out: &mut Vec<u8>) -> Result<(), LineFault> {
         i32::copy(line, out)?;
         copy_field::<Text>(line, Word::Colon, out)?;
         copy_field::<Text>(line, Word::Colon, out)?;
-        Some(())
+        Ok(())
     }
 }
 
@@ -157,13 +144,14 @@ macro_rules! read_row {
     }};
 }
 
-impl Item for Stat {
-    fn read(line: &mut Reader<'_>) -> Result<Self, LineFault> {
-        read_word(line, Word::Open)?;
-        let stat = fields_of!(Stat, read_row, line, Stat);
-        read_word(line, Word::Close)?;
-        Ok(stat)
-    }
+/// Reads a `Stat`.
+pub fn read_stat(line: &mut Reader<'_>) -> Result<Stat, LineFault>
+    ensures { Gives result line.new (records.stat.at line.old) }
+{
+    read_word(line, Word::Open)?;
+    let stat = fields_of!(Stat, read_row, line, Stat);
+    read_word(line, Word::Close)?;
+    Ok(stat)
 }
 
 impl Put for Stat {

@@ -1,8 +1,7 @@
 //! The records of requests in a line, by their fields: written, read, and read into bytes.
 ghost use Rattle.zk_lines.specs.Asks as asks;
 
-use crate::copies::{Copies, copy_field, copy_fields};
-use crate::item::{Item, read_field, read_fields};
+use crate::copy_item::{Copies, copy_field, copy_fields};
 use crate::put::{Put, put_field, put_fields};
 use crate::word::{Word, field_word};
 use std::alloc::AllocError;
@@ -21,16 +20,10 @@ impl<T: Put, B: Put, A: Put> Put for CreateAskOf<T, B, A> {
     }
 }
 
-impl<T: Item, B: Item, A: Item> Item for CreateAskOf<T, B, A> {
-    fn read(line: &mut Reader<'_>) -> Result<Self, LineFault> {
-        Ok(fields_of!(CreateAsk, read_fields, line, CreateAskOf))
-    }
-}
-
 impl Copies for CreateAsk {
-    fn copy(line: &mut Reader<'_>, out: &mut Vec<u8>) -> Option<()> {
+    fn copy(line: &mut Reader<'_>, out: &mut Vec<u8>) -> Result<(), LineFault> {
         fields_of!(CreateAsk, copy_fields, line, out);
-        Some(())
+        Ok(())
     }
 }
 
@@ -42,16 +35,10 @@ impl<T: Put> Put for DeleteAskOf<T> {
     }
 }
 
-impl<T: Item> Item for DeleteAskOf<T> {
-    fn read(line: &mut Reader<'_>) -> Result<Self, LineFault> {
-        Ok(fields_of!(DeleteAsk, read_fields, line, DeleteAskOf))
-    }
-}
-
 impl Copies for DeleteAsk {
-    fn copy(line: &mut Reader<'_>, out: &mut Vec<u8>) -> Option<()> {
+    fn copy(line: &mut Reader<'_>, out: &mut Vec<u8>) -> Result<(), LineFault> {
         fields_of!(DeleteAsk, copy_fields, line, out);
-        Some(())
+        Ok(())
     }
 }
 
@@ -63,16 +50,10 @@ impl<T: Put> Put for WatchAskOf<T> {
     }
 }
 
-impl<T: Item> Item for WatchAskOf<T> {
-    fn read(line: &mut Reader<'_>) -> Result<Self, LineFault> {
-        Ok(fields_of!(WatchAsk, read_fields, line, WatchAskOf))
-    }
-}
-
 impl Copies for WatchAsk {
-    fn copy(line: &mut Reader<'_>, out: &mut Vec<u8>) -> Option<()> {
+    fn copy(line: &mut Reader<'_>, out: &mut Vec<u8>) -> Result<(), LineFault> {
         fields_of!(WatchAsk, copy_fields, line, out);
-        Some(())
+        Ok(())
     }
 }
 
@@ -84,16 +65,10 @@ impl<T: Put, B: Put> Put for SetDataAskOf<T, B> {
     }
 }
 
-impl<T: Item, B: Item> Item for SetDataAskOf<T, B> {
-    fn read(line: &mut Reader<'_>) -> Result<Self, LineFault> {
-        Ok(fields_of!(SetDataAsk, read_fields, line, SetDataAskOf))
-    }
-}
-
 impl Copies for SetDataAsk {
-    fn copy(line: &mut Reader<'_>, out: &mut Vec<u8>) -> Option<()> {
+    fn copy(line: &mut Reader<'_>, out: &mut Vec<u8>) -> Result<(), LineFault> {
         fields_of!(SetDataAsk, copy_fields, line, out);
-        Some(())
+        Ok(())
     }
 }
 
@@ -105,16 +80,10 @@ impl<T: Put> Put for PathAskOf<T> {
     }
 }
 
-impl<T: Item> Item for PathAskOf<T> {
-    fn read(line: &mut Reader<'_>) -> Result<Self, LineFault> {
-        Ok(fields_of!(PathAsk, read_fields, line, PathAskOf))
-    }
-}
-
 impl Copies for PathAsk {
-    fn copy(line: &mut Reader<'_>, out: &mut Vec<u8>) -> Option<()> {
+    fn copy(line: &mut Reader<'_>, out: &mut Vec<u8>) -> Result<(), LineFault> {
         fields_of!(PathAsk, copy_fields, line, out);
-        Some(())
+        Ok(())
     }
 }
 
@@ -126,16 +95,10 @@ impl<T: Put, A: Put> Put for SetAclAskOf<T, A> {
     }
 }
 
-impl<T: Item, A: Item> Item for SetAclAskOf<T, A> {
-    fn read(line: &mut Reader<'_>) -> Result<Self, LineFault> {
-        Ok(fields_of!(SetAclAsk, read_fields, line, SetAclAskOf))
-    }
-}
-
 impl Copies for SetAclAsk {
-    fn copy(line: &mut Reader<'_>, out: &mut Vec<u8>) -> Option<()> {
+    fn copy(line: &mut Reader<'_>, out: &mut Vec<u8>) -> Result<(), LineFault> {
         fields_of!(SetAclAsk, copy_fields, line, out);
-        Some(())
+        Ok(())
     }
 }
 
@@ -147,16 +110,10 @@ impl<T: Put, B: Put> Put for AuthAskOf<T, B> {
     }
 }
 
-impl<T: Item, B: Item> Item for AuthAskOf<T, B> {
-    fn read(line: &mut Reader<'_>) -> Result<Self, LineFault> {
-        Ok(fields_of!(AuthAsk, read_fields, line, AuthAskOf))
-    }
-}
-
 impl Copies for AuthAsk {
-    fn copy(line: &mut Reader<'_>, out: &mut Vec<u8>) -> Option<()> {
+    fn copy(line: &mut Reader<'_>, out: &mut Vec<u8>) -> Result<(), LineFault> {
         fields_of!(AuthAsk, copy_fields, line, out);
-        Some(())
+        Ok(())
     }
 }
 
@@ -168,16 +125,10 @@ impl<L: Put> Put for SetWatchesAskOf<L> {
     }
 }
 
-impl<L: Item> Item for SetWatchesAskOf<L> {
-    fn read(line: &mut Reader<'_>) -> Result<Self, LineFault> {
-        Ok(fields_of!(SetWatchesAsk, read_fields, line, SetWatchesAskOf))
-    }
-}
-
 impl Copies for SetWatchesAsk {
-    fn copy(line: &mut Reader<'_>, out: &mut Vec<u8>) -> Option<()> {
+    fn copy(line: &mut Reader<'_>, out: &mut Vec<u8>) -> Result<(), LineFault> {
         fields_of!(SetWatchesAsk, copy_fields, line, out);
-        Some(())
+        Ok(())
     }
 }
 
@@ -189,15 +140,9 @@ impl<T: Put> Put for CheckAskOf<T> {
     }
 }
 
-impl<T: Item> Item for CheckAskOf<T> {
-    fn read(line: &mut Reader<'_>) -> Result<Self, LineFault> {
-        Ok(fields_of!(CheckAsk, read_fields, line, CheckAskOf))
-    }
-}
-
 impl Copies for CheckAsk {
-    fn copy(line: &mut Reader<'_>, out: &mut Vec<u8>) -> Option<()> {
+    fn copy(line: &mut Reader<'_>, out: &mut Vec<u8>) -> Result<(), LineFault> {
         fields_of!(CheckAsk, copy_fields, line, out);
-        Some(())
+        Ok(())
     }
 }

@@ -4,8 +4,8 @@ use Rattle.std.specs.Io.KnownBytes.{Consumes}
 use Rattle.zk_frames.specs.Framing.{IsBeginning}
 use Rattle.zk_talk.specs.{declared.limits.Limits.Limits, declared.message.Fault.Fault, Fault.side_limit, Held.Message, History.History, History.on, Stands.TalkState, Stands.held_on}
 use Rattle.zk_recordings.specs.{Recording.Recording, Recording.history_of, Recording.limits_of, Recording.place_of, Reading.IsAt, Reading.IsInContent}
-use Rattle.zk_listings.specs.{declared.gather.NextRead.NextRead, declared.listing.Listing.Listing, declared.progress.Progress.Progress, declared.summary.Summary.Summary, Lines.text_of, Outcome.IsBroken}
-use Rattle.zk_listings.specs.declared.gather.NextRead.TheVariants.{Block, Content}
+use Rattle.zk_listings.specs.{declared.read_long_frames.NextRead.NextRead, declared.listing.Listing.Listing, declared.progress.Progress.Progress, declared.summary.Summary.Summary, Lines.text_of, Outcome.IsBroken}
+use Rattle.zk_listings.specs.declared.read_long_frames.NextRead.TheVariants.{Block, Content}
 use Rattle.zk_listings.specs.declared.listing.Listing.TheVariants.{All, Last}
 use Rattle.zk_listings.specs.{Following.Decides, Following.Has, Following.HasRefused, Following.IsHeadedBy, Gathered.SideBytes}
 

@@ -6,10 +6,10 @@ ghost use Rattle.zk_listings.specs.{declared.listing.RunFault.TheVariants.Write,
 ghost use Rattle.zk_listings.specs.declared.listing.Listing.TheVariants.{All, Last};
 ghost use Rattle.zk_listings.specs.Running.{AreReady, LeavesDevices, OnRead, HasFoundWith, HasBegunLines, HasListed, HasReached, HasStopped};
 
-use crate::gather::NextRead;
-use crate::gathered::Gathered;
 use crate::listing::{Listing, RunFault};
+use crate::long_frame::Gathered;
 use crate::progress::Progress;
+use crate::read_long_frames::NextRead;
 use crate::streams::{Sink, Source, write_whole};
 use crate::summary::{Status, Summary};
 use std::alloc::Global;

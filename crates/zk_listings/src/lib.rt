@@ -12,9 +12,9 @@
 //! `thiserror`.
 //!
 //! ```text
-//! let mut reader = FromRead::new(input);
-//! let mut writer = FromWrite::new(output);
-//! let status = check_run(alloc, limits, &mut reader, &mut writer)?; // Status::Good, or Status::Bad
+//! let mut reader = FromRead::new(b"ZKR1".as_slice());
+//! let status = check_run(rt.alloc(), limits, &mut reader, &mut writer)?; // writer is any Sink
+//! assert!(rt; status == Status::Good); // and ". whole unanswered=0" is written
 //! ```
 //!
 //! # Choices
@@ -37,10 +37,10 @@
 
 mod earliest_run;
 mod engines;
-mod gather;
-mod gathered;
 mod listing;
+mod long_frame;
 mod progress;
+mod read_long_frames;
 mod recordings;
 mod streams;
 mod summary;

@@ -53,6 +53,7 @@ pub enum Listing {
 }
 
 /// Appends the line of `message`, with its line feed, if there is one.
+#[inline(always)]
 pub fn tell(message: Option<MessageRef<'_>>, lines: &mut Vec<u8>) -> Result<(), AllocError>
     ensures { OnOk result (lines.new.items ≡ lines.old.items ++ text_of All (option_to_list message.entry)) }
 {

@@ -10,8 +10,8 @@ ghost use Rattle.zk_listings.specs.Following as following;
 ghost use Rattle.zk_listings.specs.Following.{Follows, Finishes, HasRefused, IsLastingSummary, Takes, TakesTo, TakesContent, Has, Steps};
 ghost use Rattle.zk_listings.specs.Gathering.{AdvancesBut, StepsBut};
 
-use crate::gathered::Gathered;
 use crate::listing::{Listing, tell};
+use crate::long_frame::Gathered;
 use crate::summary::Summary;
 use std::alloc::{AllocError, Global};
 use zk_answers::Layout;

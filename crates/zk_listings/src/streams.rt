@@ -22,6 +22,10 @@ pub trait Source {
     ghost has_failed: { Self → Bool };
 
     /// Reads into `buf`, which isn't empty, and returns the number of bytes that came; 0 only at the end.
+    ///
+    /// # Errors
+    ///
+    /// `Failed` if the device reports an error, which `failed` remembers.
     fn read(&mut self, buf: &mut [u8]) -> Result<usize, Failed>
         requires { 0 < length buf.old }
         ensures bound { IfOk result (λ n. n ≤ length buf.new) }
@@ -163,6 +167,10 @@ impl<W: Write> Sink for FromWrite<W> {
 }
 
 /// Writes all of the bytes, in as many calls as it takes.
+///
+/// # Errors
+///
+/// `Failed` at the first call that fails, or takes none.
 pub fn write_whole<W: Sink>(writer: &mut W, bytes: &[u8]) -> Result<(), Failed>
     requires { W.has_failed writer.old ≡ false }
     ensures ok { OnOk result (Appends (W.contents writer.old) (W.contents writer.new) bytes.now) }

@@ -25,7 +25,7 @@ pub enum Status {
     Bad,
 }
 
-/// The name of a damage, as lines have it.
+/// The name of a damage, as the last line of a listing has it (docs/REASONS.md).
 pub fn damage_name(reason: Damage) -> &'static str
     ensures { result.now ≡ damage_word reason }
 {

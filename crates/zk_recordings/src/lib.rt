@@ -15,8 +15,9 @@
 //!
 //! ```text
 //! let mut reader = RecordingReader::new();
-//! let run = reader.next(block);
-//! // block[..run.used] is content of run.side, or of neither if that is None.
+//! let run = reader.next(b"Z"); // the first run.used bytes are taken: content of run.side, or of neither
+//! assert!(rt; run.used == 1 && run.side.is_none());
+//! assert!(rt; reader.damage().is_none() && reader.finish().is_some()); // no recording ends here
 //! ```
 //!
 //! # Choices

@@ -6,7 +6,7 @@ use crate::fields::{of, pairs};
 use crate::fields_of;
 use zk_jute::{Blob, BlobRef, Ends, Output, Record, Spell, Written};
 
-/// What a client asks a session with: `ConnectRequest`.
+/// What a client asks a session with: `ConnectRequest` (`ClientCnxn.SendThread.primeConnection`).
 #[derive(Debug, Drop)]
 pub struct ConnectRequestOf<B> {
     /// 0 in every release.
@@ -51,7 +51,7 @@ impl Written for ConnectRequest {
     ghost same = { refl };
 }
 
-/// What a server grants a session with: `ConnectResponse`.
+/// What a server grants a session with: `ConnectResponse` (`ZooKeeperServer.finishSessionInit`).
 #[derive(Debug, Drop)]
 pub struct ConnectResponseOf<B> {
     /// 0 in every release.

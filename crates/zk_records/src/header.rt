@@ -46,7 +46,7 @@ impl Written for RequestHeader {
 pub struct ReplyHeader {
     /// The xid of the request; -1 for an event.
     pub xid: i32,
-    /// The newest transaction that the server has seen.
+    /// The zxid of the last transaction that the server had processed.
     pub zxid: i64,
     /// The error, 0 for none: a number of `KeeperException.Code`.
     pub err: i32,

@@ -14,9 +14,9 @@
 //! The crate rests on `zk_jute`.
 //!
 //! ```text
-//! op_of(Profile::V34, 15) // None: create2 is of 3.5
-//! op_of(Profile::V35, 15) // Some(Op::Create2)
-//! code_name(-101)         // Some("NONODE")
+//! assert!(rt; op_of(Profile::V34, 15) == None); // create2 is of 3.5
+//! assert!(rt; op_of(Profile::V35, 15) == Some(Op::Create2));
+//! assert!(rt; code_name(-101) == Some("NONODE"));
 //! ```
 //!
 //! # Choices

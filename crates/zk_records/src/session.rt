@@ -6,7 +6,7 @@ use crate::fields::{of, pairs};
 use crate::fields_of;
 use zk_jute::{Blob, BlobRef, Ends, List, Output, Record, Spell, Text, TextList, TextRef, Written};
 
-/// Authenticates the client: `AuthPacket`.
+/// Authenticates the client: `AuthPacket` (`ClientCnxn.addAuthInfo`).
 #[derive(Debug, Drop)]
 pub struct AuthAskOf<T, B> {
     /// `type` in jute: 0 in every release.
@@ -47,7 +47,8 @@ impl Written for AuthAsk {
     ghost same = { refl };
 }
 
-/// Sets watches again, after a reconnect: `SetWatches`.
+/// Sets watches again, after a reconnect: `SetWatches` (`ClientCnxn.SendThread.primeConnection`,
+/// `DataTree.setWatches`).
 #[derive(Debug, Drop)]
 pub struct SetWatchesAskOf<L> {
     /// The newest transaction that the client has seen; `relativeZxid` in jute.

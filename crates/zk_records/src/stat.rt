@@ -7,7 +7,7 @@ use crate::fields_of;
 use std::alloc::{AllocError, Global};
 use zk_jute::{Ends, Output, Spell, Verdict, View, Wire};
 
-/// What is known of a node: `Stat`, 68 bytes.
+/// What is known of a node: `Stat`, 68 bytes, as `DataNode.copyStat` fills it. A transaction is its zxid.
 #[derive(Clone, Copy, Debug)]
 pub struct Stat {
     /// The transaction that made the node.

@@ -10,7 +10,7 @@ use Rattle.zk_talk.specs.{declared.message.Side.Side, Payloads.client_payload, P
 use Rattle.zk_talk.specs.declared.message.MessageOf.TheVariants.{Client, Server}
 use Rattle.zk_frames.specs.Framing.{frame}
 use Rattle.zk_frames.proofs.Cuts.{AllByRecursion-push, length-frame}
-use Rattle.zk_runs.specs.declared.built.Built.TheVariants.{Whole, LineRefused, SayRefused}
+use Rattle.zk_runs.specs.declared.build_result.Built.TheVariants.{Whole, LineRefused, SayRefused}
 use Rattle.zk_runs.specs.Building.{head, built_bytes, IsDotted, AreAccepted, AreEnded, IsNextLine, IsBuilt, without_ending, with_ending, behind_ending, other_ending, no_message, not_said, ending_fault, due_ending, piece_of, recording_of}
 use Rattle.zk_recordings.specs.Recording.{no_time}
 use Rattle.zk_runs.specs.Accepting.{AreGood, Took, Refuses, StopsAfter, HaltsAt, line_halt, line_halt_by, say_halt}
@@ -40,15 +40,6 @@ next-line limits lines messages next a = record { before = lines; after = []; st
 pub short-frame : (limits : Limits) (before : List Message) (m : Message) → MaySay limits before m → length (frame (payload_of m)) < 4294967296
 short-frame limits before (Client f) may = omega (arith, length-frame (client_payload f), may.1, limits.in_range.1)
 short-frame limits before (Server s) may = omega (arith, length-frame (server_payload s), may.1, limits.in_range.3)
-
--- the piece of a message, which was appended from the frame that was said
-pub piece-is : (limits : Limits) (before : List Message) (m : Message) (side : Side) (due due_now content out none : List ℕ) → MaySay limits before m →
-    side ≡ side_of m → content ≡ out → out ≡ none ++ frame (payload_of m) → none ≡ [] →
-    (length content < 4294967296 → due_now ≡ due ++ built_bytes (record { side = side; time = no_time; size = to_be_bytes w32 (length content); content = content })) →
-    due_now ≡ due ++ built_bytes (piece_of m)
-piece-is limits before m side due due_now content out none may side_is content_is out_is none_is is =
-    let frame_is : content ≡ frame (payload_of m) = content_is ∙ out_is ∙ ap (λ l. l ++ frame (payload_of m)) none_is in
-    is (omega (arith, ap length frame_is, short-frame limits before m may)) ∙ rw (side_is, frame_is) refl
 
 -- before the first message
 pub nothing-accepted : (limits : Limits) → AreAccepted limits [] []

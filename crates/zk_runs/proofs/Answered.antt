@@ -2,7 +2,7 @@
 use Rattle.std.proofs.Common.{ℕ, List, [], ◌++◌, Option, IfOk, OnErr, refl, sym, subst, append-nil, Bool}
 use Rattle.std.specs.Io.KnownBytes.{Consumes, IsAtEnd}
 use Rattle.zk_talk.specs.{declared.limits.Limits.Limits, Said.SpeakerState}
-use Rattle.zk_runs.specs.{declared.built.Built.Built, declared.built.Built.TheVariants.Whole, declared.builder.Halt.Halt}
+use Rattle.zk_runs.specs.{declared.build_result.Built.Built, declared.build_result.Built.TheVariants.Whole, declared.builder.Halt.Halt}
 use Rattle.zk_runs.specs.declared.builder.Halt.TheVariants.{Refused, Fails}
 use Rattle.zk_listings.specs.{declared.listing.RunFault.TheVariants.Memory, Outcome.HasGrownIn}
 use Rattle.zk_runs.specs.Building.{head, AreLines, StandFirst, fed_in, all_of, Covers, HasBuilt, HasBuiltSoFar, HasBegunBuilding, recording_of}

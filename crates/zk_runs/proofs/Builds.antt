@@ -5,7 +5,7 @@ use Rattle.std.specs.List.{flat_map}
 use Rattle.std.specs.Io.KnownBytes.{Consumes, IsAtEnd, Appends}
 use Rattle.zk_talk.specs.{declared.limits.Limits.Limits, Held.Message}
 use Rattle.zk_lines.specs.Lines.{line}
-use Rattle.zk_runs.specs.{declared.built.Built.Built, declared.built.Built.TheVariants.Whole}
+use Rattle.zk_runs.specs.{declared.build_result.Built.Built, declared.build_result.Built.TheVariants.Whole}
 use Rattle.zk_runs.specs.Building.{head, built_bytes, AreLines, StandFirst, recording_of, piece_of, AreAccepted, IsNextLine, IsBuilt, without_ending, with_ending, behind_ending, other_ending, no_message, not_said, Covers}
 use Rattle.zk_recordings.specs.Recording.{First, InPieces, front}
 use Rattle.zk_listings.specs.Outcome.{HasGrownIn}

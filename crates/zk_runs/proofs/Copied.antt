@@ -1,11 +1,12 @@
 -- The piece of a message whose payload was read into its place.
-use Rattle.std.proofs.Common.{◌≡◌, ℕ, ◌+◌, ◌-◌, ◌≤◌, ◌<◌, List, [], ◌∷◌, ◌++◌, length, take, drop, sym, ap, ◌∙◌, append_assoc, arith, length-append}
+use Rattle.std.proofs.Common.{◌≡◌, ◌⊎◌, inl, inr, subst, ℕ, ◌+◌, ◌-◌, ◌≤◌, ◌<◌, List, [], ◌∷◌, ◌++◌, length, take, drop, sym, ap, ◌∙◌, append_assoc, arith, length-append}
 use Rattle.std.specs.Int.{w32, to_be_bytes}
 use Rattle.std.proofs.lemmas.List.{take_at, drop_at, drop-drop, take-take, take-append-le, take-append-drop, length-take-le, length-drop}
 use Rattle.std.proofs.lemmas.Slice.{take-put_mid, drop-put_mid}
 use borrow.Rule.Slice.PartMut.{put_mid}
 use Rattle.zk_frames.specs.Framing.{frame}
-use Rattle.zk_talk.specs.{declared.limits.Limits.Limits, Held.Message, declared.message.Side.Side, Said.MaySay, Said.payload_of, Said.side_of}
+use Rattle.zk_talk.specs.{declared.limits.Limits.Limits, Held.Message, declared.message.Side.Side, declared.message.Kind.Kind, declared.say.SayFault.SayFault, declared.say.SayFault.TheVariants.NoMemory}
+use Rattle.zk_talk.specs.{Said.SpeakerState, Said.Says, Said.MaySay, Said.IsSayFault, Said.payload_of, Said.side_of, Written.IsWritten, Written.RefusesWritten}
 use Rattle.zk_recordings.specs.Recording.{side_byte}
 use Rattle.zk_runs.specs.Building.{built_bytes, piece_of, untimed}
 use Rattle.zk_runs.proofs.Accepted.{short-frame}
@@ -46,6 +47,9 @@ module _ (due room p copied : List ℕ) (nine : length room ≡ 9) (is : copied 
   pub payload_there : drop (n + 5 + 4) copied ≡ p
   payload_there = ap (drop (n + 5 + 4)) is ∙ drop_at (due ++ room) p (n + 5 + 4) (omega (arith, here, nine, length-append due room))
 
+  pub payload_written : (kind : Kind) (m : Message) → IsWritten kind p m → IsWritten kind (drop (n + 5 + 4) copied) m
+  payload_written kind m w = subst (λ (q : List ℕ). IsWritten kind q m) (sym payload_there) w
+
   -- the frame behind five bytes, and the piece in the place of all
   pub piece_there : (limits : Limits) (before : List Message) (m : Message) (side : Side) (framed piece : List ℕ) → MaySay limits before m → payload_of m ≡ p → side_of m ≡ side →
       framed ≡ take (n + 5) copied ++ frame (drop (n + 5 + 4) copied) →
@@ -59,3 +63,9 @@ module _ (due room p copied : List ℕ) (nine : length room ≡ 9) (is : copied 
       let front : take n framed ≡ due = ap (take n) whole ∙ take-append-le n head (frame (payload_of m)) (omega (arith, long)) ∙ take-take n (n + 5) copied (omega arith)
       ∙ ap (take n) (is ∙ append_assoc due room p) ∙ take_at due (room ++ p) n (sym here) in
       piece_is (omega (arith, ap length content, short-frame limits before m may)) ∙ (λ k. front k ++ built_bytes (untimed (sym side_is k) (content k)))
+
+-- why this message is refused, where each of its kind and payload is
+pub refused_alone : (s : SpeakerState) (kind : Kind) (p : List ℕ) (m : Message) → IsWritten kind p m → (e : SayFault) → (e ≡ NoMemory) ⊎ RefusesWritten s kind p e →
+    (e ≡ NoMemory) ⊎ ((all : List Message) → Says s all → IsSayFault s.limits all m e)
+refused_alone s kind p m w e (inl lacks) = inl lacks
+refused_alone s kind p m w e (inr each) = inr (each m w)

@@ -2,7 +2,7 @@
 use Rattle.std.proofs.Common.{◌≡◌, ℕ, List, [], ◌++◌, Option, subst, Result, Ok, Err, OnOk, IfErr, Bool}
 use Rattle.std.specs.Io.KnownBytes.{Appends, append_known}
 use Rattle.zk_talk.specs.{declared.limits.Limits.Limits, Said.SpeakerState}
-use Rattle.zk_runs.specs.{declared.built.Built.TheVariants.Whole, declared.builder.Builder.Builder, declared.builder.Halt.Halt, Building.recording_of, Stepping.GathersIn, Stepping.StopsGathering, Stepping.TakesIn, Stepping.HaltsWithin}
+use Rattle.zk_runs.specs.{declared.build_result.Built.TheVariants.Whole, declared.builder.Builder.Builder, declared.builder.Halt.Halt, Building.recording_of, Stepping.GathersIn, Stepping.StopsGathering, Stepping.TakesIn, Stepping.HaltsWithin}
 use Rattle.zk_runs.specs.declared.builder.Halt.TheVariants.{Refused, Fails}
 use Rattle.zk_listings.specs.{declared.listing.RunFault.TheVariants.Memory, Outcome.HasGrownIn}
 use Rattle.zk_runs.specs.Accepting.{Took, HasTaken, BeginsIn, HaltsIn}

@@ -11,7 +11,7 @@ use Rattle.zk_talk.specs.Said.{AreSaid, AreSized, MaySay, said, side_of, payload
 use Rattle.zk_talk.proofs.{Small.small_limits, Headline.same_good, Replays.order_said, Spoken.spoken}
 use Rattle.zk_lines.specs.Lines.{line, Fits}
 use Rattle.zk_lines.proofs.{LawsHeld.said_held, LawsShown.line_printed, LawsEndings.ending_printed, LawsPrinted.unbroken}
-use Rattle.zk_runs.specs.{declared.built.Built.Built, declared.built.Built.TheVariants.Whole}
+use Rattle.zk_runs.specs.{declared.build_result.Built.Built, declared.build_result.Built.TheVariants.Whole}
 use Rattle.zk_listings.specs.{declared.summary.Summary.TheVariants.Ended, Outcome.IsOutcome}
 use Rattle.zk_recordings.specs.{declared.parts.Format.TheVariants.Zkr1, declared.parts.Part.TheVariants.SideByte, Parts.number, Parts.is_good, Parts.is_within}
 use Rattle.zk_recordings.specs.Recording.{IsPiece, side_byte, piece_history, Spells, history_of}

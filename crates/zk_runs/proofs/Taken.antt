@@ -4,7 +4,7 @@ use Rattle.std.specs.{List.All, List.AllByRecursion, Io.KnownBytes.append_known}
 use Rattle.std.proofs.{lemmas.List.take_more, lemmas.List.take-append-drop, lemmas.List.same_from_push, lemmas.List.Concat.flat_map-append, Math.Seq.take-add, lemmas.List.Elements.recursion_from_All}
 use Rattle.zk_talk.specs.{declared.limits.Limits.Limits, Held.Message, Said.SpeakerState}
 use Rattle.zk_lines.specs.Lines.{line}
-use Rattle.zk_runs.specs.{declared.built.Built.Built, declared.built.Built.TheVariants.Whole, declared.builder.Halt.Halt}
+use Rattle.zk_runs.specs.{declared.build_result.Built.Built, declared.build_result.Built.TheVariants.Whole, declared.builder.Halt.Halt}
 use Rattle.zk_runs.specs.declared.builder.Halt.TheVariants.{Refused, Fails}
 use Rattle.zk_listings.specs.{declared.listing.RunFault.TheVariants.Memory, Outcome.HasGrownIn}
 use Rattle.zk_runs.specs.Building.{IsLine, with_feed, fed, AreLines, last_unfed, AreAccepted, AreEnded, due_ending, recording_of, IsBuilt, without_ending, with_ending, behind_ending, other_ending, no_message, not_said}

@@ -6,8 +6,8 @@ use Rattle.zk_talk.proofs.Exclusions.{may_or_not, refused_once}
 use Rattle.zk_items.specs.declared.fault.LineFault.{LineFault}
 use Rattle.zk_lines.specs.Lines.{line, Fits}
 use Rattle.zk_lines.proofs.{Lines.line_apart, LawsShown.line_lettered, LawsEndings.ending_dotted}
-use Rattle.zk_runs.specs.{declared.built.Built.Built, Rebuilding.AreAlike, Rebuilding.IsForeign}
-use Rattle.zk_runs.specs.declared.built.Built.TheVariants.{Whole, LineRefused, SayRefused}
+use Rattle.zk_runs.specs.{declared.build_result.Built.Built, Rebuilding.AreAlike, Rebuilding.IsForeign}
+use Rattle.zk_runs.specs.declared.build_result.Built.TheVariants.{Whole, LineRefused, SayRefused}
 use Rattle.zk_runs.specs.Building.{due_ending, ending_fault, IsDotted, AreAccepted, IsNextLine, IsBuilt, without_ending, with_ending, behind_ending, other_ending, no_message, not_said}
 
 -- ---- two fronts of one list

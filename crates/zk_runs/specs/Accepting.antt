@@ -3,8 +3,8 @@ use Rattle.std.specs.Prelude.{◌≡◌, ℕ, Bool, true, false, List, [], ◌�
 use Rattle.std.specs.{List.AllByRecursion, Io.KnownBytes.Appends}
 use Rattle.zk_talk.specs.{declared.limits.Limits.Limits, Held.Message, declared.say.SayFault.SayFault, declared.say.SayFault.TheVariants.NoMemory as no_memory, Said.SpeakerState, Said.Says}
 use Rattle.zk_items.specs.{declared.fault.LineFault.LineFault, declared.fault.LineReason.LineReason, declared.fault.LineReason.TheVariants.NoMemory}
-use Rattle.zk_runs.specs.{declared.built.Built.Built, declared.builder.Halt.Halt}
-use Rattle.zk_runs.specs.declared.built.Built.TheVariants.{Whole, LineRefused, SayRefused}
+use Rattle.zk_runs.specs.{declared.build_result.Built.Built, declared.builder.Halt.Halt}
+use Rattle.zk_runs.specs.declared.build_result.Built.TheVariants.{Whole, LineRefused, SayRefused}
 use Rattle.zk_runs.specs.declared.builder.Halt.TheVariants.{Refused, Fails}
 use Rattle.zk_listings.specs.{declared.listing.RunFault.RunFault, Outcome.HasGrownIn}
 use Rattle.zk_listings.specs.declared.listing.RunFault.TheVariants.{Read, Write, Memory}

@@ -8,8 +8,8 @@ use Rattle.zk_talk.specs.Said.{AreSaid, IsSayFault, conversation_of, payload_of,
 use Rattle.zk_items.specs.declared.fault.LineFault.{LineFault}
 use Rattle.zk_items.specs.declared.fault.LineReason.TheVariants.{Ending, NoMemory}
 use Rattle.zk_lines.specs.{Lines.line, Lines.Fits, Endings.ending_text}
-use Rattle.zk_runs.specs.declared.built.Built.{Built}
-use Rattle.zk_runs.specs.declared.built.Built.TheVariants.{Whole, LineRefused, SayRefused}
+use Rattle.zk_runs.specs.declared.build_result.Built.{Built}
+use Rattle.zk_runs.specs.declared.build_result.Built.TheVariants.{Whole, LineRefused, SayRefused}
 use Rattle.zk_recordings.specs.{declared.parts.Format.TheVariants.Zkr1, Parts.letters}
 use Rattle.zk_recordings.specs.Recording.{First, Piece, piece_bytes, no_time, InPieces, front}
 use Rattle.zk_listings.specs.Outcome.{HasGrownIn}

@@ -1,7 +1,7 @@
 -- What each command has read and written when it returns.
 use Rattle.std.specs.Prelude.{◌≡◌, ◌≤◌, ◌<◌, ◌⊎◌, ℕ, Bool, true, false, List, Option}
 use Rattle.zk_talk.specs.{declared.limits.Limits.Limits, Ranges.AreLimits}
-use Rattle.zk_runs.specs.{declared.built.Built.Built, declared.migrate.Migrated.Migrated, declared.options.Command.Command, declared.options.Settings.Settings, Building.HasBuilt, Building.HasBegunBuilding}
+use Rattle.zk_runs.specs.{declared.build_result.Built.Built, declared.migrate.Migrated.Migrated, declared.options.Command.Command, declared.options.Settings.Settings, Building.HasBuilt, Building.HasBegunBuilding}
 use Rattle.zk_listings.specs.declared.listing.Listing.TheVariants.{All, Last}
 use Rattle.zk_runs.specs.declared.options.Command.TheVariants.{Show, Check, Build, Migrate}
 use Rattle.zk_listings.specs.{declared.summary.Status.Status, Running.HasListed, Running.HasStopped, Earliest.HasToldEarliest, Earliest.HasStoppedEarliest}

@@ -1,7 +1,7 @@
 -- The statuses of the program, and why the words of a command line are refused.
 use Rattle.std.specs.Prelude.{◌≡◌, ℕ, ◌+◌, ◌<◌, ◌≤◌, Bool, false}
 use Rattle.clap.specs.{declared.error.kind.ErrorKind.ErrorKind, declared.error.kind.ErrorKind.TheVariants.OutOfMemory}
-use Rattle.zk_runs.specs.{declared.built.Built.Built, declared.built.Built.TheVariants.Whole, declared.migrate.Migrated.Migrated, declared.options.UsageFault.UsageFault}
+use Rattle.zk_runs.specs.{declared.build_result.Built.Built, declared.build_result.Built.TheVariants.Whole, declared.migrate.Migrated.Migrated, declared.options.UsageFault.UsageFault}
 use Rattle.zk_runs.specs.declared.migrate.Migrated.TheVariants.{Whole as migrated_whole, Damaged}
 use Rattle.zk_runs.specs.declared.options.UsageFault.TheVariants.{Words, Memory}
 use Rattle.zk_listings.specs.declared.summary.Status.{Status}

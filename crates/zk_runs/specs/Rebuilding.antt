@@ -3,8 +3,8 @@ use Rattle.std.specs.Prelude.{◌≡◌, ◌≢◌, ℕ, List, [], ◌++◌, map
 use Rattle.std.specs.Io.KnownBytes.{Appends}
 use Rattle.zk_talk.specs.{declared.limits.Limits.Limits, Held.Message, declared.message.Ending.TheVariants.Whole as whole, History.History, Conversation.Conversation, Good.Good, Good.IsOrder, Ending.IsEnding}
 use Rattle.zk_lines.specs.Lines.{line, Fits}
-use Rattle.zk_runs.specs.declared.built.Built.{Built}
-use Rattle.zk_runs.specs.declared.built.Built.TheVariants.{Whole, LineRefused, SayRefused}
+use Rattle.zk_runs.specs.declared.build_result.Built.{Built}
+use Rattle.zk_runs.specs.declared.build_result.Built.TheVariants.{Whole, LineRefused, SayRefused}
 use Rattle.zk_listings.specs.{declared.listing.Listing.Listing, declared.listing.Listing.TheVariants.All, declared.summary.Status.Status, declared.summary.Status.TheVariants.Good as good_end, declared.summary.Summary.TheVariants.Ended}
 use Rattle.zk_recordings.specs.Recording.{First, InPieces, Recording, Breaks, nothing}
 use Rattle.zk_listings.specs.{Lines.text_of, Lines.last_line, Outcome.HasGrownIn, Running.HasListed}

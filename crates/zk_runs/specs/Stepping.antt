@@ -2,7 +2,7 @@
 use Rattle.std.specs.Prelude.{ℕ, List, [], ◌∷◌, ◌++◌, Option}
 use Rattle.std.specs.Io.KnownBytes.{Appends, append_known}
 use Rattle.zk_talk.specs.declared.limits.Limits.{Limits}
-use Rattle.zk_runs.specs.{declared.built.Built.Built, declared.builder.Halt.Halt, declared.builder.Scribe.Scribe, declared.builder.Builder.Builder, Building.head}
+use Rattle.zk_runs.specs.{declared.build_result.Built.Built, declared.builder.Halt.Halt, declared.builder.Scribe.Scribe, declared.builder.Builder.Builder, Building.head}
 use Rattle.zk_runs.specs.Accepting.{Took, HasTaken, HaltsAt, HaltsIn, BuildsAll, BeginsAll}
 
 -- these lines were taken, and the recording of their messages was written

@@ -1,20 +1,18 @@
 //! `Builder`: lines that are read block by block, and the pieces of their messages.
 ghost use Rattle.std.specs.Prelude.{◌≡◌, ◌≢◌, ◌+◌, ◌^◌, ◌<◌, ◌≤◌, ◌++◌, ℕ, List, [], true, false, IfOk, IfErr, IsErrOf, Err, OnOk, OnErr, IsTrue, ◌↔◌, length, take, slice_index};
 ghost use Rattle.std.specs.{List.All, Int.to_be_bytes};
-ghost use Rattle.zk_talk.specs.{declared.limits.Limits.Limits, Held.Message};
-ghost use Rattle.zk_talk.specs.Said as said;
-ghost use Rattle.zk_lines.specs.Lines.{Fits, line};
+ghost use Rattle.zk_talk.specs.declared.limits.Limits.{Limits};
 ghost use Rattle.zk_runs.specs.{declared.builder.Halt.TheVariants.Fails, Building.IsDotted, Accepting.IfSpared};
 ghost use Rattle.zk_listings.specs.declared.listing.RunFault.TheVariants.{Read, Write, Memory};
 ghost use Rattle.zk_runs.specs.Stepping.{IsBegun, TakesLine, HaltsOn, GathersIn, StopsGathering, TakesIn, HaltsWithin, IsAnswered, HasWrittenFirst};
 
-use crate::built::Built;
-use crate::piece::{put_head, put_piece};
+use crate::build_result::Built;
+use crate::piece::put_head;
 use memchr::memchr;
 use std::alloc::{AllocError, Global};
-use zk_lines::{LineFault, LineReason, copy_line, ending_line, read_line};
-use zk_listings::{BLOCK, RunFault, Sink, rest, write_whole};
-use zk_talk::{Ending, Limits, Message, SayFault, Side, Speaker};
+use zk_lines::{LineFault, LineReason, copy_line, ending_line};
+use zk_listings::{RunFault, Sink, rest, write_whole};
+use zk_talk::{Ending, Limits, SayFault, Speaker};
 
 /// The fault of a line that begins with a dot and isn't the ending line that is due, or of a line after that one.
 const NO_ENDING: LineFault = LineFault {
@@ -87,84 +85,47 @@ fn is_dotted(line: &[u8]) -> bool
     line.first() == Some(&b'.')
 }
 
-fn side_of(message: &Message) -> Side
-    ensures { result ≡ said.side_of message.now }
-{
-    match message {
-        Message::Client(_) => Side::Client,
-        Message::Server(_) => Side::Server,
-    }
-}
-
-/// Takes all bytes out of a buffer, which keeps its room unless they were more than a block.
-fn empty(alloc: Global, buffer: &mut Vec<u8>)
-    ensures { buffer.new.items ≡ [] }
-{
-    if buffer.len() > BLOCK {
-        *buffer = Vec::new(alloc);
-    } else {
-        buffer.clear();
-    }
-}
-
 /// Takes lines, one after another: says their messages, and makes the pieces.
 #[derive(Drop)]
 struct Scribe {
     speaker: Speaker,
-    /// Room for the frame of a message.
-    frame: Vec<u8>,
     lines: u64,
     ended: bool,
 }
 
 impl Scribe {
-    /// Says `message`, whose piece is due then.
-    fn speak(&mut self, alloc: Global, message: &Message, due: &mut Vec<u8>) -> Result<(), Halt>
+    /// Takes the line of a message: its payload is read into its place in `due`, and said there.
+    fn say(&mut self, line: &[u8], due: &mut Vec<u8>) -> Result<(), Halt>
         requires room { self.old.lines + 1 < 2 ^ 64 }
         requires going { self.old.ended ≡ false }
-        requires fits { Fits message.now }
+        requires plain { IsDotted line.now → ⊥ }
         ensures count { OnOk result (self.new.lines ≡ self.old.lines + 1) }
         ensures kept { OnErr result (self.new.lines ≡ self.old.lines) }
-        ensures goes_on { OnOk result (TakesLine self.old self.new (line message.now) due.old.items due.new.items) }
-        ensures halts { IfErr result (HaltsOn self.old (line message.now)) }
+        ensures goes_on { OnOk result (TakesLine self.old self.new line.now due.old.items due.new.items) }
+        ensures halts { IfErr result (HaltsOn self.old line.now) }
         ensures same { OnErr result (due.new.items ≡ due.old.items) }
         ensures no_read { result ≢ Err (Fails Read) }
         ensures no_write { result ≢ Err (Fails Write) }
     {
-        self.frame.clear();
-        if let Err(fault) = self.speaker.say(message, &mut self.frame) {
-            return Err(Halt::at_message(self.lines + 1, fault));
-        }
-        put_piece(side_of(message), &self.frame, due)?;
-        empty(alloc, &mut self.frame);
-        self.lines += 1;
-        Ok(())
-    }
-
-    /// Takes the line of a message as the payload's bytes, which are read into their place in `due`; false: undecided.
-    // It stands for reading the message and saying it, and makes neither the message nor its frame.
-    fn copy(&mut self, line: &[u8], due: &mut Vec<u8>) -> bool
-        requires room { self.old.lines + 1 < 2 ^ 64 }
-        requires going { self.old.ended ≡ false }
-        ensures count { IsTrue result → self.new.lines ≡ self.old.lines + 1 }
-        ensures goes_on { IsTrue result → TakesLine self.old self.new line.now due.old.items due.new.items }
-        ensures same { result ≡ false → (self.new ≡ self.old) × (due.new.items ≡ due.old.items) }
-    {
         let before = due.len();
-        let Ok(()) = due.extend_from_slice(&[0; 9]) else {
-            return false;
+        due.extend_from_slice(&[0; 9])?;
+        let kind = match copy_line(line, due) {
+            Ok(kind) => kind,
+            Err(fault) => {
+                due.truncate(before);
+                return Err(Halt::at_line(self.lines + 1, fault));
+            }
         };
-        let Some(kind) = copy_line(line, due) else {
-            due.truncate(before);
-            return false;
-        };
-        if !self.speaker.say_written(kind, before + 5, due) {
-            due.truncate(before);
-            return false;
+        match self.speaker.say_written(kind, before + 5, due) {
+            Ok(()) => {}
+            Err(fault) => {
+                due.truncate(before);
+                return Err(Halt::at_message(self.lines + 1, fault));
+            }
         }
         put_head(kind.side(), before, due);
         self.lines += 1;
-        true
+        Ok(())
     }
 
     /// Takes the line, which begins with a dot, as the ending line.
@@ -190,25 +151,6 @@ impl Scribe {
         }
     }
 
-    /// Takes the line of a message, which is made and said.
-    fn make(&mut self, alloc: Global, line: &[u8], due: &mut Vec<u8>) -> Result<(), Halt>
-        requires room { self.old.lines + 1 < 2 ^ 64 }
-        requires going { self.old.ended ≡ false }
-        requires plain { IsDotted line.now → ⊥ }
-        ensures count { OnOk result (self.new.lines ≡ self.old.lines + 1) }
-        ensures kept { OnErr result (self.new.lines ≡ self.old.lines) }
-        ensures goes_on { OnOk result (TakesLine self.old self.new line.now due.old.items due.new.items) }
-        ensures halts { IfErr result (HaltsOn self.old line.now) }
-        ensures same { OnErr result (due.new.items ≡ due.old.items) }
-        ensures no_read { result ≢ Err (Fails Read) }
-        ensures no_write { result ≢ Err (Fails Write) }
-    {
-        match read_line(alloc, line) {
-            Ok(message) => self.speak(alloc, &message, due),
-            Err(fault) => Err(Halt::at_line(self.lines + 1, fault)),
-        }
-    }
-
     /// Takes a whole line.
     fn close(&mut self, alloc: Global, line: &[u8], due: &mut Vec<u8>) -> Result<(), Halt>
         requires room { self.old.lines + 1 < 2 ^ 64 }
@@ -226,10 +168,7 @@ impl Scribe {
         if is_dotted(line) {
             return self.end(alloc, line);
         }
-        if self.copy(line, due) {
-            return Ok(());
-        }
-        self.make(alloc, line, due)
+        self.say(line, due)
     }
 }
 
@@ -249,7 +188,6 @@ impl Builder {
         let speaker = Speaker::new(alloc, limits)?;
         let scribe = Scribe {
             speaker,
-            frame: Vec::new(alloc),
             lines: 0,
             ended: false,
         };

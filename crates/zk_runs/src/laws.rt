@@ -1,7 +1,7 @@
 //! The laws of building, listing and migrating, as contracts of functions that do nothing.
 ghost use Rattle.std.specs.Prelude.{◌≡◌, ◌⊎◌, ℕ, List};
 ghost use Rattle.zk_talk.specs.{declared.limits.Limits.Limits, Held.Message, declared.message.Ending.TheVariants.Whole as whole, History.HaveSameBytes, Said.said};
-ghost use Rattle.zk_runs.specs.{declared.built.Built.Built, declared.built.Built.TheVariants.Whole, Migrating.IsWhole, Migrating.ListsAs, Migrating.migrated, Building.AreLines, Building.recording_of};
+ghost use Rattle.zk_runs.specs.{declared.build_result.Built.Built, declared.build_result.Built.TheVariants.Whole, Migrating.IsWhole, Migrating.ListsAs, Migrating.migrated, Building.AreLines, Building.recording_of};
 ghost use Rattle.zk_listings.specs.{declared.listing.Listing.Listing, declared.summary.Summary.TheVariants.Ended, Outcome.IsOutcome, Outcome.HasGrownIn};
 ghost use Rattle.zk_recordings.specs.{Recording.Recording, Recording.Spells, Recording.history_of, declared.parts.Format.TheVariants.Zkr1, declared.parts.Format.TheVariants.Zkr2};
 ghost use Rattle.zk_runs.specs.Rebuilding.{WholeConversation, listing_of, listed_by, one_a_piece, AreAlike, IsForeign, AreBuilt, BuildsJust, BuildsAlike, BuildsWithin, ListsJust, BuiltTwice, Stopped};

@@ -15,10 +15,9 @@
 //! `clap`, `memchr` and `thiserror`.
 //!
 //! ```text
-//! let mut reader = FromRead::new(rt.stdin());
-//! let mut writer = FromWrite::new(rt.stdout());
-//! let mut faults = FromWrite::new(rt.stderr());
+//! let mut reader = FromRead::new(b"ZKR1".as_slice());
 //! let status = run_words(rt.alloc(), words, &mut reader, &mut writer, &mut faults);
+//! assert!(rt; status == 0);
 //! ```
 //!
 //! # Choices
@@ -38,9 +37,9 @@
 //! each is proved beside others, and its edits are tried while the crates above are proved.
 #![tactic(auto)]
 
-mod build;
+mod build_lines;
+mod build_result;
 mod builder;
-mod built;
 mod laws;
 mod migrate;
 mod options;
@@ -48,8 +47,8 @@ mod piece;
 mod run;
 mod words;
 
-pub use build::build_run;
-pub use built::Built;
+pub use build_lines::build_run;
+pub use build_result::Built;
 pub use laws::{
     begun_is_a_front, built_is_listed, built_once, listing_is_built, migrated_is_listed,
 };

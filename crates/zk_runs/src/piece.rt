@@ -1,9 +1,8 @@
-//! `put_piece`, `put_head`: the pieces of a recording that is built.
-ghost use Rattle.std.specs.Prelude.{◌≡◌, ◌+◌, ◌^◌, ◌<◌, ◌≤◌, OnOk, OnErr, length, take, drop};
+//! `put_head`: the head of a piece that is built.
+ghost use Rattle.std.specs.Prelude.{◌≡◌, ◌+◌, ◌^◌, ◌<◌, ◌≤◌, length, take, drop};
 ghost use Rattle.zk_recordings.specs.Recording.{side_byte};
 ghost use Rattle.zk_runs.specs.Building.{PutsPiece};
 
-use std::alloc::AllocError;
 use zk_talk::Side;
 
 fn byte_of(side: Side) -> u8
@@ -20,33 +19,6 @@ fn size_of(len: usize) -> u32
     ensures { len < 2 ^ 32 → result ≡ len }
 {
     u32::try_from(len).unwrap_or(u32::MAX)
-}
-
-/// Appends the piece of `content`, which is of `side`, or as much of it as there is memory for.
-fn append_piece(side: Side, content: &[u8], due: &mut Vec<u8>) -> Result<(), AllocError>
-    ensures ok { OnOk result (PutsPiece side content.now due.old.items due.new.items) }
-    ensures front { OnErr result (take (length due.old.items) due.new.items ≡ due.old.items) }
-{
-    let size = size_of(content.len());
-    due.extend_from_slice(&[byte_of(side)])?;
-    due.extend_from_slice(&size.to_be_bytes())?;
-    due.extend_from_slice(content)?;
-    Ok(())
-}
-
-/// Appends the piece of `content`, which is of `side`, or nothing.
-pub fn put_piece(side: Side, content: &[u8], due: &mut Vec<u8>) -> Result<(), AllocError>
-    ensures ok { OnOk result (PutsPiece side content.now due.old.items due.new.items) }
-    ensures same { OnErr result (due.new.items ≡ due.old.items) }
-{
-    let start = due.len();
-    match append_piece(side, content, due) {
-        Ok(()) => Ok(()),
-        Err(e) => {
-            due.truncate(start);
-            Err(e)
-        }
-    }
 }
 
 /// Puts the side and the size of the piece whose content comes after the five bytes at `start` into these.

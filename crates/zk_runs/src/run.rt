@@ -4,8 +4,8 @@ ghost use Rattle.zk_listings.specs.Running.{AreReady};
 ghost use Rattle.zk_runs.specs.Commands.{IsDone, IsFailed, Answers, Stops, IsDoneBySome, HasStoppedBySome};
 ghost use Rattle.zk_runs.specs.Exits.{exit_of, exit_of_built, exit_of_migrated, refusal_of, IsStatus};
 
-use crate::build::build_run;
-use crate::built::Built;
+use crate::build_lines::build_run;
+use crate::build_result::Built;
 use crate::migrate::{Migrated, migrate_run};
 use crate::options::{Command, Settings, UsageFault};
 use crate::words::settings;
@@ -120,7 +120,8 @@ fn obey<R: Source, W: Sink, F: Sink>(
     }
 }
 
-/// Does what the settings ask for, or reports why there are none, and returns the exit status.
+/// Does what the settings ask for, or reports why there are none, and returns the exit status (docs/FORMATS.md, section
+/// 13).
 pub fn run_settings<R: Source, W: Sink, F: Sink>(
     alloc: Global,
     chosen: Result<Settings, UsageFault>,

@@ -31,10 +31,11 @@ module _ (limit size : ℕ) (held piece part after : List ℕ) (room : ℕ) (is 
       let ends = subst (λ b. EndsWell limit b t.used (length part) after) e k.ends in
       (k.bytes ∙ ap (λ z. held ++ take z part) ends.0 ∙ ap (λ z. held ++ z) (take_all (length part) part (omega arith)), ends.1)
 
-  pub end_taken : (t : Took) → IsTaken limit held part t after → t.whole ≡ false → room < length piece → size + room + 1 ≡ 2 ^ 62 → IsStop limit size held piece (room + 1) StreamEnd × (room + 1 ≤ length piece)
+  pub end_taken : (t : Took) → IsTaken limit held part t after → t.whole ≡ false → room < length piece → size + room + 1 ≡ 2 ^ 62 → IsStop limit size held piece (room + 1) StreamEnd after × (room + 1 ≤ length piece)
   end_taken t k e l full =
       let u = used_up t k e in
-      (too_many room refl l full (subst (IsBeginning limit) (u.0 ∙ ap (λ z. held ++ z) is) u.1) refl, omega arith)
+      let same = u.0 ∙ ap (λ z. held ++ z) is in
+      (too_many room refl l full (subst (IsBeginning limit) same u.1) refl same, omega arith)
 
   pub within_taken : (t : Took) → IsTaken limit held part t after → t.whole ≡ false → (room < length piece → ⊥) → (after ≡ held ++ piece) × IsBeginning limit (held ++ piece) × (size + length piece < 2 ^ 62)
   within_taken t k e n =
@@ -47,10 +48,10 @@ module _ (limit size : ℕ) (held piece part after : List ℕ) (room : ℕ) (is 
   pub front_taken : (used : ℕ) → IsFront held part used (record { limit = limit; bytes = after }) → (held ≡ []) × ((0 < used) × (used ≤ length piece) × (size + used < 2 ^ 62) × (after ≡ held ++ take used piece) × IsFrame limit after)
   front_taken used f = (f.nothing, (f.some, omega (arith, f.part, long, short), omega (arith, f.part, long, fits), f.bytes ∙ front_again piece part room used is f.part ∙ ap (λ z. z ++ take used piece) (sym f.nothing), f.whole))
 
-  pub range_taken : (h : ℕ) → h ≡ length held → IsRefusal limit held part LengthRange after → IsStop limit size held piece (4 - h) OutOfRange × (4 - h ≤ length piece)
+  pub range_taken : (h : ℕ) → h ≡ length held → IsRefusal limit held part LengthRange after → IsStop limit size held piece (4 - h) OutOfRange after × (4 - h ≤ length piece)
   range_taken h e r =
       let few = length-take-le r.0 part r.2 in
       let n : r.0 ≡ 4 - h = omega (arith, e, r.5.0, ap length r.4, length-append held (take r.0 part), few, r.3) in
       let bytes : after ≡ held ++ take r.0 piece = r.4 ∙ ap (λ z. held ++ z) (front_again piece part room r.0 is r.2) in
-      let stop = out_of_range r.1 (omega (arith, r.2, long, short)) (omega (arith, r.2, long, fits)) r.3 (subst (IsBadLength limit) bytes r.5) refl in
-      (subst (λ z. IsStop limit size held piece z OutOfRange) n stop, omega (arith, n, r.2, long, short))
+      let stop = out_of_range r.1 (omega (arith, r.2, long, short)) (omega (arith, r.2, long, fits)) r.3 (subst (IsBadLength limit) bytes r.5) refl bytes in
+      (subst (λ z. IsStop limit size held piece z OutOfRange after) n stop, omega (arith, n, r.2, long, short))

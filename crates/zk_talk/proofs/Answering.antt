@@ -17,9 +17,9 @@ lacking : (r : Reason) → (r ≡ NoMemory) ⊎ (r ≡ NoMemory → ⊥)
 lacking NoMemory = inl refl
 lacking _ = inr (λ (e : _). cc)
 
-stop_known : (limit size : ℕ) (held piece : List ℕ) (used : ℕ) (reason : Reason) → IsStop limit size held piece used reason → reason ≡ NoMemory → ⊥
-stop_known limit size held piece used reason (too_many k u l full begin r) e = cc
-stop_known limit size held piece used reason (out_of_range some l fits few bad r) e = cc
+stop_known : (limit size : ℕ) (held piece : List ℕ) (used : ℕ) (reason : Reason) (after : List ℕ) → IsStop limit size held piece used reason after → reason ≡ NoMemory → ⊥
+stop_known limit size held piece used reason after (too_many k u l full begin r kept) e = cc
+stop_known limit size held piece used reason after (out_of_range some l fits few bad r kept) e = cc
 
 -- what a side received, by what the answer holds
 pub received : (side : Side) (old : StreamState) (piece : List ℕ) (kept : Option Fault) (new : StreamState) (keeps : Option Fault) {a b : Option ℕ} → a ≡ b → IsReceived side old piece kept (Ok a) new keeps → IsReceived side old piece kept (Ok b) new keeps
@@ -87,7 +87,7 @@ module _ (side : Side) (t : TalkState) (piece : List ℕ) (s s' : StreamState) {
   pub stops : {from : Side} → from ≡ side → (k : Option Fault) (result : Fault) (used : ℕ) (reason : Reason) → IsAdvance limit (size_on side t) (held_on side t) piece (Refused used reason) s.held → result ≡ fault_of from (frames_on side t) (size_on side t + used) 0 reason → k ≡ Some result →
       (result.reason ≢ NoMemory) × IsRefused t side piece result (put_on side t s t.waiting t.answered k)
   stops is k result used reason a told kept =
-      let known = stop_known limit (size_on side t) (held_on side t) piece used reason a.0 in
+      let known = stop_known limit (size_on side t) (held_on side t) piece used reason s.held a.0 in
       ((λ n. known (sym (ap (λ (z : Fault). z.reason) told) ∙ n)), refuses k used 0 reason result (told ∙ (λ i. fault_of (is i) (frames_on side t) (size_on side t + used) 0 reason)) kept (stopped side t piece s.held used reason (advance_on (Refused used reason) a)))
 
   module _ (used : ℕ) (a : IsAdvance limit (size_on side t) (held_on side t) piece (Whole used) s.held) (max : t.waiting.max ≡ t.limits.waiting) where

@@ -218,13 +218,13 @@ module _ (h : History) (r : TalkState) (M : List Message) (max : r.waiting.max �
     ends_here : size_on side r + 1 ≡ 2 ^ 62 → Outcome r.limits (h ++ on side piece)
     ends_here last =
         let begin = subst (IsBeginning (side_limit r.limits side)) (sym (append-nil (held_on side r))) (begins side) in
-        let stop = stopped side r piece [] 1 StreamEnd (too_many 0 refl (omega arith) (omega (arith, last)) begin refl, omega arith) h M st in
-        inr (stopped_by side r [] (fault_of side (frames_on side r) (size_on side r + 1) 0 StreamEnd) (h ++ on side piece) M stop)
+        let stop = stopped side r piece (held_on side r ++ []) 1 StreamEnd (too_many 0 refl (omega arith) (omega (arith, last)) begin refl refl, omega arith) h M st in
+        inr (stopped_by side r (held_on side r ++ []) (fault_of side (frames_on side r) (size_on side r + 1) 0 StreamEnd) (h ++ on side piece) M stop)
 
     bad_length : size_on side r + 1 < 2 ^ 62 → length (held_on side r) < 4 → IsBadLength (side_limit r.limits side) now → Outcome r.limits (h ++ on side piece)
     bad_length room few bad =
-        let stop = stopped side r piece [] 1 LengthRange (out_of_range (omega arith) (omega arith) room few bad refl, omega arith) h M st in
-        inr (stopped_by side r [] (fault_of side (frames_on side r) (size_on side r + 1) 0 LengthRange) (h ++ on side piece) M stop)
+        let stop = stopped side r piece now 1 LengthRange (out_of_range (omega arith) (omega arith) room few bad refl refl, omega arith) h M st in
+        inr (stopped_by side r now (fault_of side (frames_on side r) (size_on side r + 1) 0 LengthRange) (h ++ on side piece) M stop)
 
     still_begins : size_on side r + 1 < 2 ^ 62 → IsBeginning (side_limit r.limits side) now → Outcome r.limits (h ++ on side piece)
     still_begins room begin = inl (grows side now (size_on side r + 1) now_bytes (h ++ on side piece) (M ++ []) (goes_within side r piece now 1 refl (refl, begin, room) h M st))

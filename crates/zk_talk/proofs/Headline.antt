@@ -79,10 +79,13 @@ refuses_with t a b h r M f x newest = record {
   is = fault_more t.limits h r f x.is;
   order = x.order;
   queues = x.queues;
+  client_frames = x.client_frames;
   server_frames = x.server_frames;
   newest = newest;
   load = x.load;
-  held = λ items. held_kept t a b f.side ∙ x.held items;
+  held = λ less. held_kept t a b f.side ∙ x.held less;
+  too_many = λ full. held_kept t a b f.side ∙ x.too_many full;
+  other = λ side is. held_kept t a b side ∙ x.other side is;
 }
 
 pub refuses_more : (t : TalkState) (h r : History) (M : List Message) (f : Fault) → Refuses t h M f → Refuses t (h ++ r) M f

@@ -46,3 +46,6 @@ pub mod Settling
 pub mod Deciding
 pub mod Alike
 pub mod SayingWritten
+pub mod OfKind
+pub mod Offering
+pub mod Offers

@@ -6,7 +6,7 @@ use Rattle.zk_jute.specs.declared.fault.Reason.TheVariants.{StreamEnd, LengthRan
 use Rattle.zk_frames.specs.Framing.{frame, IsBeginning, IsBadLength}
 use Rattle.zk_waiting.specs.{declared.lane.Lane.Lane, Waiting.Lanes, Waiting.queue_on}
 use Rattle.zk_talk.specs.{declared.message.Side.Side, declared.message.Side.TheVariants.Server, Held.Message, History.History, History.on, declared.replied.Replied.Replied}
-use Rattle.zk_talk.specs.{Conversation.Conversation, Conversation.IsConversation, Conversation.load, Fault.IsCause, Fault.IsOfItems, Fault.IsPayloadFault, Fault.fault_of, Fault.side_limit}
+use Rattle.zk_talk.specs.{Conversation.Conversation, Conversation.IsConversation, Conversation.load, Fault.IsCause, Fault.IsPayloadFault, Fault.fault_of, Fault.side_limit}
 use Rattle.zk_talk.specs.{Fault.IsCause.stream_end, Fault.IsCause.length_range, Fault.IsCause.payload_fault, Queues.IsQueue, Describes.Describes, Taking.GoesOn, Said.payload_of}
 use Rattle.zk_talk.specs.Stands.{TalkState, Stands, Refuses, held_on, frames_on, size_on}
 use Rattle.zk_talk.proofs.{GoodSteps.load_here, Lists.IsPushed, Lists.last_of, Standing.frame_front, Standing.with_message, Standing.MayOn}
@@ -43,12 +43,12 @@ module _ (side : Side) (t : TalkState) where
   -- ---- Refusals
   module _ (held : List ℕ) where
     fail_last : (place told : ℕ) → told ≡ told_place place → (reason : Reason) (part later : List ℕ) (n : ℕ) → n ≡ length part → (q : IsPushed part) → size_on side t + n < 2 ^ 62 → IsBeginning (side_limit t.limits side) (held_on side t ++ q.init) →
-        (IsOfItems reason → held ≡ held_on side t ++ part) → (h : History) (M : List Message) (st : Stands t h M) → IsCause t.limits st.conversation side (size_on side t + length q.init) (held_on side t ++ q.init) q.last place reason →
+        held ≡ held_on side t ++ part → (h : History) (M : List Message) (st : Stands t h M) → IsCause t.limits st.conversation side (size_on side t + length q.init) (held_on side t ++ q.init) q.last place reason →
         Refuses (refusing side t held (fault_of side (frames_on side t) (size_on side t + n) told reason)) (h ++ on side (part ++ later)) M (fault_of side (frames_on side t) (size_on side t + n) told reason)
     fail_last place told is_told reason part later n e q size begin kept h M st cause =
         let long : length part ≡ length q.init + 1 = ap length q.is ∙ length_push q.init q.last in
         let small : size_on side t + length q.init < 2 ^ 62 = omega (arith, e, long, size) in
-        let r = refuse t h M st side held place told is_told reason q.init q.last later begin small (λ i. kept i ∙ sym (last_here part q)) cause in
+        let r = refuse t h M st side held place told is_told reason q.init q.last later begin small (λ less. kept ∙ sym (last_here part q)) (λ full. absurd (omega (arith, full, e, long, size))) cause in
         let size' : size_on side t + length q.init + 1 ≡ size_on side t + n = omega (arith, e, long) in
         let bytes : q.init ++ q.last ∷ later ≡ part ++ later = sym (append_assoc q.init (q.last ∷ []) later) ∙ ap (λ z. z ++ later) (sym q.is) in
         subst (λ z. Refuses (refusing side t held (fault_of side (frames_on side t) z told reason)) (h ++ on side (part ++ later)) M (fault_of side (frames_on side t) z told reason)) size'
@@ -61,25 +61,25 @@ module _ (side : Side) (t : TalkState) where
         let q = last_of part l in
         let last = last_here part q ∙ is in
         let cause = payload_fault (omega (arith, e, ap length q.is, length_push q.init q.last, size)) p last fits judged in
-        fail_last place told is_told reason part later n e q size (frame_front (side_limit t.limits side) (held_on side t ++ q.init) [] p q.last fits last) (λ _. kept) h M st cause
+        fail_last place told is_told reason part later n e q size (frame_front (side_limit t.limits side) (held_on side t ++ q.init) [] p q.last fits last) kept h M st cause
 
-    pub fail_length : (part later : List ℕ) (n : ℕ) → n ≡ length part → 0 < length part → size_on side t + n < 2 ^ 62 → length (held_on side t) < 4 → IsBadLength (side_limit t.limits side) (held_on side t ++ part) →
+    pub fail_length : (part later : List ℕ) (n : ℕ) → n ≡ length part → 0 < length part → size_on side t + n < 2 ^ 62 → length (held_on side t) < 4 → IsBadLength (side_limit t.limits side) (held_on side t ++ part) → held ≡ held_on side t ++ part →
         (h : History) (M : List Message) → Stands t h M →
         Refuses (refusing side t held (fault_of side (frames_on side t) (size_on side t + n) 0 LengthRange)) (h ++ on side (part ++ later)) M (fault_of side (frames_on side t) (size_on side t + n) 0 LengthRange)
-    fail_length part later n e l size few bad h M st =
+    fail_length part later n e l size few bad kept h M st =
         let q = last_of part l in
         let last = last_here part q in
         let begin : IsBeginning (side_limit t.limits side) (held_on side t ++ q.init) = inl (omega (arith, bad.0, ap length last, length_push (held_on side t ++ q.init) q.last)) in
         let cause = length_range (omega (arith, e, ap length q.is, length_push q.init q.last, size)) (subst (IsBadLength (side_limit t.limits side)) (sym last) bad) refl refl in
-        fail_last 0 0 refl LengthRange part later n e q size begin (λ i. absurd cc) h M st cause
+        fail_last 0 0 refl LengthRange part later n e q size begin kept h M st cause
 
-    pub fail_end : (piece : List ℕ) (k : ℕ) → k < length piece → size_on side t + k + 1 ≡ 2 ^ 62 → IsBeginning (side_limit t.limits side) (held_on side t ++ take k piece) → (h : History) (M : List Message) → Stands t h M →
+    pub fail_end : (piece : List ℕ) (k : ℕ) → k < length piece → size_on side t + k + 1 ≡ 2 ^ 62 → IsBeginning (side_limit t.limits side) (held_on side t ++ take k piece) → held ≡ held_on side t ++ take k piece → (h : History) (M : List Message) → Stands t h M →
         Refuses (refusing side t held (fault_of side (frames_on side t) (size_on side t + (k + 1)) 0 StreamEnd)) (h ++ on side piece) M (fault_of side (frames_on side t) (size_on side t + (k + 1)) 0 StreamEnd)
-    fail_end piece k l full begin h M st =
+    fail_end piece k l full begin kept h M st =
         let n = length-take-le k piece (omega arith) in
         let cut = sym (take-append-drop k piece) ∙ ap (λ z. take k piece ++ z) (drop_more piece k 0 l) in
         let cause = stream_end (omega (arith, n, full)) refl refl in
-        let r = refuse t h M st side held 0 0 refl StreamEnd (take k piece) (get_or piece k 0) (drop (k + 1) piece) begin (omega (arith, n, full)) (λ i. absurd cc) cause in
+        let r = refuse t h M st side held 0 0 refl StreamEnd (take k piece) (get_or piece k 0) (drop (k + 1) piece) begin (omega (arith, n, full)) (λ less. absurd (omega (arith, less, n, full))) (λ many. kept) cause in
         let size' : size_on side t + length (take k piece) + 1 ≡ size_on side t + (k + 1) = omega (arith, n) in
         subst (λ z. Refuses (refusing side t held (fault_of side (frames_on side t) z 0 StreamEnd)) (h ++ on side piece) M (fault_of side (frames_on side t) z 0 StreamEnd)) size'
         (subst (λ z. Refuses (refusing side t held (fault_of side (frames_on side t) (size_on side t + length (take k piece) + 1) 0 StreamEnd)) (h ++ on side z) M (fault_of side (frames_on side t) (size_on side t + length (take k piece) + 1) 0 StreamEnd)) (sym cut) r)

@@ -11,10 +11,10 @@ use Rattle.zk_answers.specs.declared.frame.ServerFrameOf.TheVariants.{Connected,
 use Rattle.zk_answers.specs.Frames as answers
 use Rattle.zk_waiting.specs.{declared.lane.Lane.Lane, Lane.lane_of}
 use Rattle.zk_waiting.specs.Waiting.{Lanes, Request, queue_on, weight_of, asked_parts}
-use Rattle.zk_talk.specs.{declared.limits.Limits.Limits, declared.say.SayFault.SayFault, Payloads.client_payload, Payloads.server_payload, Describes.Describes, Judged.IsRemembered, Judged.IsForgotten, Judged.HasAsk, Fault.IsNext}
+use Rattle.zk_talk.specs.{declared.limits.Limits.Limits, declared.say.SayFault.SayFault, Payloads.client_payload, Payloads.server_payload, Describes.Describes, Judged.HasRoomFor, Judged.IsRemembered, Judged.IsForgotten, Judged.HasAsk, Fault.IsNext}
 use Rattle.zk_talk.specs.declared.say.SayFault.TheVariants.{XidOrder, Misfit, NoMemory}
 use Rattle.zk_talk.specs.Conversation.{Conversation, with_client, with_server, is_ask_on, replies_on, ClientMay, ServerMay, IsAnswered, load, weight}
-use Rattle.zk_talk.specs.Said.{Heard, HasSpoken, MayAsk, ClientMayStand, IsSaidClient, IsSaidServer, IsClientRefusal, IsServerRefusal, IsUnwritten, IsUnput, IsUnfit, MayAnswer, CannotAnswer}
+use Rattle.zk_talk.specs.Said.{Heard, HasSpoken, MayAsk, IsSaidClient, IsSaidServer, IsClientRefusal, IsServerRefusal, IsUnwritten, IsUnput, IsUnfit, MayAnswer, CannotAnswer}
 use Rattle.zk_talk.specs.Said.IsClientRefusal.{queue_full}
 use Rattle.zk_talk.specs.Said.IsServerRefusal.{no_connect, long_connected, long_event, event_xid, unasked, xid_order, misfit, long_reply}
 use Rattle.zk_talk.specs.Said.IsUnfit.{not_a_reply, none_waits, other_waits, unlike}
@@ -82,13 +82,25 @@ module _ (limits : Limits) (asked welcomed : Bool) (w : Lanes) (v : Conversation
         go (Ask xid ask) false q k may fit later l =
             queue_full (clients_some (other_side connect asked turn q)) later may fit (omega (arith, l, room, weight_is_load v w heard.queues)) full.1
 
-    pub client_stands : MayAsk limits f → Fit limits.client (asks.frame_items f) → ClientMayStand limits v f
+    pub client_stands : MayAsk limits f → Fit limits.client (asks.frame_items f) → ClientMay limits.profile v.client f × (length (client_payload f) ≤ limits.client)
     unfolding client_payload
     client_stands may fit = (may_stand connect refl kind, fit.1)
       where
         may_stand : (b : Bool) → connect ≡ b → MatchBool b (IsFirst f) (IsLater f) → ClientMay limits.profile v.client f
         may_stand true q k = first_may (length v.client) (length v.server) w v describes limits.profile f (zero_length v.client (clients_none (opposite connect asked turn q))) k (may.0, fit.0)
         may_stand false q k = later_may (length v.client) (length v.server) w v describes limits.profile f (some_length v.client (clients_some (other_side connect asked turn q))) k (may.0, fit.0) may.1
+
+    pub client_may : w.max ≡ limits.waiting → MayAsk limits f → Fit limits.client (asks.frame_items f) → HasRoomFor f w → IsSaidClient limits v f
+    client_may room may fit has =
+        let stands = client_stands may fit in
+        (stands.0, stands.1, loads f connect refl kind has)
+      where
+        loads : (g : ClientFrame) (b : Bool) → connect ≡ b → MatchBool b (IsFirst g) (IsLater g) → HasRoomFor g w → load (v.client ++ g ∷ []) v.server ≤ limits.waiting
+        loads (Connect t h) true q k has =
+            let none = subst (λ z. load z v.server ≤ limits.waiting) (sym (clients_none (opposite connect asked turn q))) (omega arith) in
+            omega (arith, none, load_ask v (Connect t h) heard.may)
+        loads (Connect t h) false q k has = absurd k
+        loads (Ask xid ask) b q k has = heavier (length v.client) (length v.server) w v describes limits.waiting (Ask xid ask) (omega (arith, has, room))
 
     pub client_said : (x : Lanes) → w.max ≡ limits.waiting → MayAsk limits f → Fit limits.client (asks.frame_items f) → IsRemembered f w x → IsSaidClient limits v f × Heard true welcomed x (with_client v f)
     client_said x room may fit put =

@@ -22,7 +22,7 @@ use Rattle.zk_talk.specs.Said.{SpeakerState, Heard, HasSpoken, MayAsk, MaySay, S
 use Rattle.zk_talk.specs.Said.IsServerRefusal.{long_connected, long_event, long_reply}
 use Rattle.zk_talk.specs.SaidPayload.{HasPayload, IsClientPayloadRefusal, IsPayloadRefusal, SaysPayload, RefusesPayload, StandsPayload, CannotSay, HearsFault, SaysClientPayload, RefusesClientPayload, StandsClientPayload, SaysServerPayload, RefusesServerPayload, StandsServerPayload}
 use Rattle.zk_talk.proofs.{Hearing.described, Hearing.none_spoken, Hearing.some_spoken, Lists.not_empty, Lists.EachAfter-push, Payloads.first_excluded, Payloads.ask_excluded, Turns.client_inj, Turns.server_inj, Queues.weight_is_load}
-use Rattle.zk_talk.proofs.{Lanes.forgotten, Judging.first_may, Judging.first_or_later, Judging.later_may, Judging.no_room, Refusals.may_first, Refusals.may_later, Refusals.server_alone, Saying.client_stands, Saying.client_said}
+use Rattle.zk_talk.proofs.{Lanes.forgotten, Judging.first_may, Judging.first_or_later, Judging.later_may, Judging.no_room, Refusals.may_first, Refusals.may_later, Refusals.server_alone, Saying.client_may, Saying.client_said}
 use Rattle.zk_talk.proofs.Exclusions.{client_apart, server_apart, answered_next}
 use Rattle.zk_talk.proofs.Speaking.{ok_client, ok_server}
 
@@ -85,9 +85,9 @@ module _ (limits : Limits) (asked : Bool) (n : ℕ) (k : MatchBool asked (n ≡ 
     pub client_payload_said : (x : Lanes) → w.max ≡ limits.waiting → length p ≤ limits.client → IsRemembered f w x → SaysClientPayload limits asked w p x
     client_payload_said x room small put = (f, is, client_frame_said x room small put)
 
-    pub client_payload_stands : length p ≤ limits.client → StandsClientPayload limits asked w p
-    client_payload_stands small =
-        (f, is, λ welcomed v heard. client_stands limits asked welcomed w v heard f (first_of asked) (kind_of limits.profile n f turn asked k) (turn_of asked) may (fit_client limits.client f p sent is small))
+    pub client_payload_stands : w.max ≡ limits.waiting → length p ≤ limits.client → HasRoomFor f w → StandsClientPayload limits asked w p
+    client_payload_stands room small has =
+        (f, is, λ welcomed v heard. client_may limits asked welcomed w v heard f (first_of asked) (kind_of limits.profile n f turn asked k) (turn_of asked) room may (fit_client limits.client f p sent is small) has)
 
     pub client_payload_long : limits.client < length p → RefusesClientPayload limits asked w p (Say TooLong)
     client_payload_long over = λ welcomed v heard. (f, is, come limits.profile n f turn w v (described asked welcomed w v heard) sent asked k heard.client, long v asked k heard.client)

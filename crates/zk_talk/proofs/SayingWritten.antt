@@ -1,5 +1,5 @@
 -- What a speaker knows of a message that it says by its kind and the bytes of its payload.
-use Rattle.std.proofs.Common.{◌≡◌, ℕ, ◌≤◌, List, length, refl, sym, subst, arith, Bool, true, false, MatchBool}
+use Rattle.std.proofs.Common.{◌≡◌, ℕ, ◌≤◌, ◌⊎◌, inl, inr, List, [], ◌∷◌, ◌++◌, length, refl, sym, ap, ◌∙◌, subst, arith, Bool, true, false, MatchBool}
 use Rattle.std.specs.Prelude.{Option}
 use Rattle.zk_records.specs.declared.profile.Profile.{Profile}
 use Rattle.zk_asks.specs.Held.{ClientFrame}
@@ -9,11 +9,12 @@ use Rattle.zk_answers.specs.declared.frame.ServerFrameOf.TheVariants.{Connected,
 use Rattle.zk_answers.specs.Frames as answers
 use Rattle.zk_waiting.specs.{declared.lane.Lane.Lane, Waiting.Lanes}
 use Rattle.zk_talk.specs.{declared.limits.Limits.Limits, declared.message.Kind.Kind, Held.Message, Payloads.server_payload, Judged.IsInTurn, Judged.IsDue, Judged.IsForgotten, declared.replied.Replied.Replied}
+use Rattle.zk_talk.specs.{declared.message.Side.Side, declared.say.SayFault.SayFault, declared.say.SayFault.TheVariants.NoMemory, Fault.side_limit}
 use Rattle.zk_talk.specs.declared.message.Side.TheVariants.{Client, Server}
 use Rattle.zk_talk.specs.declared.message.MessageOf.TheVariants.{Client as FromClient, Server as FromServer}
 use Rattle.zk_talk.specs.declared.message.Kind.TheVariants as kinds
-use Rattle.zk_talk.specs.{Settled.IsAwaited, Settled.IsHeard, Said.SpeakerState, Said.SaysClient, Said.SaysServer, Said.side_of}
-use Rattle.zk_talk.specs.Written.{IsWritten, SaysKind, SaysClientKind, SaysServerKind, SaysWritten, SaysClientWritten, SaysServerWritten, kind_of}
+use Rattle.zk_talk.specs.{Settled.IsAwaited, Settled.IsHeard, Said.SpeakerState, Said.Says, Said.MaySay, Said.IsSayFault, Said.SaysClient, Said.SaysServer, Said.side_of, Said.payload_of}
+use Rattle.zk_talk.specs.Written.{IsWritten, SaysKind, SaysClientKind, SaysServerKind, SaysWritten, SaysClientWritten, SaysServerWritten, RefusesWritten, CannotSayWritten, kind_of}
 use Rattle.zk_talk.proofs.{Judging.due_waits, Speaking.ok_client, Speaking.ok_server, SayingPayloads.client_frame_said, SayingPayloads.server_frame_said, Alike.client_known, Alike.reply_known, Alike.event_known, Alike.connected_known}
 
 -- ---- the client's
@@ -77,3 +78,26 @@ module _ (s : SpeakerState) (kind : Kind) (p : List ℕ) (x : Lanes) (max : x.ma
 
   pub ok_server_kind : SaysServerKind s.limits s.asked s.welcomed kind s.waiting p x → SaysKind s kind p (record { limits = s.limits; asked = s.asked; welcomed = true; waiting = x })
   ok_server_kind (f, of_kind, is, said) = (FromServer f, of_kind, is, ok_server s (FromServer f) f x refl max said)
+
+-- ---- a message that is made
+
+within_frame : (limits : Limits) (side : Side) → side_limit limits side ≤ 16777216
+within_frame limits Client = omega (arith, limits.in_range)
+within_frame limits Server = omega (arith, limits.in_range)
+
+module _ (old : SpeakerState) (kind : Kind) (p : List ℕ) (m : Message) (only : (n : Message) → IsWritten kind p n → m ≡ n) where
+  pub made_said : (new : SpeakerState) → ((before : List Message) → Says old before → MaySay old.limits before m × Says new (before ++ m ∷ [])) → SaysWritten old kind p new
+  made_said new all n w = subst (λ z. (before : List Message) → Says old before → MaySay old.limits before z × Says new (before ++ z ∷ [])) (only n w) all
+
+  pub made_there : (new : SpeakerState) → (n : Message) → IsWritten kind p n → ((before : List Message) → Says old before → MaySay old.limits before m × Says new (before ++ m ∷ [])) → SaysKind old kind p new
+  made_there new n w all = (n, w.kind_is, w.is, made_said new all n w)
+
+  pub made_small : (n : Message) → IsWritten kind p n → length (payload_of m) ≤ side_limit old.limits (side_of m) → length p ≤ 16777216
+  made_small n w within = omega (arith, within, within_frame old.limits (side_of m), ap length (ap payload_of (only n w) ∙ w.is))
+
+  pub made_refused : (e : SayFault) → (e ≡ NoMemory) ⊎ ((before : List Message) → Says old before → IsSayFault old.limits before m e) → (e ≡ NoMemory) ⊎ RefusesWritten old kind p e
+  made_refused e (inl lacks) = inl lacks
+  made_refused e (inr refused) = inr (λ n w. subst (λ z. (before : List Message) → Says old before → IsSayFault old.limits before z e) (only n w) refused)
+
+  pub made_exact : ((before : List Message) → Says old before → MaySay old.limits before m → ⊥) → CannotSayWritten old kind p
+  made_exact refused n w = subst (λ z. (before : List Message) → Says old before → MaySay old.limits before z → ⊥) (only n w) refused

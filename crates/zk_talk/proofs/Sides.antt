@@ -87,15 +87,15 @@ module _ (side : Side) (t : TalkState) (piece after : List ℕ) where
       IsRefused t side piece (fault_of side (frames_on side t) (size_on side t + used) 0 reason) (refusing side t after (fault_of side (frames_on side t) (size_on side t + used) 0 reason))
   stopped used reason a = go a.0
     where
-      go : IsStop (side_limit t.limits side) (size_on side t) (held_on side t) piece used reason → (h : History) (M : List Message) → Stands t h M →
+      go : IsStop (side_limit t.limits side) (size_on side t) (held_on side t) piece used reason after → (h : History) (M : List Message) → Stands t h M →
           Refuses (refusing side t after (fault_of side (frames_on side t) (size_on side t + used) 0 reason)) (h ++ on side piece) M (fault_of side (frames_on side t) (size_on side t + used) 0 reason)
-      go (too_many k u l full begin r) h M st =
-          let stop = fail_end side t after piece k l full begin h M st in
+      go (too_many k u l full begin r kept) h M st =
+          let stop = fail_end side t after piece k l full begin kept h M st in
           subst (λ z. Refuses (refusing side t after (fault_of side (frames_on side t) (size_on side t + used) 0 z)) (h ++ on side piece) M (fault_of side (frames_on side t) (size_on side t + used) 0 z)) (sym r)
           (subst (λ z. Refuses (refusing side t after (fault_of side (frames_on side t) (size_on side t + z) 0 StreamEnd)) (h ++ on side piece) M (fault_of side (frames_on side t) (size_on side t + z) 0 StreamEnd)) (sym u) stop)
-      go (out_of_range some l fits few bad r) h M st =
+      go (out_of_range some l fits few bad r kept) h M st =
           let n : used ≡ length (take used piece) = sym (length-take-le used piece l) in
-          let stop = fail_length side t after (take used piece) (drop used piece) used n (omega (arith, n, some)) fits few bad h M st in
+          let stop = fail_length side t after (take used piece) (drop used piece) used n (omega (arith, n, some)) fits few bad kept h M st in
           subst (λ z. Refuses (refusing side t after (fault_of side (frames_on side t) (size_on side t + used) 0 z)) (h ++ on side piece) M (fault_of side (frames_on side t) (size_on side t + used) 0 z)) (sym r)
           (subst (λ z. Refuses (refusing side t after (fault_of side (frames_on side t) (size_on side t + used) 0 LengthRange)) (h ++ on side z) M (fault_of side (frames_on side t) (size_on side t + used) 0 LengthRange)) (take-append-drop used piece) stop)
 

@@ -5,16 +5,25 @@ use Rattle.zk_jute.specs.Item.{Fit}
 use Rattle.zk_asks.specs.Held.{ClientFrame}
 use Rattle.zk_asks.specs.Frames as asks
 use Rattle.zk_answers.specs.Held.{ServerFrame}
+use Rattle.zk_answers.specs.Frames as answers
 use Rattle.zk_waiting.specs.Waiting.{Lanes, count_of}
-use Rattle.zk_talk.specs.{declared.limits.Limits.Limits, Held.Message, declared.say.SayFault.SayFault, declared.say.SayFault.TheVariants.NoMemory, Payloads.client_payload, Good.clients, Good.servers, Ending.unanswered, Ending.unwelcomed}
+use Rattle.zk_talk.specs.{declared.limits.Limits.Limits, Held.Message, declared.say.SayFault.SayFault, declared.say.SayFault.TheVariants.NoMemory, Payloads.client_payload, Payloads.server_payload, Good.clients, Good.servers, Ending.unanswered, Ending.unwelcomed}
 use Rattle.zk_talk.specs.declared.message.MessageOf.TheVariants.{Client as FromClient, Server as FromServer}
 use Rattle.zk_talk.specs.Conversation.{Conversation, with_client, with_server, ServerMay}
-use Rattle.zk_talk.specs.Said.{SpeakerState, Says, Heard, HasSpoken, MaySay, MayStand, IsSayFault, IsSaidClient, IsSaidServer, StandsClient, StandsServer, IsClientRefusal, IsServerRefusal, conversation_of}
+use Rattle.zk_talk.specs.Said.{SpeakerState, Says, Heard, HasSpoken, MaySay, IsSayFault, IsSaidClient, IsSaidServer, StandsClient, StandsServer, IsClientRefusal, IsServerRefusal, conversation_of}
 use Rattle.zk_talk.proofs.{Lists.EachAfter-push, Lists.EachAfter-nil, Standing.with_message, Standing.clients-append, Standing.servers-append, Queues.count_is_waiting, Start.no_lanes, Start.no_queue, Saying.either}
 
 pub small_payload : (limit : ℕ) (f : ClientFrame) → limit ≤ 16777216 → Fit limit (asks.frame_items f) → length (client_payload f) < 2 ^ 32
 unfolding client_payload
 small_payload limit f small fit = omega (arith, fit.1)
+
+pub client_within : (limit : ℕ) (f : ClientFrame) → Fit limit (asks.frame_items f) → length (client_payload f) ≤ limit
+unfolding client_payload
+client_within limit f fit = fit.1
+
+pub server_within : (limit : ℕ) (s : ServerFrame) → Fit limit (answers.frame_items s) → length (server_payload s) ≤ limit
+unfolding server_payload
+server_within limit s fit = fit.1
 
 -- ---- nothing was said
 pub starts : (limits : Limits) (w : Lanes) → w ≡ no_lanes limits.waiting → Says (record { limits = limits; asked = false; welcomed = false; waiting = w }) []
@@ -85,11 +94,11 @@ module _ (s : SpeakerState) (m : Message) where
   err_server f e is (inl wanting) = inl wanting
   err_server f e is (inr all) = inr (λ before says. subst (λ z. IsSayFault s.limits before z e) (sym is) (all (conversation_of before) says.heard))
 
-  pub lacks_client : (f : ClientFrame) → m ≡ FromClient f → StandsClient s.limits s.asked s.waiting f → (before : List Message) → Says s before → MayStand s.limits before m
-  lacks_client f is all before says = subst (MayStand s.limits before) (sym is) (all s.welcomed (conversation_of before) says.heard)
+  pub lacks_client : (f : ClientFrame) → m ≡ FromClient f → StandsClient s.limits s.asked s.waiting f → (before : List Message) → Says s before → MaySay s.limits before m
+  lacks_client f is all before says = subst (MaySay s.limits before) (sym is) (all s.welcomed (conversation_of before) says.heard)
 
-  pub lacks_server : (f : ServerFrame) → m ≡ FromServer f → StandsServer s.limits s.asked s.welcomed s.waiting f → (before : List Message) → Says s before → MayStand s.limits before m
-  lacks_server f is all before says = subst (MayStand s.limits before) (sym is) (all (conversation_of before) says.heard)
+  pub lacks_server : (f : ServerFrame) → m ≡ FromServer f → StandsServer s.limits s.asked s.welcomed s.waiting f → (before : List Message) → Says s before → MaySay s.limits before m
+  lacks_server f is all before says = subst (MaySay s.limits before) (sym is) (all (conversation_of before) says.heard)
 
 -- want of memory, or a refusal whatever is known of the other side
 pub either_way : (e : SayFault) (H P : Bool → Conversation → Type 0) → ((b : Bool) (v : Conversation) → H b v → (e ≡ NoMemory) ⊎ P b v) → (e ≡ NoMemory) ⊎ ((b : Bool) (v : Conversation) → H b v → P b v)

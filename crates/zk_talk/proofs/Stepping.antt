@@ -7,7 +7,7 @@ use Rattle.zk_talk.specs.declared.message.Side.TheVariants.{Client, Server}
 use Rattle.zk_talk.specs.Taking.{GoesOn, Steps, StepsOn, Passes, PassesOn, IsRefused, Fails, given_up, lacks_memory}
 use Rattle.zk_talk.proofs.{Headline.refuses_with, Answering.rekept}
 
-stands_given : (side : Side) (t : TalkState) (h : History) (M : List Message) → Stands t h M → Stands (given_up side t) h M
+pub stands_given : (side : Side) (t : TalkState) (h : History) (M : List Message) → Stands t h M → Stands (given_up side t) h M
 stands_given Client t h M st = rekept t [] t.server_kept h M st st.newest
 stands_given Server t h M st = rekept t t.client_kept [] h M st (λ kept. absurd (kept refl))
 
@@ -57,7 +57,7 @@ held_given Client Server t = refl
 held_given Server Client t = refl
 held_given Server Server t = refl
 
-refuses_given : (side : Side) (t : TalkState) (h : History) (M : List Message) (f : Fault) → Refuses t h M f → Refuses (given_up side t) h M f
+pub refuses_given : (side : Side) (t : TalkState) (h : History) (M : List Message) (f : Fault) → Refuses t h M f → Refuses (given_up side t) h M f
 refuses_given Client t h M f r = subst (λ z. Refuses (given_up Client t) z M f) (append-nil h) (refuses_with t [] t.server_kept h [] M f r r.newest)
 refuses_given Server t h M f r = subst (λ z. Refuses (given_up Server t) z M f) (append-nil h) (refuses_with t t.client_kept [] h [] M f r (λ kept. absurd (kept refl)))
 

@@ -1,5 +1,5 @@
 -- What a talk stands for after a piece.
-use Rattle.std.proofs.Common.{◌≡◌, ℕ, ◌+◌, ◌<◌, ◌≤◌, ◌^◌, List, [], ◌∷◌, ◌++◌, length, refl, sym, ap, ◌∙◌, subst, arith, append_assoc, Option, Some}
+use Rattle.std.proofs.Common.{◌≡◌, ◌≢◌, ℕ, ◌+◌, ◌<◌, ◌≤◌, ◌^◌, List, [], ◌∷◌, ◌++◌, length, refl, sym, ap, ◌∙◌, subst, arith, append_assoc, Option, Some}
 use Rattle.std.proofs.lemmas.List.{map-append, length_push}
 use Rattle.zk_talk.specs.{declared.message.Side.Side, History.History, History.side_bytes, History.on, Conversation.Conversation, Held.Message, declared.message.Fault.Fault}
 use Rattle.zk_talk.specs.declared.message.Side.TheVariants.{Client, Server}
@@ -7,7 +7,7 @@ use Rattle.zk_frames.specs.Framing.{frame, IsBeginning}
 use Rattle.zk_jute.specs.{declared.fault.Reason.Reason, Reading.told_place}
 use Rattle.zk_waiting.specs.{declared.lane.Lane.Lane, Waiting.Lanes, Waiting.queue_on}
 use Rattle.zk_talk.specs.declared.message.MessageOf.TheVariants.{Client as FromClient, Server as FromServer}
-use Rattle.zk_talk.specs.{Fault.IsCause, Fault.IsOfItems, Fault.fault_of, Fault.side_limit, Fault.frame_count, Queues.IsQueue, Numbers.AreNumbered, Numbers.IsNewest, declared.replied.Replied.Replied, Streams.StreamState, Said.payload_of}
+use Rattle.zk_talk.specs.{Fault.IsCause, Fault.fault_of, Fault.side_limit, Fault.frame_count, Fault.rest_on, Queues.IsQueue, Numbers.AreNumbered, Numbers.IsNewest, declared.replied.Replied.Replied, Streams.StreamState, Said.payload_of}
 use Rattle.zk_talk.specs.Stands.{TalkState, Stands, Refuses, held_on, kept_on, frames_on, size_on}
 use Rattle.zk_talk.proofs.{Small.small_limits, Queues.weight_is_load}
 use Rattle.zk_talk.proofs.Standing.{own, own_rest, with_message, MayOn, Runs, frame_front, runs_client, runs_server, runs_message, bytes-on, other-on, last-on, cause_bad}
@@ -108,10 +108,17 @@ module _ (t : TalkState) (h : History) (M : List Message) (st : Stands t h M) wh
   held_is Client held fault = refl
   held_is Server held fault = refl
 
+  -- what the other side holds stays as it is
+  other_is : (side : Side) (held begun : List ℕ) (fault : Fault) (other : Side) → other ≢ side → held_on other (refusing side t held fault) ≡ rest_on other (own Client side begun t.client_held) (own Server side begun t.server_held)
+  other_is Client held begun fault Client is = absurd (is refl)
+  other_is Client held begun fault Server is = refl
+  other_is Server held begun fault Client is = refl
+  other_is Server held begun fault Server is = absurd (is refl)
+
   pub refuse : (side : Side) (held : List ℕ) (place told : ℕ) → told ≡ told_place place → (reason : Reason) (bs : List ℕ) (b : ℕ) (more : List ℕ) → IsBeginning (side_limit t.limits side) (held_on side t ++ bs) → size_on side t + length bs < 2 ^ 62 →
-      (IsOfItems reason → held ≡ (held_on side t ++ bs) ++ b ∷ []) → IsCause t.limits st.conversation side (size_on side t + length bs) (held_on side t ++ bs) b place reason →
+      (size_on side t + length bs + 1 < 2 ^ 62 → held ≡ (held_on side t ++ bs) ++ b ∷ []) → (size_on side t + length bs + 1 ≡ 2 ^ 62 → held ≡ held_on side t ++ bs) → IsCause t.limits st.conversation side (size_on side t + length bs) (held_on side t ++ bs) b place reason →
       Refuses (refusing side t held (fault_of side (frames_on side t) (size_on side t + length bs + 1) told reason)) (h ++ on side (bs ++ b ∷ more)) M (fault_of side (frames_on side t) (size_on side t + length bs + 1) told reason)
-  refuse side held place told is reason bs b more begin size kept cause =
+  refuse side held place told is reason bs b more begin size kept full cause =
       let v = st.conversation in
       let r = runs_on side bs begin size in
       let h' = h ++ on side bs in
@@ -138,10 +145,13 @@ module _ (t : TalkState) (h : History) (M : List Message) (st : Stands t h M) wh
         };
         order = r.order;
         queues = st.queues;
+        client_frames = (all_frames side).0;
         server_frames = (all_frames side).1;
         newest = newest_still side;
         load = weight_is_load v t.waiting st.queues;
-        held = λ items. held_is side held (fault_of side (frames_on side t) (size_on side t + length bs + 1) told reason) ∙ kept items ∙ ap (λ z. z ++ b ∷ []) (sym (own_rest side begun t.client_held t.server_held));
+        held = λ less. held_is side held (fault_of side (frames_on side t) (size_on side t + length bs + 1) told reason) ∙ kept less ∙ ap (λ z. z ++ b ∷ []) (sym (own_rest side begun t.client_held t.server_held));
+        too_many = λ many. held_is side held (fault_of side (frames_on side t) (size_on side t + length bs + 1) told reason) ∙ full many ∙ sym (own_rest side begun t.client_held t.server_held);
+        other = other_is side held begun (fault_of side (frames_on side t) (size_on side t + length bs + 1) told reason);
       }
 
   -- ---- A whole frame

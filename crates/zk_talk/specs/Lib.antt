@@ -25,3 +25,4 @@ pub mod Said
 pub mod SayNames
 pub mod SaidPayload
 pub mod Written
+pub mod Offered

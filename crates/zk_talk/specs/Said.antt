@@ -45,10 +45,6 @@ AreSized messages = (length (side_bytes Client (said messages)) < 2 ^ 62) × (le
 abbrev pub conversation_of : List Message → Conversation
 conversation_of messages = record { client = clients messages; server = servers messages }
 
--- the client's frame may come after those of v, within its side's limit
-abbrev pub ClientMayStand : Limits → Conversation → ClientFrame → Type 0
-ClientMayStand limits v f = ClientMay limits.profile v.client f × (length (client_payload f) ≤ limits.client)
-
 -- the frame may be said after those of v, within its side's limit and the load
 abbrev pub IsSaidClient : Limits → Conversation → ClientFrame → Type 0
 IsSaidClient limits v f = ClientMay limits.profile v.client f × (length (client_payload f) ≤ limits.client) ×
@@ -61,11 +57,6 @@ IsSaidServer limits v s = ServerMay v.client v.server s × (length (server_paylo
 abbrev pub MaySay : Limits → List Message → Message → Type 0
 MaySay limits before (FromClient f) = IsSaidClient limits (conversation_of before) f
 MaySay limits before (FromServer s) = IsSaidServer limits (conversation_of before) s
-
--- the message may come after these, and is within its side's limit: it may be said, if there is room for a request
-abbrev pub MayStand : Limits → List Message → Message → Type 0
-MayStand limits before (FromClient f) = ClientMayStand limits (conversation_of before) f
-MayStand limits before (FromServer s) = IsSaidServer limits (conversation_of before) s
 
 -- these messages, frame after frame, are a conversation within the limits and the load
 abbrev pub AreSaid : Limits → List Message → Type 0
@@ -174,9 +165,9 @@ SaysClient limits asked old f new = (welcomed : Bool) (v : Conversation) → Hea
 abbrev pub RefusesClient : Limits → Bool → Lanes → ClientFrame → SayFault → Type 0
 RefusesClient limits asked old f e = (welcomed : Bool) (v : Conversation) → Heard asked welcomed old v → IsClientRefusal limits v f e
 
--- whatever was heard, it may come after it
+-- whatever was heard, the client may say it after it
 abbrev pub StandsClient : Limits → Bool → Lanes → ClientFrame → Type 0
-StandsClient limits asked old f = (welcomed : Bool) (v : Conversation) → Heard asked welcomed old v → ClientMayStand limits v f
+StandsClient limits asked old f = (welcomed : Bool) (v : Conversation) → Heard asked welcomed old v → IsSaidClient limits v f
 
 -- and the server
 abbrev pub SaysServer : Limits → Bool → Bool → Lanes → ServerFrame → Lanes → Type 0

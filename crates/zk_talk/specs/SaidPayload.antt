@@ -8,14 +8,14 @@ use Rattle.zk_talk.specs.{declared.message.Side.Side, Held.Message, declared.lim
 use Rattle.zk_talk.specs.declared.message.Side.TheVariants.{Client, Server}
 use Rattle.zk_talk.specs.declared.payload.PayloadFault.TheVariants.{Item, Say}
 use Rattle.zk_talk.specs.{Conversation.Conversation, Conversation.ClientMay, Conversation.ServerMay, Fault.IsClientFault, Fault.IsServerFault, Judged.Tells}
-use Rattle.zk_talk.specs.Said.{SpeakerState, Says, MaySay, MayStand, Heard, SaysClient, StandsClient, IsClientRefusal, SaysServer, StandsServer, IsServerRefusal, side_of, payload_of, conversation_of}
+use Rattle.zk_talk.specs.Said.{SpeakerState, Says, MaySay, Heard, SaysClient, StandsClient, IsClientRefusal, SaysServer, StandsServer, IsServerRefusal, side_of, payload_of, conversation_of}
 
 -- the message is of this side, and has this payload
 abbrev pub HasPayload : Side → List ℕ → Message → Type 0
 HasPayload side p m = (side_of m ≡ side) × (payload_of m ≡ p)
 
--- Why the client's payload is refused after the frames of v: no frame that may come has it, and a talk finds this fault;
--- or such a frame has it, and is refused for this.
+-- Why the client's payload is refused after the frames of v: no frame that may come has it, and this is its fault, however
+-- long it is; or such a frame has it, and is refused for this.
 abbrev pub IsClientPayloadRefusal : Limits → Conversation → List ℕ → PayloadFault → Type 0
 IsClientPayloadRefusal limits v p (Item e) = Tells (IsClientFault limits v p) e ×
     ((f : ClientFrame) → client_payload f ≡ p → ClientMay limits.profile v.client f → ⊥)
@@ -43,9 +43,9 @@ SaysPayload old side p new = (m : Message) × HasPayload side p m ×
 abbrev pub RefusesPayload : SpeakerState → Side → List ℕ → PayloadFault → Type 0
 RefusesPayload s side p e = (before : List Message) → Says s before → IsPayloadRefusal s.limits before side p e
 
--- a message has the payload, which may come after those that the speaker has said, within its side's limit
+-- a message has the payload, which may be said after those that the speaker has said
 abbrev pub StandsPayload : SpeakerState → Side → List ℕ → Type 0
-StandsPayload s side p = (m : Message) × HasPayload side p m × ((before : List Message) → Says s before → MayStand s.limits before m)
+StandsPayload s side p = (m : Message) × HasPayload side p m × ((before : List Message) → Says s before → MaySay s.limits before m)
 
 -- no message that has the payload may be said after those that the speaker has said
 abbrev pub CannotSay : SpeakerState → Side → List ℕ → Type 0
@@ -65,7 +65,7 @@ SaysClientPayload limits asked old p new = (f : ClientFrame) × (client_payload 
 abbrev pub RefusesClientPayload : Limits → Bool → Lanes → List ℕ → PayloadFault → Type 0
 RefusesClientPayload limits asked old p e = (welcomed : Bool) (v : Conversation) → Heard asked welcomed old v → IsClientPayloadRefusal limits v p e
 
--- a frame has the payload, which may come whatever was heard
+-- a frame has the payload, which the client may say whatever was heard
 abbrev pub StandsClientPayload : Limits → Bool → Lanes → List ℕ → Type 0
 StandsClientPayload limits asked old p = (f : ClientFrame) × (client_payload f ≡ p) × StandsClient limits asked old f
 

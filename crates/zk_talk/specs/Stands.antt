@@ -1,9 +1,9 @@
 -- Which history a talk has come through.
-use Rattle.std.specs.Prelude.{◌≡◌, ℕ, List, [], ◌∷◌, ◌++◌, length, Option, Some, None}
+use Rattle.std.specs.Prelude.{◌≡◌, ◌≢◌, ℕ, ◌<◌, ◌^◌, List, [], ◌∷◌, ◌++◌, length, Option, Some, None}
 use Rattle.zk_waiting.specs.{declared.lane.Lane.Lane, Waiting.Lanes, Waiting.queue_on, Waiting.weight_of}
 use Rattle.zk_talk.specs.{declared.message.Side.Side, Held.Message, declared.message.Fault.Fault, declared.limits.Limits.Limits, History.History, History.side_bytes, Conversation.Conversation, Conversation.load, Good.Good, Good.IsOrder}
 use Rattle.zk_talk.specs.declared.message.Side.TheVariants.{Client, Server}
-use Rattle.zk_talk.specs.{Fault.IsFaultOf, Fault.IsOfItems, Fault.rest_on, Queues.IsQueue, Numbers.AreNumbered, Numbers.IsNewest, declared.replied.Replied.Replied}
+use Rattle.zk_talk.specs.{Fault.IsFaultOf, Fault.rest_on, Queues.IsQueue, Numbers.AreNumbered, Numbers.IsNewest, declared.replied.Replied.Replied}
 
 -- what is known of a talk; `answered` is the request that the newest frame of the server that was kept answers
 pub record TalkState : Type 0 where
@@ -52,17 +52,20 @@ abbrev pub WhereItStands : TalkState → (Conversation → List ℕ → List ℕ
 WhereItStands t Says = (h : History) (M : List Message) (v : Conversation) (client_rest server_rest : List ℕ)
     → Stands t h M → Good t.limits h v client_rest server_rest → Says v client_rest server_rest
 
--- The talk has refused this history, after these messages. What waits is what waited before the byte that decided it,
--- and where that byte made a frame whole whose items are bad, the frame is still held.
+-- The talk has refused this history, after these messages. The counts of frames and what waits are those before the byte
+-- that decided it. Each side holds its beginning of then; that byte's side holds the byte too, unless it is one too many.
 pub record Refuses (t : TalkState) (h : History) (messages : List Message) (fault : Fault) : Type 0 where
   pub kept : t.fault ≡ Some fault
   pub is : IsFaultOf t.limits h fault
   pub order : IsOrder t.limits is.before is.conversation messages
   pub queues : (lane : Lane) → IsQueue lane is.conversation (queue_on lane t.waiting)
+  pub client_frames : t.client_frames ≡ length is.conversation.client
   pub server_frames : t.server_frames ≡ length is.conversation.server
   pub newest : (t.server_kept ≡ [] → ⊥) → IsNewest is.conversation t.answered
   pub load : weight_of t.waiting ≡ load is.conversation.client is.conversation.server
-  pub held : IsOfItems fault.reason → held_on fault.side t ≡ rest_on fault.side is.client_rest is.server_rest ++ is.byte ∷ []
+  pub held : fault.offset < 2 ^ 62 → held_on fault.side t ≡ rest_on fault.side is.client_rest is.server_rest ++ is.byte ∷ []
+  pub too_many : fault.offset ≡ 2 ^ 62 → held_on fault.side t ≡ rest_on fault.side is.client_rest is.server_rest
+  pub other : (side : Side) → side ≢ fault.side → held_on side t ≡ rest_on side is.client_rest is.server_rest
 
 -- this holds of the conversation before the fault of any history that the talk has refused
 abbrev pub WhereItRefuses : TalkState → (Conversation → Type 0) → Type 0

@@ -8,7 +8,7 @@ use Rattle.zk_answers.specs.Held.{ServerFrame}
 use Rattle.zk_answers.specs.declared.frame.ServerFrameOf.TheVariants as server
 use Rattle.zk_answers.specs.Frames as answers
 use Rattle.zk_waiting.specs.Waiting.{Lanes}
-use Rattle.zk_talk.specs.{Held.Message, declared.limits.Limits.Limits, declared.message.Kind.Kind, Payloads.client_payload, Payloads.server_payload, Said.SpeakerState, Said.Says, Said.MaySay, Said.SaysClient, Said.SaysServer, Said.payload_of}
+use Rattle.zk_talk.specs.{Held.Message, declared.limits.Limits.Limits, declared.message.Kind.Kind, declared.say.SayFault.SayFault, Payloads.client_payload, Payloads.server_payload, Said.SpeakerState, Said.Says, Said.MaySay, Said.IsSayFault, Said.SaysClient, Said.SaysServer, Said.payload_of}
 use Rattle.zk_talk.specs.declared.message.MessageOf.TheVariants as message
 use Rattle.zk_talk.specs.declared.message.Kind.TheVariants.{Connect, Ask, Connected, Answered, Event}
 
@@ -44,6 +44,14 @@ SaysWritten old kind p new = (m : Message) → IsWritten kind p m →
 abbrev pub SaysKind : SpeakerState → Kind → List ℕ → SpeakerState → Type 0
 SaysKind old kind p new = (m : Message) × (kind_of m ≡ kind) × (payload_of m ≡ p) ×
     ((before : List Message) → Says old before → MaySay old.limits before m × Says new (before ++ m ∷ []))
+
+-- a message of this kind and payload is refused after those that the speaker has said, and this is why
+abbrev pub RefusesWritten : SpeakerState → Kind → List ℕ → SayFault → Type 0
+RefusesWritten old kind p e = (m : Message) → IsWritten kind p m → (before : List Message) → Says old before → IsSayFault old.limits before m e
+
+-- no message of this kind and payload may be said after them
+abbrev pub CannotSayWritten : SpeakerState → Kind → List ℕ → Type 0
+CannotSayWritten old kind p = (m : Message) → IsWritten kind p m → (before : List Message) → Says old before → MaySay old.limits before m → ⊥
 
 -- whatever was heard, the client may say its message of this kind and payload, and has said it
 abbrev pub SaysClientWritten : Limits → Bool → Kind → Lanes → List ℕ → Lanes → Type 0

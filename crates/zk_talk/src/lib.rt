@@ -3,7 +3,7 @@
 //! A `Talk` is fed the bytes of both sides, piece by piece, in the order in which they came. `Talk::step` is the main
 //! call: it takes a piece up to the end of the first frame that becomes whole, judges the frame, and keeps it until the
 //! side's next call; `Talk::view` shows its message, borrowed. `Talk::pass` keeps no frame, and `Talk::take` returns an
-//! owned message.
+//! owned message. `Talk::offer` takes a whole frame only if it may come next.
 //! `Talk::finish` says how the bytes so far end: whole, within a frame, or refused with a `Fault`. `read_all` is all of
 //! it for a list of pieces.
 //!
@@ -21,9 +21,9 @@
 //!
 //! ```text
 //! let mut talk = Talk::new(rt.alloc(), limits)?;
-//! let stepped = talk.step(Side::Client, piece)?; // stepped.used bytes of the piece were used
-//! let message = talk.view(Side::Client);         // Some if stepped.whole: the message, borrowed
-//! let ending = talk.finish();                    // Whole, Cut or Refused
+//! let stepped = talk.step(Side::Client, CONNECT)?; // the bytes of a frame: a connect request
+//! assert!(rt; stepped.whole && talk.view(Side::Client).is_some());
+//! assert!(rt; talk.finish() == Ending::Whole { unanswered: 1 });
 //! ```
 //!
 //! # Choices
@@ -36,6 +36,9 @@
 //! **A kept frame is no part of the history.** `TalkState` has it beside what is held, so dropping it changes nothing
 //! that is known. The next call on that side drops it, whatever it returns. A refused frame stays held.
 //!
+//! **An offer is judged in the caller's bytes.** The judge changes nothing unless the frame may come; only then is it
+//! copied, over the one that is kept. So a refusal leaves all as it was.
+//!
 //! **A view needs the kept bytes and one word.** A reply doesn't name its operation, and its request has left the
 //! queue; so the talk keeps the operation beside the frame. The invariant says that what is kept is such a frame, so
 //! `view` has no fault to return. That a view is dropped in time is the borrow checker's matter
@@ -47,27 +50,28 @@
 //! said; only a reader refuses a byte too many.
 #![tactic(auto)]
 
-mod by_side;
-mod counts;
+mod client_and_server;
 mod frame;
 mod fronts;
+mod held_counts;
 mod judge;
 mod laws;
 mod limits;
 mod message;
+mod offer;
 mod pass;
 mod payload;
 mod read;
-mod received;
+mod receive_piece;
 mod refused;
 mod replied;
-mod round;
 mod say;
+mod saying_laws;
 mod speaker;
 mod stream;
 mod talk;
 mod view;
-mod written;
+mod written_message;
 
 pub use fronts::front_comes_first;
 pub use laws::history_laws;
@@ -75,9 +79,10 @@ pub use limits::Limits;
 pub use message::{Ended, Ending, Fault, Kind, Message, MessageOf, MessageRef, Side};
 pub use payload::PayloadFault;
 pub use read::read_all;
-pub use received::{receive, refuse};
-pub use round::{order_is_said, read_is_said, said_is_read, say_laws};
+pub use receive_piece::{next_fault, receive, refuse};
 pub use say::{SayFault, say_name};
+pub use saying_laws::{order_is_said, read_is_said, said_is_read, say_laws};
 pub use speaker::Speaker;
-pub use stream::{Advance, Stream};
+pub use stream::{Advance, Stream, carried};
 pub use talk::{Stepped, Taken, Talk};
+pub use view::message_ref;

@@ -53,7 +53,7 @@ impl Limits {
         }
     }
 
-    /// The longest payload of the client, in bytes.
+    /// The longest payload of the client, in bytes; ZooKeeper's server has `jute.maxbuffer` for it.
     pub fn client(&self) -> u32
         ensures { result ≡ self.now.client }
     {
@@ -67,7 +67,7 @@ impl Limits {
         self.server
     }
 
-    /// The greatest weight of the requests that wait.
+    /// The greatest weight of the requests that wait: 1 each, and 1 more for each part of a multi.
     pub fn waiting(&self) -> u32
         ensures { result ≡ self.now.waiting }
     {

@@ -10,7 +10,7 @@ use zk_asks::{ClientFrame, ClientRef};
 use zk_jute::Reason;
 use zk_records::{Op, Own};
 
-/// The side that sends.
+/// The side that sends: `C` and `S` in lines and recordings, 0 and 1 for C.
 #[derive(Clone, Copy, Debug, PartialEq, Eq)]
 pub enum Side {
     Client,
@@ -27,7 +27,7 @@ impl Display for Side {
     }
 }
 
-/// What is sent in one frame.
+/// What is sent in one frame: the payload's message, of the side that sent it.
 #[derive(Drop)]
 pub enum MessageOf<C, S> {
     /// A frame of the client.
@@ -100,7 +100,7 @@ pub struct Fault {
     pub frame: u64,
     /// The number of that side's bytes up to and with the one that decided it.
     pub offset: u64,
-    /// The offset in the frame's payload, in bytes.
+    /// The offset in the frame's payload, in bytes; 0 if the fault is one of the frame's length or turn.
     pub place: u32,
     /// What is wrong there.
     pub reason: Reason,

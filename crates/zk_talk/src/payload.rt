@@ -17,7 +17,8 @@ use zk_waiting::Awaited;
 /// Why a payload can't be said.
 #[derive(Clone, Copy, Debug, PartialEq, Eq)]
 pub enum PayloadFault {
-    /// No message that may come next has the payload: the fault that a talk would find, and its place.
+    /// No message that may come next has the payload: the fault that a talk finds in it, if it takes payloads of this
+    /// length, and its place.
     Item(ItemFault),
     /// Its message can't be said: `TooLong`, `QueueFull` or `NoMemory`.
     Say(SayFault),
@@ -67,7 +68,7 @@ pub fn say_client_payload(
     ensures said { OnOk result (SaysClientPayload limits asked waiting.old payload.now waiting.new) }
     ensures same { OnErr result ((waiting.new ≡ waiting.old) × (out.new.items ≡ out.old.items)) }
     ensures err { IfErr result (λ e. (e ≡ Say NoMemory) ⊎ RefusesClientPayload limits asked waiting.old payload.now e) }
-    // Memory is needed only for what may come, within its limit.
+    // Memory is needed only for what may be said.
     ensures lacks { IfErr result (λ e. e ≡ Say NoMemory → StandsClientPayload limits asked waiting.old payload.now) }
 {
     let count = u64::from(asked);

@@ -66,6 +66,10 @@ fn take_all(
 
 /// The conversation that `pieces` spell, however they were cut: its messages in the order of their last bytes, and how
 /// it ends. Nothing is read after a fault.
+///
+/// # Errors
+///
+/// `AllocError` if memory is refused, for the talk or for a message.
 pub fn read_all(
     alloc: Global,
     limits: Limits,

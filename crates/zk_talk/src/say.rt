@@ -5,7 +5,7 @@ ghost use Rattle.zk_records.specs.Codes.{HasOp};
 ghost use Rattle.zk_asks.specs.Frames as asks;
 ghost use Rattle.zk_answers.specs.Frames as answers;
 ghost use Rattle.zk_frames.specs.Framing.{frame};
-ghost use Rattle.zk_talk.specs.{declared.limits.Limits.Limits, declared.say.SayFault.TheVariants.NoMemory, Payloads.client_payload, Payloads.server_payload, Judged.IsRemembered};
+ghost use Rattle.zk_talk.specs.{declared.limits.Limits.Limits, declared.say.SayFault.TheVariants.NoMemory, Payloads.client_payload, Payloads.server_payload, Judged.IsRemembered, Judged.HasRoomFor};
 ghost use Rattle.zk_talk.specs.SayNames as names;
 ghost use Rattle.zk_talk.specs.Said.{MayAsk, IsUnwritten, IsUnput, FitsNext, IsUnfit, MayAnswer, CannotAnswer, SaysClient, StandsClient, RefusesClient, SaysServer, StandsServer, RefusesServer};
 
@@ -77,14 +77,11 @@ pub fn put_length(size: u32, out: &mut Vec<u8>) -> Result<(), AllocError>
     Ok(())
 }
 
-/// Appends the frame of a message whose payload is at most `$limit` bytes, and is written by `$write`.
+/// Appends the frame of a message whose payload has `$size` bytes, and is written by `$write`.
 macro_rules! put {
-    ($message:ident, $limit:ident, $out:ident, $write:ident) => {{
-        let Some(size) = $message.size_within($limit) else {
-            return Err(SayFault::TooLong);
-        };
+    ($message:ident, $size:ident, $out:ident, $write:ident) => {{
         let start = $out.len();
-        let Ok(()) = put_length(size, $out) else {
+        let Ok(()) = put_length($size, $out) else {
             return Err(SayFault::NoMemory);
         };
         let Ok(()) = $write($message, $out) else {
@@ -95,18 +92,16 @@ macro_rules! put {
     }};
 }
 
-/// Appends the frame of a message of the client, whose payload is at most `limit` bytes.
-fn put_client(message: &ClientFrame, limit: u32, out: &mut Vec<u8>) -> Result<(), SayFault>
+/// Appends the frame of a message of the client, whose payload has `size` bytes.
+fn put_client(message: &ClientFrame, size: u32, out: &mut Vec<u8>) -> Result<(), SayFault>
     requires allowed { asks.MaySend message.now }
-    requires limit { limit ≤ 16777216 }
-    ensures fits { OnOk result (Fit limit (asks.frame_items message.now)) }
+    requires fits { Fit 2147483647 (asks.frame_items message.now) }
+    requires size { size ≡ length (asks.payload message.now) }
     ensures ok { OnOk result (out.new.items ≡ out.old.items ++ frame (client_payload message.now)) }
     ensures same { OnErr result (out.new.items ≡ out.old.items) }
-    ensures err { IfErr result (IsUnwritten limit (asks.frame_items message.now)) }
-    // Memory is needed for what fits alone.
-    ensures lacks { IfErr result (λ e. e ≡ NoMemory → Fit limit (asks.frame_items message.now)) }
+    ensures err { IfErr result (λ e. e ≡ NoMemory) }
 {
-    put!(message, limit, out, write_client)
+    put!(message, size, out, write_client)
 }
 
 /// Appends the frame of a message of the server, whose payload is at most `limit` bytes.
@@ -120,7 +115,10 @@ fn put_server(message: &ServerFrame, limit: u32, out: &mut Vec<u8>) -> Result<()
     // Memory is needed for what fits alone.
     ensures lacks { IfErr result (λ e. e ≡ NoMemory → Fit limit (answers.frame_items message.now)) }
 {
-    put!(message, limit, out, write_server)
+    let Some(size) = message.size_within(limit) else {
+        return Err(SayFault::TooLong);
+    };
+    put!(message, size, out, write_server)
 }
 
 fn is_connect(message: &ClientFrame) -> bool
@@ -150,6 +148,16 @@ fn may_ask(limits: Limits, message: &ClientFrame) -> bool
         ClientFrame::Ask { xid, ask } => {
             allowed(*xid, ask.op()) && is_of(limits.profile(), ask.op())
         }
+    }
+}
+
+/// Whether there is room for the message's request to wait for its reply.
+fn has_room(waiting: &Awaited, message: &ClientFrame) -> bool
+    ensures { IsTrue result ↔ HasRoomFor message.now waiting.now }
+{
+    match message {
+        ClientFrame::Connect { .. } => true,
+        ClientFrame::Ask { ask, .. } => waiting.has_room_for(ask.parts().len() as u64),
     }
 }
 
@@ -183,10 +191,11 @@ pub fn say_client(
     requires room { waiting.old.max ≡ limits.waiting }
     ensures max { waiting.new.max ≡ waiting.old.max }
     ensures bytes { OnOk result (out.new.items ≡ out.old.items ++ frame (client_payload message.now)) }
+    ensures within { OnOk result (length (client_payload message.now) ≤ limits.client) }
     ensures said { OnOk result (SaysClient limits asked waiting.old message.now waiting.new) }
     ensures same { OnErr result ((waiting.new ≡ waiting.old) × (out.new.items ≡ out.old.items)) }
     ensures err { IfErr result (λ e. (e ≡ NoMemory) ⊎ RefusesClient limits asked waiting.old message.now e) }
-    // Memory is needed only for what may come, within its limit.
+    // Memory is needed only for what may be said.
     ensures lacks { IfErr result (λ e. e ≡ NoMemory → StandsClient limits asked waiting.old message.now) }
 {
     if is_connect(message) == asked {
@@ -195,8 +204,14 @@ pub fn say_client(
     if !may_ask(limits, message) {
         return Err(SayFault::Misfit);
     }
+    let Some(size) = message.size_within(limits.client()) else {
+        return Err(SayFault::TooLong);
+    };
+    if !has_room(waiting, message) {
+        return Err(SayFault::QueueFull);
+    }
     let start = out.len();
-    match put_client(message, limits.client(), out) {
+    match put_client(message, size, out) {
         Ok(()) => {}
         Err(e) => return Err(e),
     }
@@ -270,6 +285,7 @@ pub fn say_server(
 ) -> Result<(), SayFault>
     ensures max { waiting.new.max ≡ waiting.old.max }
     ensures bytes { OnOk result (out.new.items ≡ out.old.items ++ frame (server_payload message.now)) }
+    ensures within { OnOk result (length (server_payload message.now) ≤ limits.server) }
     ensures said { OnOk result (SaysServer limits asked welcomed waiting.old message.now waiting.new) }
     ensures same { OnErr result ((waiting.new ≡ waiting.old) × (out.new.items ≡ out.old.items)) }
     ensures err { IfErr result (λ e. (e ≡ NoMemory) ⊎ RefusesServer limits asked welcomed waiting.old message.now e) }

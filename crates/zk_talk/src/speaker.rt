@@ -2,14 +2,16 @@
 ghost use Rattle.std.specs.Prelude.{◌≡◌, ◌≢◌, ◌+◌, ◌≤◌, ◌++◌, ◌⊎◌, ◌∷◌, [], List, length, take, drop, false, IsTrue, OnOk, OnErr, IfOk, IfErr};
 ghost use Rattle.zk_frames.specs.Framing.{frame};
 ghost use Rattle.zk_talk.specs.{Held.Message, declared.say.SayFault.TheVariants.NoMemory, Ending.unanswered, declared.payload.PayloadFault.TheVariants.Say};
-ghost use Rattle.zk_talk.specs.{Said.Says, Said.MaySay, Said.MayStand, Said.IsSayFault, Said.payload_of, Said.conversation_of, Written.SaysKind, Written.SaysWritten};
+ghost use Rattle.zk_talk.specs.{Said.Says, Said.MaySay, Said.IsSayFault, Said.payload_of, Said.side_of, Said.conversation_of, Fault.side_limit};
+ghost use Rattle.zk_talk.specs.Written.{IsWritten, SaysKind, SaysWritten, RefusesWritten, CannotSayWritten};
 ghost use Rattle.zk_talk.specs.SaidPayload.{SaysPayload, RefusesPayload, StandsPayload, CannotSay};
 
 use crate::limits::Limits;
 use crate::message::{Kind, Message, Side};
 use crate::payload::{PayloadFault, say_client_payload, say_server_payload};
 use crate::say::{SayFault, say_client, say_server};
-use crate::written::{await_written, forget_written, put_in_length};
+use crate::view::message_ref;
+use crate::written_message::{await_written, forget_written, put_in_length};
 use std::alloc::{AllocError, Global};
 use std::marker::Model;
 use zk_waiting::Awaited;
@@ -88,13 +90,15 @@ impl Speaker {
     pub fn say(&mut self, message: &Message, out: &mut Vec<u8>) -> Result<(), SayFault>
         ensures limits { self.new.limits ≡ self.old.limits }
         ensures bytes { OnOk result (out.new.items ≡ out.old.items ++ frame (payload_of message.now)) }
+        // Its payload is no longer than its side's limit.
+        ensures within { OnOk result (length (payload_of message.now) ≤ side_limit self.old.limits (side_of message.now)) }
         // It may be said, and was said.
         ensures said { OnOk result ((M : List Message) → Says self.old M → MaySay self.old.limits M message.now × Says self.new (M ++ message.now ∷ [])) }
         ensures same { OnErr result ((self.new ≡ self.old) × (out.new.items ≡ out.old.items)) }
         // Memory was refused, or the message is, by this case.
         ensures err { IfErr result (λ e. (e ≡ NoMemory) ⊎ ((before : List Message) → Says self.old before → IsSayFault self.old.limits before message.now e)) }
-        // Memory is needed only for a message that may come after those said, within its side's limit.
-        ensures lacks { IfErr result (λ e. e ≡ NoMemory → (before : List Message) → Says self.old before → MayStand self.old.limits before message.now) }
+        // Memory is needed only for a message that may be said.
+        ensures lacks { IfErr result (λ e. e ≡ NoMemory → (before : List Message) → Says self.old before → MaySay self.old.limits before message.now) }
         // Only what may not be said is refused, unless memory was.
         ensures exact { IfErr result (λ e. e ≢ NoMemory → (before : List Message) → Says self.old before → MaySay self.old.limits before message.now → ⊥) }
     {
@@ -128,7 +132,7 @@ impl Speaker {
         ensures same { OnErr result ((self.new ≡ self.old) × (out.new.items ≡ out.old.items)) }
         // Memory was refused, or the payload is, by this case.
         ensures err { IfErr result (λ e. (e ≡ Say NoMemory) ⊎ RefusesPayload self.old side payload.now e) }
-        // Memory is needed only for a payload whose message may come after those said, within its side's limit.
+        // Memory is needed only for a payload whose message may be said.
         ensures lacks { IfErr result (λ e. e ≡ Say NoMemory → StandsPayload self.old side payload.now) }
         // Only a payload of which no message may be said is refused, unless memory was.
         ensures exact { IfErr result (λ e. e ≢ Say NoMemory → CannotSay self.old side payload.now) }
@@ -143,8 +147,7 @@ impl Speaker {
         }
     }
 
-    /// Judges the message of this kind and payload, and says it, but for its bytes; false: undecided, or it can't be said, and
-    /// nothing changed.
+    /// Judges the message of this kind and payload, and says it, but for its bytes; false: undecided, and nothing changed.
     fn judge_written(&mut self, kind: Kind, payload: &[u8]) -> bool
         ensures limits { self.new.limits ≡ self.old.limits }
         ensures small { IsTrue result → length payload.now ≤ 16777216 }
@@ -176,25 +179,78 @@ impl Speaker {
         true
     }
 
-    /// Says the message of this kind whose payload is `out[start + 4..]`, as `say` does: the payload's length is put into
-    /// the four bytes at `start`. False: undecided, or it can't be said; the speaker and `out` are then unchanged. Allocates
-    /// nothing.
-    // Stands for `say` of the message, which isn't made.
-    pub fn say_written(&mut self, kind: Kind, start: usize, out: &mut Vec<u8>) -> bool
-        requires { start + 4 ≤ length out.old.items }
+    /// Says the message of this kind and payload, which is made, but for its bytes.
+    // For a message that `judge_written` leaves undecided: `say` knows why it can't be said.
+    #[inline(never)]
+    fn say_made(&mut self, kind: Kind, payload: &[u8]) -> Result<(), SayFault>
+        requires written { (m : Message) × IsWritten kind payload.now m }
         ensures limits { self.new.limits ≡ self.old.limits }
-        ensures bytes { IsTrue result → out.new.items ≡ take start out.old.items ++ frame (drop (start + 4) out.old.items) }
-        // The message of the kind that has the payload may be said, and was said.
-        ensures said { IsTrue result → SaysWritten self.old kind (drop (start + 4) out.old.items) self.new }
-        // There is such a message.
-        ensures there { IsTrue result → SaysKind self.old kind (drop (start + 4) out.old.items) self.new }
-        ensures same { result ≡ false → (self.new ≡ self.old) × (out.new.items ≡ out.old.items) }
+        ensures small { OnOk result (length payload.now ≤ 16777216) }
+        ensures said { OnOk result (SaysWritten self.old kind payload.now self.new) }
+        ensures there { OnOk result (SaysKind self.old kind payload.now self.new) }
+        ensures same { OnErr result (self.new ≡ self.old) }
+        ensures err { IfErr result (λ e. (e ≡ NoMemory) ⊎ RefusesWritten self.old kind payload.now e) }
+        ensures exact { IfErr result (λ e. e ≢ NoMemory → CannotSayWritten self.old kind payload.now) }
     {
-        if !self.judge_written(kind, &out[start + 4..]) {
-            return false;
+        let Ok(message) = message_ref(kind, payload).to_message(self.alloc) else {
+            return Err(SayFault::NoMemory);
+        };
+        let mut frame = Vec::new(self.alloc);
+        match self.say(&message, &mut frame) {
+            Ok(()) => Ok(()),
+            Err(e) => Err(e),
+        }
+    }
+
+    /// Says the message of this kind and payload, but for its bytes.
+    fn say_known(&mut self, kind: Kind, payload: &[u8]) -> Result<(), SayFault>
+        requires written { (m : Message) × IsWritten kind payload.now m }
+        ensures limits { self.new.limits ≡ self.old.limits }
+        ensures small { OnOk result (length payload.now ≤ 16777216) }
+        ensures said { OnOk result (SaysWritten self.old kind payload.now self.new) }
+        ensures there { OnOk result (SaysKind self.old kind payload.now self.new) }
+        ensures same { OnErr result (self.new ≡ self.old) }
+        ensures err { IfErr result (λ e. (e ≡ NoMemory) ⊎ RefusesWritten self.old kind payload.now e) }
+        ensures exact { IfErr result (λ e. e ≢ NoMemory → CannotSayWritten self.old kind payload.now) }
+    {
+        if self.judge_written(kind, payload) {
+            return Ok(());
+        }
+        self.say_made(kind, payload)
+    }
+
+    /// Says the message of this kind whose payload is `out[start + 4..]`, as `say` does: the payload's length is put into
+    /// the four bytes at `start`. A message that may be said isn't made, and nothing is allocated.
+    ///
+    /// # Errors
+    ///
+    /// Those of `say`. The speaker and `out` are then unchanged.
+    pub fn say_written(
+        &mut self,
+        kind: Kind,
+        start: usize,
+        out: &mut Vec<u8>,
+    ) -> Result<(), SayFault>
+        requires room { start + 4 ≤ length out.old.items }
+        requires written { (m : Message) × IsWritten kind (drop (start + 4) out.old.items) m }
+        ensures limits { self.new.limits ≡ self.old.limits }
+        ensures bytes { OnOk result (out.new.items ≡ take start out.old.items ++ frame (drop (start + 4) out.old.items)) }
+        // The message of the kind that has the payload may be said, and was said.
+        ensures said { OnOk result (SaysWritten self.old kind (drop (start + 4) out.old.items) self.new) }
+        // There is such a message.
+        ensures there { OnOk result (SaysKind self.old kind (drop (start + 4) out.old.items) self.new) }
+        ensures same { OnErr result ((self.new ≡ self.old) × (out.new.items ≡ out.old.items)) }
+        // Memory was refused, or the message is, by this case.
+        ensures err { IfErr result (λ e. (e ≡ NoMemory) ⊎ RefusesWritten self.old kind (drop (start + 4) out.old.items) e) }
+        // Only what may not be said is refused, unless memory was.
+        ensures exact { IfErr result (λ e. e ≢ NoMemory → CannotSayWritten self.old kind (drop (start + 4) out.old.items)) }
+    {
+        match self.say_known(kind, &out[start + 4..]) {
+            Ok(()) => {}
+            Err(e) => return Err(e),
         }
         put_in_length(start, out.as_mut_slice());
-        true
+        Ok(())
     }
 
     /// The number of the client's messages without a reply, the connect request included.

@@ -1,7 +1,7 @@
 //! `Stream`: one side's bytes, and what a piece does to its frame.
 ghost use Rattle.std.specs.Prelude.{◌≡◌, ◌≤◌, ◌<◌, ◌+◌, ◌^◌, ℕ, [], length, take, IfOk, IfSome, IfNone, MatchOption};
 ghost use Rattle.zk_frames.specs.Framing.{frame, IsBeginning, IsFrame};
-ghost use Rattle.zk_talk.specs.{Advance.IsAdvance, Streams.IsAtFrame, Streams.TakenBack, Streams.passed, Streams.kept_now};
+ghost use Rattle.zk_talk.specs.{Advance.IsAdvance, Streams.IsAtFrame, Streams.TakenBack, Streams.passed, Streams.kept_now, Streams.held_in, Offered.IsOffered};
 ghost use Rattle.zk_talk.specs.declared.stream.Advance.TheVariants.{Within, Whole};
 
 use std::alloc::{AllocError, Global};
@@ -19,7 +19,7 @@ pub enum Advance {
     Refused(usize, Reason),
 }
 
-/// One side of a conversation.
+/// One side of a conversation: how many frames and bytes of it have come, and those of its newest frame.
 #[derive(Drop)]
 pub struct Stream {
     frames: Frames,
@@ -229,6 +229,35 @@ impl Stream {
         self.frames.front(first_bytes(piece, room))
     }
 
+    /// What `take` would do with these bytes, if they are one frame, or begin with a length out of range; else `Within`: they
+    /// are less than one frame, or more, or another is begun. Takes nothing, and a kept frame doesn't matter.
+    pub fn offered(&self, bytes: &[u8]) -> Advance
+        requires size { self.now.size < 2 ^ 62 }
+        ensures { IsOffered self.now bytes.now result }
+    {
+        if self.held() > 0 {
+            return Advance::Within;
+        }
+        let room = within(self.size, bytes);
+        match self.frames.is_one(bytes) {
+            Ok(false) => Advance::Within,
+            Ok(true) => {
+                if room < bytes.len() {
+                    Advance::Refused(room + 1, Reason::StreamEnd)
+                } else {
+                    Advance::Whole(bytes.len())
+                }
+            }
+            Err(FrameFault::LengthRange) => {
+                if room < 4 {
+                    Advance::Refused(room + 1, Reason::StreamEnd)
+                } else {
+                    Advance::Refused(4, Reason::LengthRange)
+                }
+            }
+        }
+    }
+
     /// Takes the whole frame at the front of `piece`, if no byte is held, and returns the number of its bytes; `None`:
     /// undecided, and nothing changed.
     #[inline(always)]
@@ -278,6 +307,19 @@ impl Stream {
     {
         self.count += 1;
         self.size += used as u64;
+    }
+
+    /// Counts a whole frame, none of which is held, and keeps it in place of the kept one.
+    pub fn keep_whole(&mut self, bytes: &[u8])
+        requires none { self.old.held ≡ [] }
+        requires whole { IsFrame self.old.limit bytes.now }
+        requires fits { (self.old.size + length bytes.now < 2 ^ 62) × (self.old.count ≤ self.old.size) }
+        ensures { self.new ≡ kept_now (held_in self.old bytes.now) (length bytes.now) }
+    {
+        self.frames.put(bytes);
+        self.kept = true;
+        self.count += 1;
+        self.size += bytes.len() as u64;
     }
 
     /// Counts the whole frame, whose last `used` bytes are new, and keeps it.

@@ -119,9 +119,9 @@ impl Talk {
         self.fault = None;
     }
 
-    /// Drops the side's kept frame.
+    /// Drops the frame that the side keeps, if it keeps one. Whatever comes then is judged as it would have been.
     #[inline(always)]
-    pub(crate) fn give_up(&mut self, side: Side)
+    pub fn give_up(&mut self, side: Side)
         ensures { self.new ≡ given_up side self.old }
     {
         match side {
@@ -254,8 +254,8 @@ impl Talk {
     }
 
     /// The message of the frame that the side keeps: its texts and blobs are borrowed from the frame, its lists walked by
-    /// iterators, and nothing is allocated. `Some` exactly if the side's last `take` or `step` was a step that made a frame
-    /// whole.
+    /// iterators, and nothing is allocated. `Some` exactly if the side's last call that wasn't a refused offer was a step that
+    /// made a frame whole, or an offer.
     pub fn view(&self, side: Side) -> Option<MessageRef<'_>>
         ensures shown { MatchOption result (kept_on side self.now ≡ []) (λ m. Shows self.now side m) }
         ensures none { kept_on side self.now ≡ [] → result ≡ None }

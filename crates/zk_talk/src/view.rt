@@ -3,11 +3,12 @@ ghost use Rattle.std.specs.Prelude.{◌≡◌};
 ghost use Rattle.zk_frames.specs.Framing.{frame};
 ghost use Rattle.zk_asks.specs.Held as asks;
 ghost use Rattle.zk_answers.specs.Held as answers;
-ghost use Rattle.zk_talk.specs.Viewed.{ShowsClient, ShowsServer};
+ghost use Rattle.zk_talk.specs.{Held.Message, Viewed.ShowsClient, Viewed.ShowsServer, Written.IsWritten};
 
+use crate::message::{Kind, MessageOf, MessageRef};
 use crate::replied::Replied;
-use zk_answers::{ServerRef, connected_ref, event_ref, reply_ref};
-use zk_asks::{ClientRef, client_ref};
+use zk_answers::{ServerRef, connected_ref, event_ref, reply_ref, written_reply_ref};
+use zk_asks::{ClientRef, client_ref, written_ref};
 
 /// The frame of the client's `payload`, the last of `count` frames.
 pub fn shown_client(count: u64, payload: &[u8]) -> ClientRef<'_>
@@ -30,5 +31,19 @@ pub fn shown_server(count: u64, answered: Option<Replied>, payload: &[u8]) -> Se
         Some(request) => reply_ref(request.op, payload),
         None if count == 1 => connected_ref(payload),
         None => event_ref(payload),
+    }
+}
+
+/// The message of this kind that has the payload, borrowed. Nothing is judged.
+pub fn message_ref(kind: Kind, payload: &[u8]) -> MessageRef<'_>
+    requires { (m : Message) × IsWritten kind payload.now m }
+    ensures { (m : Message) → IsWritten kind payload.now m → result ≡ m }
+{
+    match kind {
+        Kind::Connect => MessageOf::Client(written_ref(true, payload)),
+        Kind::Ask => MessageOf::Client(written_ref(false, payload)),
+        Kind::Connected => MessageOf::Server(connected_ref(payload)),
+        Kind::Event => MessageOf::Server(event_ref(payload)),
+        Kind::Answered(op) => MessageOf::Server(written_reply_ref(op, payload)),
     }
 }

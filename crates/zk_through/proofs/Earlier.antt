@@ -1,5 +1,5 @@
 -- Whether a reply is to a request that wasn't seen, by what waits.
-use Rattle.std.proofs.Common.{◌≡◌, ◌≢◌, ℕ, ◌≤◌, ℤ, List, [], ◌∷◌, ◌++◌, length, map, drop, refl, sym, ap, ◌∙◌, subst, arith, Bool, true, false, Some, None}
+use Rattle.std.proofs.Common.{◌≡◌, ◌≢◌, ℕ, ◌≤◌, ℤ, List, [], ◌∷◌, ◌++◌, length, drop, refl, sym, ap, ◌∙◌, subst, arith, Bool, true, false, Some, None}
 use Rattle.std.specs.Prelude.{slice_get, ◌||◌}
 use Rattle.std.specs.{List.list_any, Ordering.int_eq}
 use Rattle.std.proofs.{lemmas.Bool.false≢true, lemmas.List.nil_from_length}
@@ -9,7 +9,7 @@ use Rattle.zk_waiting.specs.declared.lane.Lane.TheVariants.{Ping, Auth, Watches,
 use Rattle.zk_talk.specs.declared.message.Side.TheVariants.{Client, Server}
 use Rattle.zk_through.specs.{declared.turn.Turn.Turn, Came.Came, Came.payloads, Unseen.IsToEarlier, Unseen.IsSeen, Unseen.TellsMatched}
 use Rattle.zk_through.specs.LeftOut.{xid_of, has_turn, lane_in, is_on, asked, replied}
-use Rattle.zk_through.specs.Turns.{TurnsState, AreLanes, turn_of, waits_on, IsEarlierOn, IsEarlier, matched_on}
+use Rattle.zk_through.specs.Turns.{TurnsState, AreLanes, AreRequests, waits_on, IsEarlierOn, IsEarlier, matched_on}
 use Rattle.zk_through.proofs.Lanes.{none_is, waiting, replied_by_client, replied_more, replied_still, plus_none, on_none, on_lane}
 
 -- ---- Whether a reply of the plain lane came
@@ -41,9 +41,11 @@ module _ (b : Bool) (c : Came) (p : List ℕ) (x : TellsMatched b c) where
     matched_reply = by_lane (lane_in p) refl
 
 -- ---- Whether a request was seen
-any_turn : (xid : ℤ) (xs : List (ℕ × List ℕ)) → list_any (λ (turn : Turn). int_eq turn.xid xid) (map turn_of xs) ≡ list_any (λ (x : ℕ × List ℕ). int_eq (xid_of x.1) xid) xs
-any_turn xid [] = refl
-any_turn xid (x ∷ xs) = ap (λ z. int_eq (xid_of x.1) xid || z) (any_turn xid xs)
+any_turn : (profile : Profile) (xid : ℤ) (turns : List Turn) (xs : List (ℕ × List ℕ)) → AreRequests profile turns xs → list_any (λ (turn : Turn). int_eq turn.xid xid) turns ≡ list_any (λ (x : ℕ × List ℕ). int_eq (xid_of x.1) xid) xs
+any_turn profile xid [] [] a = refl
+any_turn profile xid [] (x ∷ xs) a = absurd a
+any_turn profile xid (t ∷ ts) [] a = absurd a
+any_turn profile xid (t ∷ ts) (x ∷ xs) a = λ i. int_eq (a.0.is i).xid xid || any_turn profile xid ts xs a.1 i
 
 flag_is : (b : Bool) (c : Came) → TellsMatched b c → replied Plain c ≡ 0 → b ≡ false
 flag_is true c x none = absurd (x none)
@@ -51,15 +53,15 @@ flag_is false c x none = refl
 
 module _ (profile : Profile) (c : Came) (t : TurnsState) (b : AreLanes profile c t) (flag : Bool) where
   plain_any : (xid : ℤ) → replied Plain c ≡ 0 → list_any (λ (turn : Turn). int_eq turn.xid xid) t.plain ≡ list_any (λ (x : ℕ × List ℕ). int_eq (xid_of x.1) xid) (asked Plain c)
-  plain_any xid none = ap (list_any (λ (turn : Turn). int_eq turn.xid xid)) ((b.lane Plain).are ∙ ap (λ n. map turn_of (drop n (asked Plain c))) none) ∙ any_turn xid (asked Plain c)
+  plain_any xid none = any_turn profile xid t.plain (asked Plain c) (subst (λ n. AreRequests profile t.plain (drop n (asked Plain c))) none (b.lane Plain).are)
 
   nothing : (lane : Lane) → length (asked lane c) ≤ replied lane c → slice_get (waits_on lane t) 0 ≡ None
-  nothing lane few = ap (λ z. slice_get z 0) (nil_from_length (waits_on lane t) (omega (arith, few, waiting lane (waits_on lane t) c (b.lane lane))))
+  nothing lane few = ap (λ z. slice_get z 0) (nil_from_length (waits_on lane t) (omega (arith, few, waiting profile lane (waits_on lane t) c (b.lane lane))))
 
   pub to_earlier : TellsMatched flag c → (q : List ℕ) (lane : Lane) → IsEarlierOn lane flag t (xid_of q) → IsToEarlier lane c q
-  to_earlier r q Ping x = none_is Ping t.ping c (b.lane Ping) x
-  to_earlier r q Auth x = none_is Auth t.auth c (b.lane Auth) x
-  to_earlier r q Watches x = none_is Watches t.watches c (b.lane Watches) x
+  to_earlier r q Ping x = none_is profile Ping t.ping c (b.lane Ping) x
+  to_earlier r q Auth x = none_is profile Auth t.auth c (b.lane Auth) x
+  to_earlier r q Watches x = none_is profile Watches t.watches c (b.lane Watches) x
   to_earlier r q Plain x =
       let zero : replied Plain c ≡ 0 = subst (λ z. TellsMatched z c) x.0 r in
       (zero, sym (plain_any (xid_of q) zero) ∙ x.1)

@@ -1,12 +1,14 @@
 -- What was left out last on a side is of no weight for what comes.
-use Rattle.std.proofs.Common.{◌≡◌, ℕ, ◌+◌, inl, List, [], ◌++◌, length, take, Some, None, refl, sym, ap, subst, ◌∙◌}
+use Rattle.std.proofs.Common.{◌≡◌, ◌≢◌, ℕ, ◌+◌, inl, inr, List, [], ◌++◌, length, take, Some, refl, sym, ap, subst, ◌∙◌}
 use Rattle.std.specs.Prelude.{Result, IfOk, IfErr, OnErr}
 use Rattle.std.proofs.lemmas.Result.{IfErr-weaker, IfOk-weaker, on_err_weaker}
-use Rattle.zk_talk.specs.{declared.message.Side.Side, declared.message.Fault.Fault, Held.Message, History.History, History.side_bytes, Viewed.other_side}
+use Rattle.zk_talk.specs.{declared.message.Side.Side, declared.message.Fault.Fault, Held.Message, History.History, History.side_bytes, Viewed.other_side, Viewed.Shows, Stands.TalkState, Taking.given_up as unshown}
 use Rattle.zk_talk.specs.declared.message.Side.TheVariants.{Client, Server}
+use Rattle.zk_talk.specs.declared.message.MessageOf.TheVariants.{Client as FromClient, Server as FromServer}
+use Rattle.zk_talk.proofs.Stepping.{stands_given, refuses_given}
 use Rattle.zk_through.specs.{declared.through.Went.Went, declared.through.Passed.Passed, Came.Came}
 use Rattle.zk_through.specs.declared.through.Went.TheVariants as went
-use Rattle.zk_through.specs.Runs.{ThroughState, AreStreams, Runs, WentOn, IsRefused, IsWhy, IsNeverFull, LeavesSide, KeepsWaiting, given_up, stream_on}
+use Rattle.zk_through.specs.Runs.{ThroughState, AreStreams, Runs, WentOn, IsRefused, IsFull, IsWhy, IsNeverFull, LeavesSide, WaitsAfter, KeepsWaiting, KeepsNone, given_up, silenced, stream_on, left_on}
 use Rattle.zk_through.proofs.{Frames.by_sides, Steps.with_streams, Never.never_full}
 
 -- these bytes are kept of the sides
@@ -25,28 +27,26 @@ module _ (t : ThroughState) (a b : List ℕ) where
         sizes = by_sides _ Client (r.sizes Client) (r.sizes Server);
       }
 
+  full_keeping : (piece : List ℕ) → IsFull (keeping t a b) piece → IsFull t piece
+  unfolding runs_keeping with_streams
+  full_keeping piece x = record {
+    part = x.part;
+    payload = x.payload;
+    weight = x.weight;
+    whole = x.whole;
+    later = x.later;
+    weighs = x.weighs;
+    full = λ h c k M r. x.full h c k M (runs_keeping h c k M r);
+  }
+
   went_keeping : (side : Side) (piece : List ℕ) (used : ℕ) (w : Went) (new : ThroughState) → WentOn (keeping t a b) side piece used w new → WentOn t side piece used w new
   unfolding runs_keeping with_streams
-  went_keeping side piece used went.Within new x = (x.0, x.1, λ h c k M r. x.2 h c k M (runs_keeping h c k M r))
+  went_keeping side piece used went.Within new x = (x.0, x.1, (λ h c k M r. x.2 h c k M (runs_keeping h c k M r)), x.3)
   went_keeping side piece used went.Message new x = (x.0, x.1, x.2, λ h c k M r. x.3 h c k M (runs_keeping h c k M r))
-  went_keeping side piece used (went.Asked turn) new x = (x.0, x.1, x.2, x.3, x.4, λ h c k M r. x.5 h c k M (runs_keeping h c k M r))
-  went_keeping side piece used (went.Answered turn) new x = (x.0, x.1, x.2, x.3, x.4, x.5, λ h c k M r. x.6 h c k M (runs_keeping h c k M r))
-  went_keeping side piece used (went.Unseen xid zxid err) new x = (x.0, x.1, x.2, x.3, x.4, x.5, x.6, (x.7.0, λ h c k M r. x.7.1 h c k M (runs_keeping h c k M r)))
-  went_keeping side piece used went.Full new x = (
-    x.0,
-    x.1,
-    x.2,
-    record {
-      part = x.3.part;
-      payload = x.3.payload;
-      weight = x.3.weight;
-      whole = x.3.whole;
-      later = x.3.later;
-      weighs = x.3.weighs;
-      full = λ h c k M r. x.3.full h c k M (runs_keeping h c k M r);
-    },
-    λ h c k M r. x.4 h c k M (runs_keeping h c k M r),
-  )
+  went_keeping side piece used (went.Asked turn) new x = (x.0, x.1, x.2, x.3, x.4, (λ h c k M r. x.5 h c k M (runs_keeping h c k M r)), x.6)
+  went_keeping side piece used (went.Answered turn) new x = (x.0, x.1, x.2, x.3, x.4, x.5, (λ h c k M r. x.6 h c k M (runs_keeping h c k M r)), x.7)
+  went_keeping side piece used (went.Unseen xid zxid err) new x = (x.0, x.1, x.2, x.3, x.4, x.5, x.6, (x.7.0, λ h c k M r. x.7.1 h c k M (runs_keeping h c k M r)), x.8)
+  went_keeping side piece used went.Full new x = (x.0, x.1, x.2, full_keeping piece x.3, (λ h c k M r. x.4 h c k M (runs_keeping h c k M r)), x.5)
 
   held_keeping : (side : Side) → (stream_on side (keeping t a b)).held ≡ (stream_on side t).held
   held_keeping Client = refl
@@ -70,6 +70,9 @@ pub given_went : (side : Side) (old : ThroughState) (piece : List ℕ) (used : �
 given_went Client old = went_keeping old [] old.server.kept Client
 given_went Server old = went_keeping old old.client.kept [] Server
 
+pub given_full : (old : ThroughState) (piece : List ℕ) → IsFull (given_up Client old) piece → IsFull old piece
+given_full old = full_keeping old [] old.server.kept
+
 pub given_refused : (side : Side) (old : ThroughState) (piece : List ℕ) (e : Fault) (new : ThroughState) → IsRefused (given_up side old) side piece e new → IsRefused old side piece e new
 given_refused Client old = refused_keeping old [] old.server.kept Client
 given_refused Server old = refused_keeping old old.client.kept [] Server
@@ -85,6 +88,47 @@ given_itself Server old = ((refl, λ m s. s), refl)
 pub given_waits : (side : Side) (old : ThroughState) → KeepsWaiting old (given_up side old)
 given_waits Client old = (refl, λ h M stands. inl stands)
 given_waits Server old = (refl, λ h M stands. inl stands)
+
+-- ---- What the side shows, dropped after a refusal
+still_shown : (side other : Side) → other ≢ side → (t : TalkState) (m : Message) → Shows t other m → Shows (unshown side t) other m
+still_shown Client Client is t m x = absurd (is refl)
+still_shown Client Server is t (FromServer s) x = x
+still_shown Client Server is t (FromClient f) x = absurd x
+still_shown Server Client is t (FromClient f) x = x
+still_shown Server Client is t (FromServer s) x = absurd x
+still_shown Server Server is t m x = absurd (is refl)
+
+pub silenced_leaves : (side : Side) (old new : ThroughState) → LeavesSide (other_side side) old new → LeavesSide (other_side side) old (silenced side new)
+silenced_leaves Client old new x = ((x.0.0, λ m shows. still_shown Client Server (λ e. cc) new.talk m (x.0.1 m shows)), x.1)
+silenced_leaves Server old new x = ((x.0.0, λ m shows. still_shown Server Client (λ e. cc) new.talk m (x.0.1 m shows)), x.1)
+
+pub silenced_waits : (side : Side) (old new : ThroughState) → KeepsWaiting old new → KeepsWaiting old (silenced side new)
+silenced_waits side old new x = (x.0, λ h M st. waits_still h M (x.1 h M st))
+  where
+    waits_still : (h : History) (M : List Message) → WaitsAfter new.talk h M → WaitsAfter (unshown side new.talk) h M
+    waits_still h M (inl st) = inl (stands_given side new.talk h M st)
+    waits_still h M (inr r) = inr (r.0, r.1, refuses_given side new.talk (h ++ r.0) M r.1 r.2)
+
+pub silenced_none : (side : Side) (old new : ThroughState) → left_on side new ≡ [] → (stream_on side new).count ≡ (stream_on side old).count → (stream_on side new).size ≡ (stream_on side old).size → new.answered ≡ old.answered → KeepsNone side old (silenced side new)
+silenced_none Client old new left frames sizes answered = record { left = left; shown = refl; frames = frames; sizes = sizes; answered = answered }
+silenced_none Server old new left frames sizes answered = record { left = left; shown = refl; frames = frames; sizes = sizes; answered = answered }
+
+-- a side that kept nothing and is refused at once
+pub given_none : (side : Side) (t : ThroughState) → left_on side (given_up side t) ≡ []
+given_none Client t = refl
+given_none Server t = refl
+
+pub given_count : (side : Side) (t : ThroughState) → (stream_on side (given_up side t)).count ≡ (stream_on side t).count
+given_count Client t = refl
+given_count Server t = refl
+
+pub given_size : (side : Side) (t : ThroughState) → (stream_on side (given_up side t)).size ≡ (stream_on side t).size
+given_size Client t = refl
+given_size Server t = refl
+
+pub given_answered : (side : Side) (t : ThroughState) → (given_up side t).answered ≡ t.answered
+given_answered Client t = refl
+given_answered Server t = refl
 
 fault_stays : (side : Side) (t : ThroughState) → t.fault ≡ (given_up side t).fault
 fault_stays Client t = refl

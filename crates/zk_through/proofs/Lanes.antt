@@ -1,8 +1,8 @@
 -- Requests and replies of a lane, with one frame more.
-use Rattle.std.proofs.Common.{◌≡◌, ◌≢◌, ℕ, zero, suc, ◌+◌, ◌-◌, ◌≤◌, ◌<◌, inl, inr, List, [], ◌∷◌, ◌++◌, length, map, drop, filter, refl, sym, ap, ◌∙◌, subst, arith, append_assoc, length-append, Bool, true, false, cond, Some, None}
-use Rattle.std.specs.Prelude.{slice_get, if◌then◌else◌}
+use Rattle.std.proofs.Common.{◌≡◌, ◌≢◌, ℕ, zero, suc, ◌+◌, ◌-◌, ◌≤◌, ◌<◌, inl, inr, List, [], ◌∷◌, ◌++◌, length, drop, filter, refl, sym, ap, ◌∙◌, subst, arith, append_assoc, length-append, Bool, true, false, cond, Some, None}
+use Rattle.std.specs.Prelude.{slice_get, if◌then◌else◌, MatchBool}
 use Rattle.std.specs.List.{enumerate_from}
-use Rattle.std.proofs.lemmas.List.{append-nil, drop-append-le, length-drop, length-map, length_push, map-append}
+use Rattle.std.proofs.lemmas.List.{append-nil, drop-append-le, length-drop, length_push}
 use Rattle.std.proofs.{lemmas.List.Elements.filter-append, lemmas.Option.slice_get_within}
 use Rattle.zk_records.specs.declared.profile.Profile.{Profile}
 use Rattle.zk_waiting.specs.{declared.lane.Lane.Lane, Lane.same_lane}
@@ -11,8 +11,8 @@ use Rattle.zk_talk.specs.declared.message.Side.{Side}
 use Rattle.zk_talk.specs.declared.message.Side.TheVariants.{Client, Server}
 use Rattle.zk_talk.proofs.Loads.{lanes_same}
 use Rattle.zk_through.specs.{declared.turn.Turn.Turn, Came.Came, Came.payloads}
-use Rattle.zk_through.specs.LeftOut.{xid_of, has_turn, lane_in, is_on, asked, replied, IsLeftOut, KeptAfter}
-use Rattle.zk_through.specs.Turns.{TurnsState, turn_of, waits_on, with_waits, IsLane, IsLacked, AreLacked, AreLeft, AreLanes, IsDue, and_turn}
+use Rattle.zk_through.specs.LeftOut.{xid_of, has_turn, lane_in, is_on, asked, replied, IsForeign, IsLeftOut, KeptAfter}
+use Rattle.zk_through.specs.Turns.{TurnsState, turn_of, IsRequest, AreRequests, waits_on, with_waits, IsLane, IsLacked, AreLacked, AreLeft, AreLanes, IsDue, and_turn}
 use Rattle.zk_through.proofs.Frames.{payloads-same, payloads-other}
 
 pub some_not_nil : {X : Type 0} (xs : List X) → 0 < length xs → xs ≢ []
@@ -105,19 +105,54 @@ with_room room turns turn fits =
     let none : length (turns ++ turn ∷ []) - room ≡ 0 = omega (arith, fits, length_push turns turn) in
     ap (λ n. drop n (turns ++ turn ∷ [])) none
 
+-- ---- Requests that wait, one by one
+module _ (profile : Profile) where
+  are_long : (turns : List Turn) (xs : List (ℕ × List ℕ)) → AreRequests profile turns xs → length turns ≡ length xs
+  are_long [] [] a = refl
+  are_long [] (x ∷ xs) a = absurd a
+  are_long (t ∷ ts) [] a = absurd a
+  are_long (t ∷ ts) (x ∷ xs) a = ap suc (are_long ts xs a.1)
+
+  are_pushed : (turns : List Turn) (xs : List (ℕ × List ℕ)) (turn : Turn) (x : ℕ × List ℕ) → AreRequests profile turns xs → IsRequest profile turn x → AreRequests profile (turns ++ turn ∷ []) (xs ++ x ∷ [])
+  are_pushed [] [] turn x a is = (is, tt)
+  are_pushed [] (y ∷ ys) turn x a is = absurd a
+  are_pushed (t ∷ ts) [] turn x a is = absurd a
+  are_pushed (t ∷ ts) (y ∷ ys) turn x a is = (a.0, are_pushed ts ys turn x a.1 is)
+
+  are_split : (turns : List Turn) (x : ℕ × List ℕ) (xs : List (ℕ × List ℕ)) → AreRequests profile turns (x ∷ xs) → (turn : Turn) × (rest : List Turn) × (turns ≡ turn ∷ rest) × IsRequest profile turn x × AreRequests profile rest xs
+  are_split [] x xs a = absurd a
+  are_split (t ∷ ts) x xs a = (t, ts, refl, a.0, a.1)
+
+-- the request that waits is foreign exactly if it is left out
+pub foreign_of : (profile : Profile) (turn : Turn) (x : ℕ × List ℕ) → IsRequest profile turn x → IsLacked turn → IsForeign profile x.1
+foreign_of profile turn x r lacked = subst (λ b. MatchBool b (IsForeign profile x.1) (IsForeign profile x.1 → ⊥)) lacked r.out
+
+pub native_of : (profile : Profile) (turn : Turn) (x : ℕ × List ℕ) → IsRequest profile turn x → (IsLacked turn → ⊥) → IsForeign profile x.1 → ⊥
+native_of profile turn x r known = go turn.out refl
+  where
+    go : (b : Bool) → turn.out ≡ b → IsForeign profile x.1 → ⊥
+    go true e = absurd (known e)
+    go false e = subst (λ b. MatchBool b (IsForeign profile x.1) (IsForeign profile x.1 → ⊥)) e r.out
+
+pub made_out : (profile : Profile) (turn : Turn) (x : ℕ × List ℕ) → turn ≡ turn_of true x → IsForeign profile x.1 → IsRequest profile turn x
+made_out profile turn x is foreign = subst (λ (t : Turn). IsRequest profile t x) (sym is) (record { is = refl; out = foreign })
+
+pub made_told : (profile : Profile) (turn : Turn) (x : ℕ × List ℕ) → turn ≡ turn_of false x → (IsForeign profile x.1 → ⊥) → IsRequest profile turn x
+made_told profile turn x is native = subst (λ (t : Turn). IsRequest profile t x) (sym is) (record { is = refl; out = native })
+
 -- ---- One lane
-module _ (lane : Lane) (waits : List Turn) where
-  lane_same : (a b : Came) → asked lane b ≡ asked lane a → replied lane b ≡ replied lane a → IsLane lane a waits → IsLane lane b waits
+module _ (profile : Profile) (lane : Lane) (waits : List Turn) where
+  lane_same : (a b : Came) → asked lane b ≡ asked lane a → replied lane b ≡ replied lane a → IsLane profile lane a waits → IsLane profile lane b waits
   lane_same a b e f x = record {
     paired = omega (arith, x.paired, f, ap length e);
-    are = x.are ∙ sym (λ i. map turn_of (drop (f i) (e i)));
+    are = subst (AreRequests profile waits) (sym (λ i. drop (f i) (e i))) x.are;
   }
 
-  module _ (c : Came) (p : List ℕ) (x : IsLane lane c waits) where
-    pub lane_client : (payloads Client c ≢ [] → is_on lane 8 p ≡ false) → IsLane lane (c ++ (Client, p) ∷ []) waits
+  module _ (c : Came) (p : List ℕ) (x : IsLane profile lane c waits) where
+    pub lane_client : (payloads Client c ≢ [] → is_on lane 8 p ≡ false) → IsLane profile lane (c ++ (Client, p) ∷ []) waits
     lane_client other = lane_same c (c ++ (Client, p) ∷ []) (asked_still lane c p other) (replied_by_client lane c p) x
 
-    pub lane_server : (payloads Server c ≢ [] → is_on lane 16 p ≡ false) → IsLane lane (c ++ (Server, p) ∷ []) waits
+    pub lane_server : (payloads Server c ≢ [] → is_on lane 16 p ≡ false) → IsLane profile lane (c ++ (Server, p) ∷ []) waits
     lane_server other = lane_same c (c ++ (Server, p) ∷ []) (asked_by_server lane c p) (replied_still lane c p other) x
 
     module _ (some : payloads Client c ≢ []) (on : is_on lane 8 p ≡ true) where
@@ -127,30 +162,31 @@ module _ (lane : Lane) (waits : List Turn) where
       more : length (asked lane (c ++ (Client, p) ∷ [])) ≡ length (asked lane c) + 1
       more = ap length (asked_more lane c p some on) ∙ length_push (asked lane c) (length (payloads Client c), p)
 
-      pub lane_request : (turn : Turn) → turn ≡ turn_of (length (payloads Client c), p) → IsLane lane (c ++ (Client, p) ∷ []) (waits ++ turn ∷ [])
+      pub lane_request : (turn : Turn) → IsRequest profile turn (length (payloads Client c), p) → IsLane profile lane (c ++ (Client, p) ∷ []) (waits ++ turn ∷ [])
       lane_request turn is =
           let rs = replied_by_client lane c p in
           record {
             paired = omega (arith, rs, x.paired, more);
-            are =
-                (λ i. x.are i ++ is i ∷ []) ∙ sym (map-append turn_of (drop (replied lane c) (asked lane c)) ((length (payloads Client c), p) ∷ [])) ∙ ap (map turn_of) (sym rests)
-                ∙ ap (λ n. map turn_of (drop n (asked lane (c ++ (Client, p) ∷ [])))) (sym rs);
+            are = subst (AreRequests profile (waits ++ turn ∷ [])) (sym rests ∙ ap (λ n. drop n (asked lane (c ++ (Client, p) ∷ []))) (sym rs))
+                (are_pushed profile waits (drop (replied lane c) (asked lane c)) turn (length (payloads Client c), p) x.are is);
           }
 
-  module _ (c : Came) (x : IsLane lane c waits) where
+  module _ (c : Came) (x : IsLane profile lane c waits) where
     pub waiting : length waits ≡ length (asked lane c) - replied lane c
-    waiting = ap length x.are ∙ length-map (drop (replied lane c) (asked lane c)) turn_of ∙ length-drop (replied lane c) (asked lane c)
+    waiting = are_long profile waits (drop (replied lane c) (asked lane c)) x.are ∙ length-drop (replied lane c) (asked lane c)
 
     -- the request that the next reply answers
-    first_of : 0 < length waits → (y : ℕ × List ℕ) × (slice_get (asked lane c) (replied lane c) ≡ Some y) × (waits ≡ turn_of y ∷ map turn_of (drop (suc (replied lane c)) (asked lane c)))
+    first_of : 0 < length waits → (y : ℕ × List ℕ) × (slice_get (asked lane c) (replied lane c) ≡ Some y) × (turn : Turn) × (rest : List Turn) × (waits ≡ turn ∷ rest) × IsRequest profile turn y × AreRequests profile rest (drop (suc (replied lane c)) (asked lane c))
     first_of some =
         let k = cut_at (replied lane c) (asked lane c) (omega (arith, some, waiting)) in
-        (k.0, k.1, x.are ∙ ap (map turn_of) k.2)
+        let s = are_split profile waits k.0 (drop (suc (replied lane c)) (asked lane c)) (subst (AreRequests profile waits) k.2 x.are) in
+        (k.0, k.1, s.0, s.1, s.2, s.3, s.4)
 
-    pub oldest_is : (turn : Turn) → slice_get waits 0 ≡ Some turn → (y : ℕ × List ℕ) × (slice_get (asked lane c) (replied lane c) ≡ Some y) × (turn ≡ turn_of y)
+    pub oldest_is : (turn : Turn) → slice_get waits 0 ≡ Some turn → (y : ℕ × List ℕ) × (slice_get (asked lane c) (replied lane c) ≡ Some y) × IsRequest profile turn y
     oldest_is turn e =
         let k = first_of (slice_get_within waits 0 turn e) in
-        (k.0, k.1, same_some turn (turn_of k.0) (sym e ∙ ap (λ z. slice_get z 0) k.2))
+        let same : turn ≡ k.2 = same_some turn k.2 (sym e ∙ ap (λ z. slice_get z 0) k.4) in
+        (k.0, k.1, subst (λ (t : Turn). IsRequest profile t k.0) (sym same) k.5)
 
     pub none_is : slice_get waits 0 ≡ None → length (asked lane c) ≤ replied lane c
     none_is e = omega (arith, none_first waits e, waiting)
@@ -159,36 +195,39 @@ module _ (lane : Lane) (waits : List Turn) where
       replies_more : replied lane (c ++ (Server, p) ∷ []) ≡ suc (replied lane c)
       replies_more = replied_more lane c p some true on ∙ plus_one (replied lane c)
 
-      pub lane_reply : 0 < length waits → IsLane lane (c ++ (Server, p) ∷ []) (drop 1 waits)
+      pub lane_reply : 0 < length waits → IsLane profile lane (c ++ (Server, p) ∷ []) (drop 1 waits)
       lane_reply more =
           let as' = asked_by_server lane c p in
           let k = first_of more in
           record {
             paired = omega (arith, replies_more, more, waiting, ap length as');
-            are = ap (drop 1) k.2 ∙ ap (λ z. map turn_of (drop (suc (replied lane c)) z)) (sym as') ∙ ap (λ n. map turn_of (drop n (asked lane (c ++ (Server, p) ∷ [])))) (sym replies_more);
+            are =
+                let rests : drop (suc (replied lane c)) (asked lane c) ≡ drop (replied lane (c ++ (Server, p) ∷ [])) (asked lane (c ++ (Server, p) ∷ [])) =
+                ap (drop (suc (replied lane c))) (sym as') ∙ ap (λ n. drop n (asked lane (c ++ (Server, p) ∷ []))) (sym replies_more) in
+                subst (AreRequests profile (drop 1 waits)) rests (subst (λ z. AreRequests profile z (drop (suc (replied lane c)) (asked lane c))) (sym (ap (drop 1) k.4)) k.6);
           }
 
 -- ---- How many are left out
-module _ (profile : Profile) (turn : Turn) where
-  lacked_same : (turns : List Turn) (n : ℕ) → (IsLacked profile turn → ⊥) → AreLacked profile turns n → AreLacked profile (turns ++ turn ∷ []) n
+module _ (turn : Turn) where
+  lacked_same : (turns : List Turn) (n : ℕ) → (IsLacked turn → ⊥) → AreLacked turns n → AreLacked (turns ++ turn ∷ []) n
   lacked_same [] n known a = inr (known, a)
   lacked_same (y ∷ ys) n known (inl a) = inl (a.0, a.1, a.2, lacked_same ys a.1 known a.3)
   lacked_same (y ∷ ys) n known (inr a) = inr (a.0, lacked_same ys n known a.1)
 
-  lacked_more : (turns : List Turn) (n : ℕ) → IsLacked profile turn → AreLacked profile turns n → AreLacked profile (turns ++ turn ∷ []) (suc n)
+  lacked_more : (turns : List Turn) (n : ℕ) → IsLacked turn → AreLacked turns n → AreLacked (turns ++ turn ∷ []) (suc n)
   lacked_more [] n lacked a = inl (lacked, n, refl, a)
   lacked_more (y ∷ ys) n lacked (inl a) = inl (a.0, suc a.1, ap suc a.2, lacked_more ys a.1 lacked a.3)
   lacked_more (y ∷ ys) n lacked (inr a) = inr (a.0, lacked_more ys n lacked a.1)
 
-  lacked_drop : (turns : List Turn) (n : ℕ) → slice_get turns 0 ≡ Some turn → (IsLacked profile turn → ⊥) → AreLacked profile turns n → AreLacked profile (drop 1 turns) n
+  lacked_drop : (turns : List Turn) (n : ℕ) → slice_get turns 0 ≡ Some turn → (IsLacked turn → ⊥) → AreLacked turns n → AreLacked (drop 1 turns) n
   lacked_drop [] n e known a = absurd (cc)
-  lacked_drop (y ∷ ys) n e known (inl a) = absurd (known (subst (IsLacked profile) (same_some y turn e) a.0))
+  lacked_drop (y ∷ ys) n e known (inl a) = absurd (known (subst (IsLacked) (same_some y turn e) a.0))
   lacked_drop (y ∷ ys) n e known (inr a) = a.1
 
-  lacked_less : (turns : List Turn) (n : ℕ) → slice_get turns 0 ≡ Some turn → IsLacked profile turn → AreLacked profile turns n → (m : ℕ) × (n ≡ suc m) × AreLacked profile (drop 1 turns) m
+  lacked_less : (turns : List Turn) (n : ℕ) → slice_get turns 0 ≡ Some turn → IsLacked turn → AreLacked turns n → (m : ℕ) × (n ≡ suc m) × AreLacked (drop 1 turns) m
   lacked_less [] n e lacked a = absurd (cc)
   lacked_less (y ∷ ys) n e lacked (inl a) = (a.1, a.2, a.3)
-  lacked_less (y ∷ ys) n e lacked (inr a) = absurd (a.0 (subst (IsLacked profile) (sym (same_some y turn e)) lacked))
+  lacked_less (y ∷ ys) n e lacked (inr a) = absurd (a.0 (subst (IsLacked) (sym (same_some y turn e)) lacked))
 
 -- ---- The lanes, with one changed
 changed : (k l : Lane) (f : List Turn → List Turn) (t : TurnsState) → waits_on k (with_waits l f t) ≡ cond (same_lane k l) (f (waits_on k t)) (waits_on k t)
@@ -207,27 +246,27 @@ waits_still : (k l : Lane) (f : List Turn → List Turn) (t : TurnsState) (n : �
 waits_still Ping l f t n = refl
 waits_still _ l f t n = refl
 
-abbrev left_on : (profile : Profile) (t : TurnsState) → AreLeft profile t → Lane → ℕ
-left_on profile t a Ping = a.ping
-left_on profile t a Auth = a.auth
-left_on profile t a Watches = a.watches
-left_on profile t a Plain = a.plain
+abbrev left_on : (t : TurnsState) → AreLeft t → Lane → ℕ
+left_on t a Ping = a.ping
+left_on t a Auth = a.auth
+left_on t a Watches = a.watches
+left_on t a Plain = a.plain
 
-are_on : (profile : Profile) (t : TurnsState) (a : AreLeft profile t) (l : Lane) → AreLacked profile (waits_on l t) (left_on profile t a l)
-are_on profile t a Ping = a.pings
-are_on profile t a Auth = a.auths
-are_on profile t a Watches = a.of_watches
-are_on profile t a Plain = a.of_plain
+are_on : (t : TurnsState) (a : AreLeft t) (l : Lane) → AreLacked (waits_on l t) (left_on t a l)
+are_on t a Ping = a.pings
+are_on t a Auth = a.auths
+are_on t a Watches = a.of_watches
+are_on t a Plain = a.of_plain
 
-are_left : (profile : Profile) (t : TurnsState) (ping auth watches plain : ℕ) → AreLacked profile t.ping ping → AreLacked profile t.auth auth → AreLacked profile t.watches watches → AreLacked profile t.plain plain → t.left ≡ ping + auth + watches + plain → AreLeft profile t
-are_left profile t ping auth watches plain pings auths of_watches of_plain all = record { ping = ping; auth = auth; watches = watches; plain = plain; pings = pings; auths = auths; of_watches = of_watches; of_plain = of_plain; all = all }
+are_left : (t : TurnsState) (ping auth watches plain : ℕ) → AreLacked t.ping ping → AreLacked t.auth auth → AreLacked t.watches watches → AreLacked t.plain plain → t.left ≡ ping + auth + watches + plain → AreLeft t
+are_left t ping auth watches plain pings auths of_watches of_plain all = record { ping = ping; auth = auth; watches = watches; plain = plain; pings = pings; auths = auths; of_watches = of_watches; of_plain = of_plain; all = all }
 
-left_with : (profile : Profile) (l : Lane) (f : List Turn → List Turn) (t : TurnsState) (a : AreLeft profile t) (left n : ℕ) → AreLacked profile (f (waits_on l t)) n → left + left_on profile t a l ≡ t.left + n →
-    AreLeft profile (record (with_waits l f t) { left = left })
-left_with profile Ping f t a left n x e = are_left profile _ n a.auth a.watches a.plain x a.auths a.of_watches a.of_plain (omega (arith, a.all, e))
-left_with profile Auth f t a left n x e = are_left profile _ a.ping n a.watches a.plain a.pings x a.of_watches a.of_plain (omega (arith, a.all, e))
-left_with profile Watches f t a left n x e = are_left profile _ a.ping a.auth n a.plain a.pings a.auths x a.of_plain (omega (arith, a.all, e))
-left_with profile Plain f t a left n x e = are_left profile _ a.ping a.auth a.watches n a.pings a.auths a.of_watches x (omega (arith, a.all, e))
+left_with : (l : Lane) (f : List Turn → List Turn) (t : TurnsState) (a : AreLeft t) (left n : ℕ) → AreLacked (f (waits_on l t)) n → left + left_on t a l ≡ t.left + n →
+    AreLeft (record (with_waits l f t) { left = left })
+left_with Ping f t a left n x e = are_left _ n a.auth a.watches a.plain x a.auths a.of_watches a.of_plain (omega (arith, a.all, e))
+left_with Auth f t a left n x e = are_left _ a.ping n a.watches a.plain a.pings x a.of_watches a.of_plain (omega (arith, a.all, e))
+left_with Watches f t a left n x e = are_left _ a.ping a.auth n a.plain a.pings a.auths x a.of_plain (omega (arith, a.all, e))
+left_with Plain f t a left n x e = are_left _ a.ping a.auth a.watches n a.pings a.auths a.of_watches x (omega (arith, a.all, e))
 
 -- ---- The frame's lane
 pub on_none : (lane : Lane) (size : ℕ) (p : List ℕ) → has_turn size p ≡ false → is_on lane size p ≡ false
@@ -239,97 +278,97 @@ module _ (size : ℕ) (p : List ℕ) (turn : has_turn size p ≡ true) where
   unfolding is_on
   on_lane lane = ap (λ z. if z then same_lane lane (lane_in p) else false) turn
 
-  each_lane : (c c' : Came) (t : TurnsState) (f : List Turn → List Turn)
-      (moves : (k : Lane) → k ≡ lane_in p → is_on k size p ≡ true → IsLane k c (waits_on k t) → IsLane k c' (f (waits_on k t)))
-      (stays : (k : Lane) → is_on k size p ≡ false → IsLane k c (waits_on k t) → IsLane k c' (waits_on k t)) →
-      ((k : Lane) → IsLane k c (waits_on k t)) → (k : Lane) → IsLane k c' (waits_on k (with_waits (lane_in p) f t))
-  each_lane c c' t f moves stays b k = go (same_lane k (lane_in p)) refl
+  each_lane : (profile : Profile) (c c' : Came) (t : TurnsState) (f : List Turn → List Turn)
+      (moves : (k : Lane) → k ≡ lane_in p → is_on k size p ≡ true → IsLane profile k c (waits_on k t) → IsLane profile k c' (f (waits_on k t)))
+      (stays : (k : Lane) → is_on k size p ≡ false → IsLane profile k c (waits_on k t) → IsLane profile k c' (waits_on k t)) →
+      ((k : Lane) → IsLane profile k c (waits_on k t)) → (k : Lane) → IsLane profile k c' (waits_on k (with_waits (lane_in p) f t))
+  each_lane profile c c' t f moves stays b k = go (same_lane k (lane_in p)) refl
     where
       now : (d : Bool) → same_lane k (lane_in p) ≡ d → waits_on k (with_waits (lane_in p) f t) ≡ cond d (f (waits_on k t)) (waits_on k t)
       now d e = changed k (lane_in p) f t ∙ ap (λ z. cond z (f (waits_on k t)) (waits_on k t)) e
 
-      go : (d : Bool) → same_lane k (lane_in p) ≡ d → IsLane k c' (waits_on k (with_waits (lane_in p) f t))
-      go true e = subst (IsLane k c') (sym (now true e)) (moves k (lanes_same k (lane_in p) e) (on_lane k ∙ e) (b k))
-      go false e = subst (IsLane k c') (sym (now false e)) (stays k (on_lane k ∙ e) (b k))
+      go : (d : Bool) → same_lane k (lane_in p) ≡ d → IsLane profile k c' (waits_on k (with_waits (lane_in p) f t))
+      go true e = subst (IsLane profile k c') (sym (now true e)) (moves k (lanes_same k (lane_in p) e) (on_lane k ∙ e) (b k))
+      go false e = subst (IsLane profile k c') (sym (now false e)) (stays k (on_lane k ∙ e) (b k))
 
 module _ (profile : Profile) (c : Came) (t : TurnsState) (p : List ℕ) (b : AreLanes profile c t) where
   pub lanes_client : (payloads Client c ≢ [] → has_turn 8 p ≡ false) → AreLanes profile (c ++ (Client, p) ∷ []) t
-  lanes_client other = record { lane = λ k. lane_client k (waits_on k t) c p (b.lane k) (λ some. on_none k 8 p (other some)); left = b.left }
+  lanes_client other = record { lane = λ k. lane_client profile k (waits_on k t) c p (b.lane k) (λ some. on_none k 8 p (other some)); left = b.left }
 
   pub lanes_server : (payloads Server c ≢ [] → has_turn 16 p ≡ false) → AreLanes profile (c ++ (Server, p) ∷ []) t
-  lanes_server other = record { lane = λ k. lane_server k (waits_on k t) c p (b.lane k) (λ some. on_none k 16 p (other some)); left = b.left }
+  lanes_server other = record { lane = λ k. lane_server profile k (waits_on k t) c p (b.lane k) (λ some. on_none k 16 p (other some)); left = b.left }
 
-  module _ (some : payloads Client c ≢ []) (turn : has_turn 8 p ≡ true) (asks : Turn) (is : asks ≡ turn_of (length (payloads Client c), p)) (fits : (k : Lane) → length (waits_on k t) < t.room) where
-    pushed : (k : Lane) → IsLane k (c ++ (Client, p) ∷ []) (waits_on k (with_waits (lane_in p) (and_turn t.room asks) t))
+  module _ (some : payloads Client c ≢ []) (turn : has_turn 8 p ≡ true) (asks : Turn) (is : IsRequest profile asks (length (payloads Client c), p)) (fits : (k : Lane) → length (waits_on k t) < t.room) where
+    pushed : (k : Lane) → IsLane profile k (c ++ (Client, p) ∷ []) (waits_on k (with_waits (lane_in p) (and_turn t.room asks) t))
     pushed =
-        each_lane 8 p turn c (c ++ (Client, p) ∷ []) t (and_turn t.room asks)
-        (λ k same on x. subst (IsLane k (c ++ (Client, p) ∷ [])) (sym (with_room t.room (waits_on k t) asks (fits k))) (lane_request k (waits_on k t) c p x some on asks is))
-        (λ k off x. lane_client k (waits_on k t) c p x (λ more. off)) b.lane
+        each_lane 8 p turn profile c (c ++ (Client, p) ∷ []) t (and_turn t.room asks)
+        (λ k same on x. subst (IsLane profile k (c ++ (Client, p) ∷ [])) (sym (with_room t.room (waits_on k t) asks (fits k))) (lane_request profile k (waits_on k t) c p x some on asks is))
+        (λ k off x. lane_client profile k (waits_on k t) c p x (λ more. off)) b.lane
 
     push_is : and_turn t.room asks (waits_on (lane_in p) t) ≡ waits_on (lane_in p) t ++ asks ∷ []
     push_is = with_room t.room (waits_on (lane_in p) t) asks (fits (lane_in p))
 
-    pub lanes_request : (IsLacked profile asks → ⊥) → AreLanes profile (c ++ (Client, p) ∷ []) (with_waits (lane_in p) (and_turn t.room asks) t)
+    pub lanes_request : (IsLacked asks → ⊥) → AreLanes profile (c ++ (Client, p) ∷ []) (with_waits (lane_in p) (and_turn t.room asks) t)
     lanes_request known = record {
       lane = pushed;
       left =
           let l = lane_in p in
-          let n = left_on profile t b.left l in
-          let x = subst (λ z. AreLacked profile z n) (sym push_is) (lacked_same profile asks (waits_on l t) n known (are_on profile t b.left l)) in
-          subst (AreLeft profile) (sym (left_stays l (and_turn t.room asks) t)) (left_with profile l (and_turn t.room asks) t b.left t.left n x refl);
+          let n = left_on t b.left l in
+          let x = subst (λ z. AreLacked z n) (sym push_is) (lacked_same asks (waits_on l t) n known (are_on t b.left l)) in
+          subst (AreLeft) (sym (left_stays l (and_turn t.room asks) t)) (left_with l (and_turn t.room asks) t b.left t.left n x refl);
     }
 
-    pub lanes_left : IsLacked profile asks → AreLanes profile (c ++ (Client, p) ∷ []) (record (with_waits (lane_in p) (and_turn t.room asks) t) { left = t.left + 1 })
+    pub lanes_left : IsLacked asks → AreLanes profile (c ++ (Client, p) ∷ []) (record (with_waits (lane_in p) (and_turn t.room asks) t) { left = t.left + 1 })
     lanes_left lacked = record {
-      lane = λ k. subst (IsLane k (c ++ (Client, p) ∷ [])) (sym (waits_still k (lane_in p) (and_turn t.room asks) t (t.left + 1))) (pushed k);
+      lane = λ k. subst (IsLane profile k (c ++ (Client, p) ∷ [])) (sym (waits_still k (lane_in p) (and_turn t.room asks) t (t.left + 1))) (pushed k);
       left =
           let l = lane_in p in
-          let n = left_on profile t b.left l in
-          let x = subst (λ z. AreLacked profile z (suc n)) (sym push_is) (lacked_more profile asks (waits_on l t) n lacked (are_on profile t b.left l)) in
-          left_with profile l (and_turn t.room asks) t b.left (t.left + 1) (suc n) x (omega arith);
+          let n = left_on t b.left l in
+          let x = subst (λ z. AreLacked z (suc n)) (sym push_is) (lacked_more asks (waits_on l t) n lacked (are_on t b.left l)) in
+          left_with l (and_turn t.room asks) t b.left (t.left + 1) (suc n) x (omega arith);
     }
 
   module _ (turn : has_turn 16 p ≡ true) where
     -- the request that the reply is to answer
-    pub turn_is : (due : Turn) → IsDue t (xid_of p) due → (y : ℕ × List ℕ) × (slice_get (asked (lane_in p) c) (replied (lane_in p) c) ≡ Some y) × (due ≡ turn_of y)
-    turn_is due is = oldest_is (lane_in p) (waits_on (lane_in p) t) c (b.lane (lane_in p)) due is
+    pub turn_is : (due : Turn) → IsDue t (xid_of p) due → (y : ℕ × List ℕ) × (slice_get (asked (lane_in p) c) (replied (lane_in p) c) ≡ Some y) × IsRequest profile due y
+    turn_is due is = oldest_is profile (lane_in p) (waits_on (lane_in p) t) c (b.lane (lane_in p)) due is
 
     pub none_due : slice_get (waits_on (lane_in p) t) 0 ≡ None → length (asked (lane_in p) c) ≤ replied (lane_in p) c
-    none_due is = none_is (lane_in p) (waits_on (lane_in p) t) c (b.lane (lane_in p)) is
+    none_due is = none_is profile (lane_in p) (waits_on (lane_in p) t) c (b.lane (lane_in p)) is
 
     module _ (some : payloads Server c ≢ []) (due : Turn) (is : IsDue t (xid_of p) due) where
-      popped : (k : Lane) → IsLane k (c ++ (Server, p) ∷ []) (waits_on k (with_waits (lane_in p) (drop 1) t))
+      popped : (k : Lane) → IsLane profile k (c ++ (Server, p) ∷ []) (waits_on k (with_waits (lane_in p) (drop 1) t))
       popped =
-          each_lane 16 p turn c (c ++ (Server, p) ∷ []) t (drop 1)
-          (λ k same on x. lane_reply k (waits_on k t) c x p some on (subst (λ (z : Lane). 0 < length (waits_on z t)) (sym same) (slice_get_within (waits_on (lane_in p) t) 0 due is)))
-          (λ k off x. lane_server k (waits_on k t) c p x (λ more. off)) b.lane
+          each_lane 16 p turn profile c (c ++ (Server, p) ∷ []) t (drop 1)
+          (λ k same on x. lane_reply profile k (waits_on k t) c x p some on (subst (λ (z : Lane). 0 < length (waits_on z t)) (sym same) (slice_get_within (waits_on (lane_in p) t) 0 due is)))
+          (λ k off x. lane_server profile k (waits_on k t) c p x (λ more. off)) b.lane
 
-      pub lanes_reply : (IsLacked profile due → ⊥) → AreLanes profile (c ++ (Server, p) ∷ []) (with_waits (lane_in p) (drop 1) t)
+      pub lanes_reply : (IsLacked due → ⊥) → AreLanes profile (c ++ (Server, p) ∷ []) (with_waits (lane_in p) (drop 1) t)
       lanes_reply known = record {
         lane = popped;
         left =
             let l = lane_in p in
-            let n = left_on profile t b.left l in
-            let x = lacked_drop profile due (waits_on l t) n is known (are_on profile t b.left l) in
-            subst (AreLeft profile) (sym (left_stays l (drop 1) t)) (left_with profile l (drop 1) t b.left t.left n x refl);
+            let n = left_on t b.left l in
+            let x = lacked_drop due (waits_on l t) n is known (are_on t b.left l) in
+            subst (AreLeft) (sym (left_stays l (drop 1) t)) (left_with l (drop 1) t b.left t.left n x refl);
       }
 
       -- one of those that are left out
-      pub some_left : IsLacked profile due → 0 < t.left
+      pub some_left : IsLacked due → 0 < t.left
       some_left lacked =
           let l = lane_in p in
-          let x = lacked_less profile due (waits_on l t) (left_on profile t b.left l) is lacked (are_on profile t b.left l) in
+          let x = lacked_less due (waits_on l t) (left_on t b.left l) is lacked (are_on t b.left l) in
           omega (arith, x.1, no_more l)
         where
-          no_more : (l : Lane) → left_on profile t b.left l ≤ t.left
+          no_more : (l : Lane) → left_on t b.left l ≤ t.left
           no_more Ping = omega (arith, b.left.all)
           no_more _ = omega (arith, b.left.all)
 
-      pub lanes_answer : IsLacked profile due → AreLanes profile (c ++ (Server, p) ∷ []) (record (with_waits (lane_in p) (drop 1) t) { left = t.left - 1 })
+      pub lanes_answer : IsLacked due → AreLanes profile (c ++ (Server, p) ∷ []) (record (with_waits (lane_in p) (drop 1) t) { left = t.left - 1 })
       lanes_answer lacked = record {
-        lane = λ k. subst (IsLane k (c ++ (Server, p) ∷ [])) (sym (waits_still k (lane_in p) (drop 1) t (t.left - 1))) (popped k);
+        lane = λ k. subst (IsLane profile k (c ++ (Server, p) ∷ [])) (sym (waits_still k (lane_in p) (drop 1) t (t.left - 1))) (popped k);
         left =
             let l = lane_in p in
-            let x = lacked_less profile due (waits_on l t) (left_on profile t b.left l) is lacked (are_on profile t b.left l) in
-            left_with profile l (drop 1) t b.left (t.left - 1) x.0 x.2 (omega (arith, x.1, some_left lacked));
+            let x = lacked_less due (waits_on l t) (left_on t b.left l) is lacked (are_on t b.left l) in
+            left_with l (drop 1) t b.left (t.left - 1) x.0 x.2 (omega (arith, x.1, some_left lacked));
       }

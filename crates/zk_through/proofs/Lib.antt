@@ -19,9 +19,13 @@ mod Given
 mod AskReasons
 mod AnswerReasons
 mod Fitting
+mod Spelling
 mod Causes
 mod Never
+mod Newer
 mod Rooms
 mod Endings
 mod Waits
 mod Joining
+mod Resuming
+mod Offering

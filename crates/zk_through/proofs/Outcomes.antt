@@ -10,7 +10,7 @@ use Rattle.zk_through.specs.LeftOut.{xid_of, has_turn, lane_in, IsForeign, IsLef
 use Rattle.zk_through.specs.Turns.{AreLanes, IsDue, IsLacked, IsEarlier, matched_on, turn_of, waits_on, with_waits, and_turn, left_out, number_of_turns}
 use Rattle.zk_through.specs.Runs.{ThroughState, Runs, GoesOn, GoesOnTold, PassesOver, IsTold, IsRequestOf}
 use Rattle.zk_through.proofs.{Frames.told-push, Fitting.its_good, Seen.client_counts, Seen.none_counts, Seen.server_some, Seen.some_counts, Steps.FrameCame, Steps.frame_came, Steps.over_came, Newest.newest_client, Newest.newest_server}
-use Rattle.zk_through.proofs.Lanes.{some_not_nil, same_some, kept_out, kept_told, lanes_client, lanes_server, lanes_request, lanes_left, lanes_reply, lanes_answer, some_left, turn_is}
+use Rattle.zk_through.proofs.Lanes.{some_not_nil, same_some, kept_out, kept_told, lanes_client, lanes_server, lanes_request, lanes_left, lanes_reply, lanes_answer, some_left, turn_is, foreign_of, native_of, made_out, made_told}
 use Rattle.zk_through.proofs.Rooms.{with_one, without_one, waits_fit, kept_client, one_more, weighs_some, load_client, one_less, kept_server, load_server}
 use Rattle.zk_through.proofs.Earlier.{to_earlier, seen_other, seen_reply, matched_client, matched_other, matched_reply}
 
@@ -84,27 +84,28 @@ module _ (old new : ThroughState) (piece : List ℕ) (used : ℕ) (p : List ℕ)
         ))
 
     -- or a request of the profile
-    pub client_asks : has_turn 8 p ≡ true → 0 < old.client.count → old.turns.room ≡ old.talk.limits.waiting → (asks : Turn) → asks ≡ turn_of (old.client.count, p) → new.turns ≡ with_waits (lane_in p) (and_turn old.turns.room asks) old.turns →
-        (IsLacked old.talk.limits.profile asks → ⊥) → GoesOnTold old Client (take used piece) p new
-    client_asks turn later room asks is more known =
+    pub client_asks : has_turn 8 p ≡ true → 0 < old.client.count → old.turns.room ≡ old.talk.limits.waiting → (asks : Turn) → asks ≡ turn_of false (old.client.count, p) → new.turns ≡ with_waits (lane_in p) (and_turn old.turns.room asks) old.turns →
+        (IsForeign old.talk.limits.profile p → ⊥) → GoesOnTold old Client (take used piece) p new
+    client_asks turn later room asks is more native =
         told_client (λ h c k M r m shows st ch sh.
         let some = weighs_some old h c k M r new.talk x.limits ch sh p x.fits m shows st later size (only later) in
         let loads = fits some (told k) M r.stands.conversation [] [] r.stands (its_good old h c k M r) in
-        let is' = is ∙ ap (λ (z : ℕ). turn_of (z, p)) (client_counts old h c k M r) in (
-          (λ out. known (subst (IsLacked old.talk.limits.profile) (sym is) out.2)),
+        let is' = made_told old.talk.limits.profile asks (length (payloads Client c), p) (is ∙ ap (λ (z : ℕ). turn_of false (z, p)) (client_counts old h c k M r)) native in
+        let known : IsLacked asks → ⊥ = λ lacked. native (foreign_of old.talk.limits.profile asks (length (payloads Client c), p) is' lacked) in (
+          (λ out. native out.2),
           subst (AreLanes old.talk.limits.profile (c ++ (Client, p) ∷ [])) (sym more)
               (lanes_request old.talk.limits.profile c old.turns p r.lanes (some_not_nil (payloads Client c) (omega (arith, later, client_counts old h c k M r))) turn asks is' (waits_fit old h c k M r size some loads room) known),
           omega (arith, r.few, left, ap number_of_turns more, with_one (lane_in p) asks old.turns, one_more old h c k M r new.talk x.limits ch sh p x.fits m shows st later),
         ))
 
   -- another is left out
-  pub client_lacks : has_turn 8 p ≡ true → 0 < old.client.count → old.turns.room ≡ old.talk.limits.waiting → new.talk ≡ old.talk → (asks : Turn) → asks ≡ turn_of (old.client.count, p) →
-      new.turns ≡ record (with_waits (lane_in p) (and_turn old.turns.room asks) old.turns) { left = old.turns.left + 1 } → IsLacked old.talk.limits.profile asks →
+  pub client_lacks : has_turn 8 p ≡ true → 0 < old.client.count → old.turns.room ≡ old.talk.limits.waiting → new.talk ≡ old.talk → (asks : Turn) → asks ≡ turn_of true (old.client.count, p) →
+      new.turns ≡ record (with_waits (lane_in p) (and_turn old.turns.room asks) old.turns) { left = old.turns.left + 1 } → IsForeign old.talk.limits.profile p →
       WhereItStands old.talk (λ v client_rest server_rest. load v.client v.server + left_out old.turns + 1 ≤ old.talk.limits.waiting) → GoesOn old Client (take used piece) ((Client, p) ∷ []) [] [] new
-  client_lacks turn later room same asks is more lacked fits h c k M r =
+  client_lacks turn later room same asks is more foreign fits h c k M r =
       let some = some_not_nil (payloads Client c) (omega (arith, later, client_counts old h c k M r)) in
-      let foreign : IsForeign old.talk.limits.profile p = subst (IsLacked old.talk.limits.profile) is lacked in
-      let is' = is ∙ ap (λ (z : ℕ). turn_of (z, p)) (client_counts old h c k M r) in
+      let is' = made_out old.talk.limits.profile asks (length (payloads Client c), p) (is ∙ ap (λ (z : ℕ). turn_of true (z, p)) (client_counts old h c k M r)) foreign in
+      let lacked : IsLacked asks = ap (λ (z : Turn). z.out) is in
       let loads = fits (told k) M r.stands.conversation [] [] r.stands (its_good old h c k M r) in
       let lanes = subst (AreLanes old.talk.limits.profile (c ++ (Client, p) ∷ [])) (sym more)
       (lanes_left old.talk.limits.profile c old.turns p r.lanes some turn asks is' (waits_fit old h c k M r 1 (omega arith) loads room) lacked) in
@@ -160,40 +161,40 @@ module _ (old new : ThroughState) (piece : List ℕ) (used : ℕ) (q : List ℕ)
             subst (AnswersAfter c q) (sym (later (λ zero. omega (arith, zero, more some)))) (some, off some)
 
     -- a reply to a request that the talk got
-    pub server_answers : has_turn 16 q ≡ true → 0 < old.server.count → (due : Turn) → IsDue old.turns (xid_of q) due → (IsLacked old.talk.limits.profile due → ⊥) → new.turns ≡ with_waits (lane_in q) (drop 1) old.turns → new.answered ≡ Some due.frame →
+    pub server_answers : has_turn 16 q ≡ true → 0 < old.server.count → (due : Turn) → IsDue old.turns (xid_of q) due → (IsLacked due → ⊥) → new.turns ≡ with_waits (lane_in q) (drop 1) old.turns → new.answered ≡ Some due.frame →
         (old.late ≡ true → IsEarlier old.matched old.turns (Some (xid_of q)) → ⊥) → (old.late ≡ true → new.matched ≡ matched_on (lane_in q) old.matched) → GoesOnTold old Server (take used piece) q new
     server_answers turn later due is known less answered stays replies =
         told_server (λ h c k M r m shows st ch sh.
         let some = server_some old h c k M r later in
         let y = turn_is old.talk.limits.profile c old.turns q r.lanes turn due is in
         let waits = slice_get_within (waits_on (lane_in q) old.turns) 0 due is in (
-          (λ out. known (subst (IsLacked old.talk.limits.profile) (ap turn_of (same_some out.2 y.0 (sym out.3 ∙ y.1)) ∙ sym y.2) out.4)),
+          (λ out. native_of old.talk.limits.profile due y.0 y.2 known (subst (λ (z : ℕ × List ℕ). IsForeign old.talk.limits.profile z.1) (same_some out.2 y.0 (sym out.3 ∙ y.1)) out.4)),
           subst (AreLanes old.talk.limits.profile (c ++ (Server, q) ∷ [])) (sym less) (lanes_reply old.talk.limits.profile c old.turns q r.lanes turn some due is known),
           omega (arith, r.few, left, ap number_of_turns less, without_one (lane_in q) old.turns waits, one_less old h c k M r new.talk x.limits ch sh q x.fits m shows st),
-          subst (AnswersAfter c q) (sym answered) (inr (some, turn, y.0, y.1, ap (λ (z : Turn). z.frame) y.2)),
+          subst (AnswersAfter c q) (sym answered) (inr (some, turn, y.0, y.1, ap (λ (z : Turn). z.frame) y.2.is)),
           seen_reply old.talk.limits.profile c old.turns r.lanes old.matched old.late r.matched q (xid_of q) refl stays,
           λ e. subst (λ z. TellsMatched z (c ++ (Server, q) ∷ [])) (sym (replies (its_late e))) (matched_reply old.matched c q (r.matched (its_late e)) turn some),
         ))
 
   -- a reply to one that was left out is left out
-  pub server_lacks : has_turn 16 q ≡ true → 0 < old.server.count → new.talk ≡ old.talk → (due : Turn) → IsDue old.turns (xid_of q) due → IsLacked old.talk.limits.profile due →
+  pub server_lacks : has_turn 16 q ≡ true → 0 < old.server.count → new.talk ≡ old.talk → (due : Turn) → IsDue old.turns (xid_of q) due → IsLacked due →
       new.turns ≡ record (with_waits (lane_in q) (drop 1) old.turns) { left = old.turns.left - 1 } → xid_of q ≡ due.xid → new.answered ≡ Some due.frame →
       (old.late ≡ true → IsEarlier old.matched old.turns (Some (xid_of q)) → ⊥) → (old.late ≡ true → new.matched ≡ matched_on (lane_in q) old.matched) → GoesOn old Server (take used piece) ((Server, q) ∷ []) [] [] new
   server_lacks turn later same due is lacked less xid answered stays replies h c k M r =
       let some = server_some old h c k M r later in
       let y = turn_is old.talk.limits.profile c old.turns q r.lanes turn due is in
       let waits = slice_get_within (waits_on (lane_in q) old.turns) 0 due is in
-      let foreign : IsForeign old.talk.limits.profile y.0.1 = subst (IsLacked old.talk.limits.profile) y.2 lacked in
+      let foreign : IsForeign old.talk.limits.profile y.0.1 = foreign_of old.talk.limits.profile due y.0 y.2 lacked in
       let lanes = subst (AreLanes old.talk.limits.profile (c ++ (Server, q) ∷ [])) (sym less) (lanes_answer old.talk.limits.profile c old.turns q r.lanes turn some due is lacked) in
       let left : left_out new.turns ≡ left_out old.turns - 1 = ap left_out less in
-      let kept = kept_out old.talk.limits.profile (Server, q) [] c k r.kept (some, turn, y.0, y.1, foreign, xid ∙ ap (λ (z : Turn). z.xid) y.2) in
+      let kept = kept_out old.talk.limits.profile (Server, q) [] c k r.kept (some, turn, y.0, y.1, foreign, xid ∙ ap (λ (z : Turn). z.xid) y.2.is) in
       let stands = subst (λ (z : TalkState). Stands z (told k) M) (sym same) r.stands in
       let alone : (new.talk.client_held ≡ []) × (new.talk.server_held ≡ []) = (ap (λ (z : TalkState). z.client_held) same ∙ r.alone.0, ap (λ (z : TalkState). z.server_held) same ∙ r.alone.1) in
       let few : number_of_turns new.turns ≤ count_of new.talk.waiting + left_out new.turns =
       omega (arith, r.few, left, ap number_of_turns less, without_one (lane_in q) old.turns waits, some_left old.talk.limits.profile c old.turns q r.lanes turn some due is lacked, ap (λ (z : TalkState). count_of z.waiting) same) in
       unchanged new (h ++ on Server (take used piece)) (c ++ (Server, q) ∷ []) k M
       (frame_came old new piece used q Server x h c k M r k M kept stands alone lanes (λ v g. omega (arith, left, r.room v g)) few
-      (newest_server c new.answered q (subst (AnswersAfter c q) (sym answered) (inr (some, turn, y.0, y.1, ap (λ (z : Turn). z.frame) y.2))))
+      (newest_server c new.answered q (subst (AnswersAfter c q) (sym answered) (inr (some, turn, y.0, y.1, ap (λ (z : Turn). z.frame) y.2.is))))
       (seen_reply old.talk.limits.profile c old.turns r.lanes old.matched old.late r.matched q (xid_of q) refl stays)
       (λ e. subst (λ z. TellsMatched z (c ++ (Server, q) ∷ [])) (sym (replies (its_late e))) (matched_reply old.matched c q (r.matched (its_late e)) turn some)))
 

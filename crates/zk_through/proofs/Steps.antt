@@ -1,18 +1,18 @@
 -- What a conversation comes to with one piece more.
-use Rattle.std.proofs.Common.{◌≡◌, ℕ, ◌+◌, ◌<◌, ◌≤◌, ◌^◌, inl, List, [], ◌∷◌, ◌++◌, length, take, map, drop, refl, sym, ap, ◌∙◌, subst, arith, length-append, Bool, true, false, Option, Some, None, Ok, filter}
+use Rattle.std.proofs.Common.{◌≡◌, ℕ, ◌+◌, ◌<◌, ◌≤◌, ◌^◌, inl, List, [], ◌∷◌, ◌++◌, length, take, drop, refl, sym, ap, ◌∙◌, subst, arith, length-append, Bool, true, false, Option, Some, None, Ok, filter}
 use Rattle.std.proofs.lemmas.List.{append-nil, length_push, length-take-le, nil_from_length}
 use Rattle.std.specs.List.{enumerate_from}
-use Rattle.zk_frames.specs.Framing.{frame, IsBeginning, IsCut}
+use Rattle.zk_frames.specs.Framing.{frame, IsBeginning, IsCut, IsFrame}
 use Rattle.zk_waiting.specs.{declared.lane.Lane.Lane, declared.lane.Lane.TheVariants.Ping, declared.lane.Lane.TheVariants.Plain, Waiting.count_of}
 use Rattle.zk_talk.specs.{declared.message.Side.Side, Fault.side_limit, declared.message.Fault.Fault, Receiving.CameWithin, Receiving.CameWhole, Receiving.IsReceived, Viewed.other_side, declared.limits.Limits.Limits, Held.Message}
 use Rattle.zk_talk.specs.declared.message.Side.TheVariants.{Client, Server}
-use Rattle.zk_talk.proofs.{Answering.received, GoodSteps.load_here, Histories.no_bytes, Lists.both_empty, Standing.bytes-on, Standing.other-on}
-use Rattle.zk_talk.specs.{History.History, History.side_bytes, History.on, Stands.TalkState, Stands.Stands, Streams.StreamState, Streams.passed, Conversation.Conversation, Conversation.load, Good.Good, Good.client_bytes, Good.server_bytes}
+use Rattle.zk_talk.proofs.{Answering.received, Bodies.frame_once, GoodSteps.load_here, Histories.no_bytes, Lists.both_empty, Standing.bytes-on, Standing.other-on}
+use Rattle.zk_talk.specs.{History.History, History.side_bytes, History.on, Stands.TalkState, Stands.Stands, Streams.StreamState, Streams.IsAtFrame, Streams.passed, Conversation.Conversation, Conversation.load, Good.Good, Good.client_bytes, Good.server_bytes}
 use Rattle.zk_through.specs.declared.through.Went.TheVariants as went
 use Rattle.zk_through.specs.{Came.Came, Came.payloads, Came.IsCutOn, Came.AreFrames, Came.told, Unseen.IsUnseen, Unseen.Seen, Unseen.IsSeen, Unseen.TellsMatched}
 use Rattle.zk_through.specs.LeftOut.{is_on, asked, replied, Kept, NewestAnswers}
-use Rattle.zk_through.specs.Turns.{IsLane, AreLanes, waits_on, turn_of, no_turns, left_out, number_of_turns}
-use Rattle.zk_through.specs.Runs.{ThroughState, AreStreams, Runs, GoesOnTold, WentOn, of_side, stream_on}
+use Rattle.zk_through.specs.Turns.{IsLane, AreLanes, AreRequests, waits_on, no_turns, left_out, number_of_turns}
+use Rattle.zk_through.specs.Runs.{ThroughState, AreStreams, Runs, GoesOnTold, WentOn, KeepsShown, of_side, stream_on}
 use Rattle.zk_through.proofs.{Seen.seen_more, Seen.passed_over, Newest.newest_none}
 use Rattle.zk_through.proofs.Frames.{no_payloads, payloads-same, payloads-other, by_sides, within_on, whole_on}
 
@@ -61,6 +61,7 @@ went_within side old new piece x w other is = (
       let streams = streams_on side old new piece h c k M r r.all frames refl other (ap (λ (z : StreamState). z.count) w.is ∙ r.counts side) (ap (λ (z : StreamState). z.size) w.is) in
       nothing_more new (h ++ on side piece) c k M
       (subst (λ (z : ThroughState). Runs z (h ++ on side piece) c k M) (sym is) (with_streams old new.client new.server old.late old.matched h (h ++ on side piece) c k M r r.all streams r.seen r.matched)),
+  subst (λ (z : ThroughState). KeepsShown side old z) (sym is) (refl, λ m shows. shows),
 )
 
 -- ---- A whole frame
@@ -101,6 +102,36 @@ pub received_whole : {side : Side} {old : ThroughState} → IsReady side old →
 received_whole {side} {old} x piece used kept s keeps e r =
     let w = received side (stream_on side old) piece kept s keeps e r in
     (whole_came side old piece used s x w.0, w.1)
+
+-- the side is at the frame's end
+pub at_frame : (old s : StreamState) (piece : List ℕ) (used : ℕ) → CameWhole old piece used s → old.limit ≤ 16777216 → old.count ≤ old.size → IsAtFrame s used
+at_frame old s piece used w small count =
+    let limit : s.limit ≡ old.limit = ap (λ (z : StreamState). z.limit) w.stays in
+    let size : s.size ≡ old.size = ap (λ (z : StreamState). z.size) w.stays in
+    let number : s.count ≡ old.count = ap (λ (z : StreamState). z.count) w.stays in
+    record {
+      whole = subst (λ z. IsFrame z s.held) (sym limit) w.advance.4;
+      limit = omega (arith, small, limit);
+      part = omega (arith, ap length w.advance.3, length-append old.held (take used piece), length-take-le used piece w.advance.1);
+      size = omega (arith, w.advance.2, size);
+      count = omega (arith, count, number, size);
+    }
+
+-- it carries this payload
+abbrev pub carrying : {side : Side} {old : ThroughState} {piece : List ℕ} {used : ℕ} {s : StreamState} → WholeCame side old piece used s → (payload : List ℕ) → s.held ≡ frame payload → WholeCame side old piece used s
+carrying {side} {old} {piece} {used} {s} w payload held = record {
+  p = payload;
+  held = held;
+  stays = w.stays;
+  some = w.some;
+  part = w.part;
+  small = w.small;
+  fits = subst (λ (z : List ℕ). length z ≤ side_limit old.talk.limits side) (frame_once w.p payload (sym w.held ∙ held)) w.fits;
+  is = w.is ∙ sym w.held ∙ held;
+  none = w.none;
+  count = w.count;
+  ready = w.ready;
+}
 
 -- what is the same whatever becomes of the side's frame
 pub record FrameCame (side : Side) (old new : ThroughState) (piece : List ℕ) (used : ℕ) (p : List ℕ) : Type 0 where
@@ -197,11 +228,11 @@ module _ (talk : TalkState) (client server : StreamState) (stands : Stands talk 
   start_cut : (side : Side) → IsCutOn talk.limits [] [] side []
   start_cut side = subst (λ z. IsCut (side_limit talk.limits side) (side_bytes side []) z []) (sym (no_payloads side)) (record { whole = no_bytes side; within = tt; beginning = inl (omega arith) })
 
-  no_lane : (lane : Lane) → IsLane lane [] []
+  no_lane : (lane : Lane) → IsLane talk.limits.profile lane [] []
   no_lane lane =
       let asks : asked lane [] ≡ [] = ap (λ z. filter (λ (x : ℕ × List ℕ). is_on lane 8 x.1) (drop 1 (enumerate_from 0 z))) (no_payloads Client) in
       let rs : replied lane [] ≡ 0 = ap (λ z. length (filter (is_on lane 16) (drop 1 z))) (no_payloads Server) in
-      record { paired = omega (arith, rs); are = sym (λ i. map turn_of (drop (rs i) (asks i))) }
+      record { paired = omega (arith, rs); are = subst (AreRequests talk.limits.profile []) (sym (λ i. drop (rs i) (asks i))) tt }
 
   no_lanes : (room : ℕ) → AreLanes talk.limits.profile [] (no_turns room)
   no_lanes room = record {
@@ -209,7 +240,7 @@ module _ (talk : TalkState) (client server : StreamState) (stands : Stands talk 
     left = record { ping = 0; auth = 0; watches = 0; plain = 0; pings = refl; auths = refl; of_watches = refl; of_plain = refl; all = refl };
   }
     where
-      each : (l : Lane) → IsLane l [] (waits_on l (no_turns room))
+      each : (l : Lane) → IsLane talk.limits.profile l [] (waits_on l (no_turns room))
       each Ping = no_lane Ping
       each l = no_lane l
 

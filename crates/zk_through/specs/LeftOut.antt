@@ -1,7 +1,9 @@
--- Which frames are left out: requests of operations that the profile lacks, and the replies to them.
-use Rattle.std.specs.Prelude.{◌≡◌, ◌≢◌, ℕ, ◌⊎◌, ℤ, negsuc, List, [], ◌∷◌, ◌++◌, length, take, drop, filter, Bool, true, false, if◌then◌else◌, nat_le, Some, Option, None, slice_get}
+-- Which frames are left out: requests of operations that the profile lacks, multis with parts of later profiles, and the
+-- replies to them.
+use Rattle.std.specs.Prelude.{◌≡◌, ◌≢◌, ℕ, ◌+◌, ◌⊎◌, ℤ, pos, negsuc, List, [], ◌∷◌, ◌++◌, length, take, drop, filter, Bool, true, false, if◌then◌else◌, nat_le, Some, Option, None, slice_get}
 use Rattle.std.specs.{List.enumerate_from, Ordering.int_eq, Int.w64, Int.cast_signed, Int.from_be_bytes}
-use Rattle.zk_jute.specs.Faults.{first_int}
+use Rattle.zk_jute.specs.{Faults.first_int, declared.fault.Reason.TheVariants.BadPart}
+use Rattle.zk_asks.specs.Faults.{IsAskFault}
 use Rattle.zk_records.specs.{declared.profile.Profile.Profile, Codes.IsNoOp}
 use Rattle.zk_waiting.specs.{declared.lane.Lane.Lane, Lane.lane_of, Lane.same_lane}
 use Rattle.zk_waiting.specs.declared.lane.Lane.TheVariants.{Ping, Auth, Watches, Plain}
@@ -58,8 +60,26 @@ replied lane came = length (filter (is_on lane 16) (drop 1 (payloads Server came
 abbrev pub IsLackedUnder : Profile → ℤ → ℤ → Type 0
 IsLackedUnder profile xid number = (may_be_out (lane_of xid) ≡ true) × IsNoOp profile number
 
+-- create2, createContainer and createTTL, which are parts in later profiles
+unfoldable pub is_newer_part : ℤ → Bool
+is_newer_part number = if int_eq number (pos 15) then true else if int_eq number (pos 19) then true else int_eq number (pos 21)
+
+-- The header of such a part is at the place: its number, the boolean 0, and the error -1. The last five of its nine bytes are
+-- 00 ff ff ff ff.
+unfoldable pub is_newer_at : List ℕ → ℕ → Bool
+is_newer_at p place =
+    if nat_le (place + 9) (length p) then
+    if is_newer_part (first_int (drop place p)) then
+    if int_eq (first_int (drop (place + 4) p)) (pos 16777215) then int_eq (first_int (drop (place + 5) p)) (negsuc 0) else false
+    else false else false
+
+-- and it is what first can't be there: the parts before it are those of the profile
+abbrev pub HasNewerPart : Profile → List ℕ → Type 0
+HasNewerPart profile p = (place : ℕ) × IsAskFault profile p place BadPart × (is_newer_at p place ≡ true)
+
+-- the request is of such an operation, or a multi with such a part
 abbrev pub IsForeign : Profile → List ℕ → Type 0
-IsForeign profile p = IsLackedUnder profile (xid_of p) (number_of p)
+IsForeign profile p = IsLackedUnder profile (xid_of p) (number_of p) ⊎ ((number_of p ≡ pos 14) × HasNewerPart profile p)
 
 -- the reply is to answer this request, if it has the request's xid
 abbrev pub IsTurnOf : Came → List ℕ → ℕ × List ℕ → Type 0

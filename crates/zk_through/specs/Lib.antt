@@ -4,3 +4,7 @@ pub mod LeftOut
 pub mod Unseen
 pub mod Turns
 pub mod Runs
+pub mod Fates
+pub mod Alone
+pub mod Resumed
+pub mod Offered

@@ -1,5 +1,5 @@
 -- What a connection comes to: the conversation that the talk is told, and the requests and replies that are left out.
-use Rattle.std.specs.Prelude.{◌≡◌, ◌≢◌, ℕ, ℤ, Bool, ◌+◌, ◌≤◌, ◌<◌, ◌^◌, ◌⊎◌, List, [], ◌∷◌, ◌++◌, length, take, Option, Some, None, true, false}
+use Rattle.std.specs.Prelude.{◌≡◌, ◌≢◌, ℕ, Bool, ◌+◌, ◌≤◌, ◌<◌, ◌^◌, ◌⊎◌, List, [], ◌∷◌, ◌++◌, length, take, Option, Some, None, true}
 use Rattle.zk_jute.specs.declared.fault.Reason.{Reason}
 use Rattle.zk_jute.specs.declared.fault.Reason.TheVariants.{StreamEnd, LengthRange, QueueFull, Unasked, XidOrder}
 use Rattle.zk_records.specs.declared.profile.Profile.{Profile}
@@ -8,10 +8,10 @@ use Rattle.zk_frames.specs.Framing.{frame, IsBadLength}
 use Rattle.zk_talk.specs.{declared.message.Side.Side, declared.message.Fault.Fault, declared.message.Ending.Ending, declared.limits.Limits.Limits, Held.Message, Payloads.client_payload, History.History, History.side_bytes, History.on}
 use Rattle.zk_talk.specs.declared.message.Side.TheVariants.{Client, Server}
 use Rattle.zk_talk.specs.declared.message.Ending.TheVariants.{Whole, Cut, Refused}
-use Rattle.zk_talk.specs.{Conversation.Conversation, Conversation.load, Conversation.weight, Good.Good, Fault.IsFaultOf, Fault.side_limit, Fault.fault_of, Ending.IsEnding, Stands.TalkState, Stands.Stands, Stands.Refuses}
-use Rattle.zk_talk.specs.{Streams.StreamState, Viewed.Shows, Viewed.Leaves}
+use Rattle.zk_talk.specs.{Conversation.Conversation, Conversation.load, Conversation.weight, Good.Good, Fault.IsFaultOf, Fault.side_limit, Fault.fault_of, Ending.IsEnding, Stands.TalkState, Stands.Stands, Stands.Refuses, Stands.kept_on}
+use Rattle.zk_talk.specs.{Streams.StreamState, Taking.given_up as unshown, Viewed.Shows, Viewed.Leaves}
 use Rattle.zk_waiting.specs.Waiting.{count_of}
-use Rattle.zk_through.specs.{declared.turn.Turn.Turn, declared.through.Went.Went, Came.Came, Came.payloads, Came.AreFrames, Came.told, Unseen.IsUnseen, Unseen.Seen, Unseen.IsSeen, Unseen.TellsMatched}
+use Rattle.zk_through.specs.{declared.through.Went.Went, Came.Came, Came.payloads, Came.AreFrames, Came.told, Unseen.IsUnseen, Unseen.Seen, Unseen.IsSeen, Unseen.TellsMatched}
 use Rattle.zk_through.specs.declared.through.Went.TheVariants as went
 use Rattle.zk_through.specs.LeftOut.{xid_of, zxid_of, err_of, has_turn, lane_in, asked, replied, IsForeign, IsTurnOf, Kept, NewestAnswers}
 use Rattle.zk_through.specs.Turns.{TurnsState, AreLanes, IsDue, turn_of, left_out, number_of_turns}
@@ -97,19 +97,6 @@ left_on side t = (stream_on side t).kept
 abbrev pub IsRequestOf : Profile → List ℕ → ℕ → Type 0
 IsRequestOf profile p w = (f : ClientFrame) × IsLater f × IsSent f × IsOfProfile profile f × (client_payload f ≡ p) × (w ≡ weight f)
 
--- what the client's whole frame weighs: none if it is the first, or no request of the profile
-pub record IsWeightOf (profile : Profile) (s : StreamState) (weight : ℕ) : Type 0 where
-  pub found : 0 < weight → (0 < s.count) × ((p : List ℕ) → s.held ≡ frame p → IsRequestOf profile p weight)
-  pub only : 0 < s.count → (p : List ℕ) (w : ℕ) → s.held ≡ frame p → IsRequestOf profile p w → w ≡ weight
-
--- or no more than this, if it is a request of the profile
-abbrev pub WeighsAtMost : Profile → StreamState → ℕ → Type 0
-WeighsAtMost profile s most = 0 < s.count → (p : List ℕ) (w : ℕ) → s.held ≡ frame p → IsRequestOf profile p w → w ≤ most
-
--- no more than this, and exactly this if it is more than the room
-abbrev pub IsWeighed : Profile → StreamState → ℕ → ℕ → Type 0
-IsWeighed profile s room weight = WeighsAtMost profile s weight × (room < weight → IsWeightOf profile s weight)
-
 -- a request that is left out weighs 1, and one that the talk gets as there
 abbrev pub Weighs : Profile → List ℕ → ℕ → Type 0
 Weighs profile p w = ((has_turn 8 p ≡ true) × IsForeign profile p × (w ≡ 1)) ⊎ IsRequestOf profile p w
@@ -124,22 +111,27 @@ pub record IsFull (old : ThroughState) (piece : List ℕ) : Type 0 where
   pub weighs : Weighs old.talk.limits.profile payload weight
   pub full : WhereItRuns old (λ v. old.talk.limits.waiting < load v.client v.server + left_out old.turns + weight)
 
--- what became of the bytes that were used
+-- what the side shows stays as it is
+abbrev pub KeepsShown : Side → ThroughState → ThroughState → Type 0
+KeepsShown side old new = Leaves side old.talk new.talk
+
+-- what became of the bytes that were used; without a message the side shows what it showed
 abbrev pub WentOn : ThroughState → Side → List ℕ → ℕ → Went → ThroughState → Type 0
-WentOn old side piece used went.Within new = (used ≡ length piece) × (left_on side new ≡ []) × GoesOn old side piece [] [] [] new
+WentOn old side piece used went.Within new =
+    (used ≡ length piece) × (left_on side new ≡ []) × GoesOn old side piece [] [] [] new × KeepsShown side old new
 WentOn old side piece used went.Message new =
     (used ≤ length piece) × (left_on side new ≡ []) × (p : List ℕ) × GoesOnTold old side (take used piece) p new
 WentOn old side piece used (went.Asked turn) new =
-    (used ≤ length piece) × (side ≡ Client) × (p : List ℕ) × (left_on side new ≡ frame p) × (turn ≡ turn_of (old.client.count, p)) ×
-    GoesOn old side (take used piece) ((side, p) ∷ []) [] [] new
+    (used ≤ length piece) × (side ≡ Client) × (p : List ℕ) × (left_on side new ≡ frame p) × (turn ≡ turn_of true (old.client.count, p)) ×
+    GoesOn old side (take used piece) ((side, p) ∷ []) [] [] new × KeepsShown side old new
 WentOn old side piece used (went.Answered turn) new =
     (used ≤ length piece) × (side ≡ Server) × (q : List ℕ) × (left_on side new ≡ frame q) × (xid_of q ≡ turn.xid) ×
-    IsDue old.turns turn.xid turn × GoesOn old side (take used piece) ((side, q) ∷ []) [] [] new
+    IsDue old.turns turn.xid turn × GoesOn old side (take used piece) ((side, q) ∷ []) [] [] new × KeepsShown side old new
 WentOn old side piece used (went.Unseen xid zxid err) new =
     (used ≤ length piece) × (side ≡ Server) × (q : List ℕ) × (left_on side new ≡ frame q) ×
-    (xid ≡ xid_of q) × (zxid ≡ zxid_of q) × (err ≡ err_of q) × PassesOver old (take used piece) q new
+    (xid ≡ xid_of q) × (zxid ≡ zxid_of q) × (err ≡ err_of q) × PassesOver old (take used piece) q new × KeepsShown side old new
 WentOn old side piece used went.Full new =
-    (used ≡ 0) × (side ≡ Client) × (left_on side new ≡ []) × IsFull old piece × GoesOn old side [] [] [] [] new
+    (used ≡ 0) × (side ≡ Client) × (left_on side new ≡ []) × IsFull old piece × GoesOn old side [] [] [] [] new × KeepsShown side old new
 
 -- The frame, after these, is no later frame of the client's that is a request of the profile. So no frame is refused because
 -- too much waits.
@@ -197,36 +189,31 @@ KeepsTalk old new = (h : History) (M : List Message) → Stands old h M → Wait
 abbrev pub KeepsWaiting : ThroughState → ThroughState → Type 0
 KeepsWaiting old new = (left_out new.turns ≡ left_out old.turns) × KeepsTalk old.talk new.talk
 
+-- no side shows a message, and none was left out or passed over last
+abbrev pub KeepsNothing : ThroughState → Type 0
+KeepsNothing t = ((side : Side) → left_on side t ≡ []) × ((side : Side) → kept_on side t.talk ≡ [])
+
+-- The refused side shows no message and keeps no frame. Its refused frame isn't counted, nor are bytes of the piece, and it
+-- is no newest one.
+pub record KeepsNone (side : Side) (old new : ThroughState) : Type 0 where
+  pub left : left_on side new ≡ []
+  pub shown : kept_on side new.talk ≡ []
+  pub frames : (stream_on side new).count ≡ (stream_on side old).count
+  pub sizes : (stream_on side new).size ≡ (stream_on side old).size
+  pub answered : new.answered ≡ old.answered
+
 -- the frame that was left out last on the side is dropped
 abbrev pub given_up : Side → ThroughState → ThroughState
 given_up Client t = record t { client = record t.client { kept = [] } }
 given_up Server t = record t { server = record t.server { kept = [] } }
 
+-- so is the frame of the message that the side shows
+abbrev pub silenced : Side → ThroughState → ThroughState
+silenced side t = record t { talk = unshown side t.talk }
+
 -- what the side shows, and what was left out on it, stays
 abbrev pub LeavesSide : Side → ThroughState → ThroughState → Type 0
 LeavesSide side old new = Leaves side old.talk new.talk × (stream_on side new ≡ stream_on side old)
-
--- the side's whole frame is a later one, with a header of this many bytes under such an xid
-abbrev pub IsAhead : ℕ → StreamState → (List ℕ → Type 0) → Type 0
-IsAhead size s Is = (0 < s.count) × ((p : List ℕ) → s.held ≡ frame p → (has_turn size p ≡ true) × Is p)
-
--- its header says this
-abbrev pub IsHeader : StreamState → ℤ × ℤ × ℤ → Type 0
-IsHeader s head = (q : List ℕ) → s.held ≡ frame q → head ≡ (xid_of q, zxid_of q, err_of q)
-
--- it is no such frame
-abbrev pub IsNotAhead : ℕ → StreamState → Type 0
-IsNotAhead size s = (0 < s.count) → (p : List ℕ) → s.held ≡ frame p → has_turn size p ≡ false
-
--- the request of the client's whole frame, if that is a later one with such a header
-abbrev pub TellsRequest : StreamState → Option Turn → Type 0
-TellsRequest s (Some turn) = IsAhead 8 s (λ p. turn ≡ turn_of (s.count, p))
-TellsRequest s None = IsNotAhead 8 s
-
--- and the xid of the server's
-abbrev pub TellsReply : StreamState → Option ℤ → Type 0
-TellsReply s (Some xid) = IsAhead 16 s (λ q. xid ≡ xid_of q)
-TellsReply s None = IsNotAhead 16 s
 
 -- the fault is kept, at the side's own frame and offset, and the side is as it was
 abbrev pub IsKeptAt : Side → StreamState → ℕ → Fault → Option Fault → Type 0

@@ -1,5 +1,5 @@
 -- The requests that wait for their replies, by lanes.
-use Rattle.std.specs.Prelude.{◌≡◌, ◌≢◌, ℕ, suc, ◌+◌, ◌-◌, ◌≤◌, ◌⊎◌, ℤ, List, [], ◌∷◌, ◌++◌, length, map, drop, slice_get, Bool, true, false, Option, Some, None, Result, Ok, Err}
+use Rattle.std.specs.Prelude.{◌≡◌, ◌≢◌, ℕ, suc, ◌+◌, ◌-◌, ◌≤◌, ◌⊎◌, ℤ, List, [], ◌∷◌, ◌++◌, length, drop, slice_get, Bool, true, false, MatchBool, Option, Some, None, Result, Ok, Err}
 use Rattle.std.specs.{List.list_any, Ordering.int_eq}
 use Rattle.circular_buffer.specs.Buffer.{keep_last}
 use Rattle.zk_jute.specs.declared.fault.Reason.{Reason}
@@ -9,7 +9,7 @@ use Rattle.zk_waiting.specs.{declared.lane.Lane.Lane, Lane.lane_of}
 use Rattle.zk_waiting.specs.declared.lane.Lane.TheVariants.{Ping, Auth, Watches, Plain}
 use Rattle.zk_through.specs.{declared.turn.Turn.Turn, declared.turns.Due.Due, Came.Came}
 use Rattle.zk_through.specs.declared.turns.Due.TheVariants as dues
-use Rattle.zk_through.specs.LeftOut.{xid_of, number_of, asked, replied, IsLackedUnder}
+use Rattle.zk_through.specs.LeftOut.{xid_of, number_of, asked, replied, IsForeign}
 
 -- the requests of each lane that wait, the oldest first; how many of all are left out; for how many a lane has room
 pub record TurnsState : Type 0 where
@@ -20,9 +20,21 @@ pub record TurnsState : Type 0 where
   pub left : ℕ
   pub room : ℕ
 
--- a request, by its header and the number of its frame
-abbrev pub turn_of : ℕ × List ℕ → Turn
-turn_of x = record { xid = xid_of x.1; number = number_of x.1; frame = x.0 }
+-- a request, by its header and the number of its frame, and whether it is left out
+abbrev pub turn_of : Bool → ℕ × List ℕ → Turn
+turn_of out x = record { xid = xid_of x.1; number = number_of x.1; frame = x.0; out = out }
+
+-- the request is this one, and is left out exactly if it is foreign
+pub record IsRequest (profile : Profile) (turn : Turn) (x : ℕ × List ℕ) : Type 0 where
+  pub is : turn ≡ turn_of turn.out x
+  pub out : MatchBool turn.out (IsForeign profile x.1) (IsForeign profile x.1 → ⊥)
+
+-- one by one they are these requests
+abbrev pub AreRequests : Profile → List Turn → List (ℕ × List ℕ) → Type 0
+AreRequests profile [] [] = Unit {0}
+AreRequests profile [] (x ∷ xs) = ⊥
+AreRequests profile (turn ∷ turns) [] = ⊥
+AreRequests profile (turn ∷ turns) (x ∷ xs) = IsRequest profile turn x × AreRequests profile turns xs
 
 abbrev pub waits_on : Lane → TurnsState → List Turn
 waits_on Ping t = t.ping
@@ -42,36 +54,36 @@ abbrev pub number_of_turns : TurnsState → ℕ
 number_of_turns t = length t.ping + length t.auth + length t.watches + length t.plain
 
 -- what waits in the lane after these frames: its requests without the first ones, as many as its replies
-pub record IsLane (lane : Lane) (came : Came) (waits : List Turn) : Type 0 where
+pub record IsLane (profile : Profile) (lane : Lane) (came : Came) (waits : List Turn) : Type 0 where
   pub paired : replied lane came ≤ length (asked lane came)
-  pub are : waits ≡ map turn_of (drop (replied lane came) (asked lane came))
+  pub are : AreRequests profile waits (drop (replied lane came) (asked lane came))
 
--- the request is left out, by its header alone
-abbrev pub IsLacked : Profile → Turn → Type 0
-IsLacked profile turn = IsLackedUnder profile turn.xid turn.number
+-- the request is left out
+abbrev pub IsLacked : Turn → Type 0
+IsLacked turn = turn.out ≡ true
 
 -- so many of these requests are left out
-abbrev pub AreLacked : Profile → List Turn → ℕ → Type 0
-AreLacked profile [] n = n ≡ 0
-AreLacked profile (turn ∷ turns) n =
-    (IsLacked profile turn × (m : ℕ) × (n ≡ suc m) × AreLacked profile turns m) ⊎ ((IsLacked profile turn → ⊥) × AreLacked profile turns n)
+abbrev pub AreLacked : List Turn → ℕ → Type 0
+AreLacked [] n = n ≡ 0
+AreLacked (turn ∷ turns) n =
+    (IsLacked turn × (m : ℕ) × (n ≡ suc m) × AreLacked turns m) ⊎ ((IsLacked turn → ⊥) × AreLacked turns n)
 
 -- how many are left out, by lanes
-pub record AreLeft (profile : Profile) (t : TurnsState) : Type 0 where
+pub record AreLeft (t : TurnsState) : Type 0 where
   pub ping : ℕ
   pub auth : ℕ
   pub watches : ℕ
   pub plain : ℕ
-  pub pings : AreLacked profile t.ping ping
-  pub auths : AreLacked profile t.auth auth
-  pub of_watches : AreLacked profile t.watches watches
-  pub of_plain : AreLacked profile t.plain plain
+  pub pings : AreLacked t.ping ping
+  pub auths : AreLacked t.auth auth
+  pub of_watches : AreLacked t.watches watches
+  pub of_plain : AreLacked t.plain plain
   pub all : t.left ≡ ping + auth + watches + plain
 
 -- what is known of the lanes after these frames
 pub record AreLanes (profile : Profile) (came : Came) (t : TurnsState) : Type 0 where
-  pub lane : (lane : Lane) → IsLane lane came (waits_on lane t)
-  pub left : AreLeft profile t
+  pub lane : (lane : Lane) → IsLane profile lane came (waits_on lane t)
+  pub left : AreLeft t
 
 -- no requests, and this room
 abbrev pub no_turns : ℕ → TurnsState
@@ -115,17 +127,17 @@ abbrev pub IsDue : TurnsState → ℤ → Turn → Type 0
 IsDue t xid turn = slice_get (waits_on (lane_of xid) t) 0 ≡ Some turn
 
 -- why the reply with this xid is refused: nothing of its lane waits, or it is the turn of a request that is left out
-abbrev pub IsBadTurn : Profile → TurnsState → ℤ → Reason → Type 0
-IsBadTurn profile t xid reason =
+abbrev pub IsBadTurn : TurnsState → ℤ → Reason → Type 0
+IsBadTurn t xid reason =
     ((slice_get (waits_on (lane_of xid) t) 0 ≡ None) × (reason ≡ Unasked)) ⊎
-    ((turn : Turn) × IsDue t xid turn × IsLacked profile turn × (turn.xid ≢ xid) × (reason ≡ XidOrder turn.xid xid))
+    ((turn : Turn) × IsDue t xid turn × IsLacked turn × (turn.xid ≢ xid) × (reason ≡ XidOrder turn.xid xid))
 
 -- whom the frame answers: a request that the talk got, or one that is left out; or why it is refused
-abbrev pub Judges : Profile → TurnsState → Option ℤ → Result Due Reason → Type 0
-Judges profile t xid (Ok dues.Nothing) = xid ≡ None
-Judges profile t xid (Ok (dues.Told turn)) = (x : ℤ) × (xid ≡ Some x) × IsDue t x turn × (IsLacked profile turn → ⊥)
-Judges profile t xid (Ok (dues.LeftOut turn)) = (xid ≡ Some turn.xid) × IsDue t turn.xid turn × IsLacked profile turn
-Judges profile t xid (Err reason) = (x : ℤ) × (xid ≡ Some x) × IsBadTurn profile t x reason
+abbrev pub Judges : TurnsState → Option ℤ → Result Due Reason → Type 0
+Judges t xid (Ok dues.Nothing) = xid ≡ None
+Judges t xid (Ok (dues.Told turn)) = (x : ℤ) × (xid ≡ Some x) × IsDue t x turn × (IsLacked turn → ⊥)
+Judges t xid (Ok (dues.LeftOut turn)) = (xid ≡ Some turn.xid) × IsDue t turn.xid turn × IsLacked turn
+Judges t xid (Err reason) = (x : ℤ) × (xid ≡ Some x) × IsBadTurn t x reason
 
 -- the number of the client's frame that the server's frame answers, after so many others
 abbrev pub TellsFrame : Due → ℕ → Option ℕ → Type 0

@@ -1,11 +1,11 @@
 //! `Through::join`: a connection that is seen late.
-ghost use Rattle.std.specs.Prelude.{◌≡◌, ℕ, List, true, IfOk};
-ghost use Rattle.zk_talk.specs.Held.{Message};
-ghost use Rattle.zk_through.specs.{Came.told, Unseen.made_up, Runs.Runs, Runs.GoesOnTold};
+ghost use Rattle.std.specs.Prelude.{◌≡◌, ◌<◌, ◌^◌, ℕ, List, [], length, true, IfOk};
+ghost use Rattle.zk_frames.specs.Framing.{frame};
+ghost use Rattle.zk_through.specs.Resumed.{Hears, IsWelcomed, IsLate};
 
-use crate::through::{Through, Went};
+use crate::through::Through;
 use std::alloc::{AllocError, Global};
-use zk_talk::{Limits, Side};
+use zk_talk::{Limits, Side, Stream, Talk};
 
 /// The frame of a connect request that nobody sent: each number is -1, and the password is null.
 const REQUEST: &[u8] = &[
@@ -18,22 +18,51 @@ const ANSWER: &[u8] = &[
     255, 255, 255, 255,
 ];
 
-/// Whether the side's whole frame is taken as a message.
-fn takes(through: &mut Through, side: Side, frame: &[u8]) -> bool
-    ensures limits { through.new.talk.limits ≡ through.old.talk.limits }
-    ensures late { through.new.late ≡ through.old.late }
-    ensures took { result ≡ true → (p : List ℕ) × GoesOnTold through.old side frame.now p through.new }
+/// Gives the talk a whole frame, which may come next.
+fn hear(talk: &mut Talk, side: Side, bytes: &[u8])
+    ensures limits { talk.new.limits ≡ talk.old.limits }
+    ensures told { (p : List ℕ) → bytes.now ≡ frame p → Hears talk.old side p talk.new }
 {
-    let Ok(passed) = through.step(side, frame) else {
-        return false;
-    };
-    match passed.went {
-        Went::Message => passed.used == frame.len(),
-        _ => false,
-    }
+    let _stepped = talk.step(side, bytes);
+}
+
+/// Begins the talk anew with a connect request and its answer, which nobody sent. Allocates nothing.
+fn welcome(talk: &mut Talk)
+    ensures limits { talk.new.limits ≡ talk.old.limits }
+    ensures welcomed { IsWelcomed talk.new }
+{
+    talk.renew();
+    hear(talk, Side::Client, REQUEST);
+    hear(talk, Side::Server, ANSWER);
+    talk.give_up(Side::Client);
+    talk.give_up(Side::Server);
+}
+
+/// Begins the side anew, at the end of this frame, which is counted.
+fn begin_after(stream: &mut Stream, bytes: &[u8])
+    requires { length bytes.now < 2 ^ 62 }
+    ensures { stream.new ≡ record { limit = stream.old.limit; held = []; kept = []; count = 1; size = length bytes.now } }
+{
+    stream.renew();
+    stream.pass_whole(bytes.len());
 }
 
 impl Through {
+    /// Begins anew as a connection that is seen late. Allocates nothing.
+    pub(crate) fn be_late(&mut self)
+        ensures limits { self.new.talk.limits ≡ self.old.talk.limits }
+        ensures late { IsLate self.new }
+    {
+        welcome(&mut self.talk);
+        begin_after(&mut self.client, REQUEST);
+        begin_after(&mut self.server, ANSWER);
+        self.turns.renew();
+        self.late = true;
+        self.matched = false;
+        self.answered = Some(0);
+        self.fault = None;
+    }
+
     /// A connection that is seen late, each side from the first byte of a frame on: all requests from some moment on,
     /// and all that the server sent after it. Memory is allocated as by `new`.
     ///
@@ -44,20 +73,13 @@ impl Through {
     ///
     /// # Errors
     ///
-    /// `AllocError` if memory is refused.
+    /// `AllocError` if memory is refused, as for `new`; nothing else is.
     pub fn join(alloc: Global, limits: Limits) -> Result<Self, AllocError>
         ensures limits { IfOk result (λ t. t.talk.limits ≡ limits) }
-        ensures late { IfOk result (λ t. t.late ≡ true) }
-        ensures runs { IfOk result (λ t. (M : List Message) × Runs t (told made_up) made_up made_up M) }
+        // It is seen late: the connect pair has come that nobody sent, and no side shows or keeps anything.
+        ensures late { IfOk result IsLate }
     {
         let mut through = Through::new(alloc, limits)?;
-        // They are always taken; there is no panic for what never comes.
-        if !takes(&mut through, Side::Client, REQUEST) {
-            return Err(AllocError);
-        }
-        if !takes(&mut through, Side::Server, ANSWER) {
-            return Err(AllocError);
-        }
         through.be_late();
         Ok(through)
     }

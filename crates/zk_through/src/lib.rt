@@ -3,7 +3,7 @@
 //! A newer client asks what the profile lacks (addWatch, getEphemerals, setWatches2). A `Talk` refuses the first of
 //! these, for good. `Through` cuts the frames itself, and gives the talk whole frames: all but a client's request whose
 //! operation the profile lacks, and the reply with its xid when its turn in its lane has come. `Through::step` is the
-//! main call.
+//! main call; `Through::offer` takes a whole frame only if it may come next.
 //!
 //! Requests are left out of two lanes: the plain one, and that of setWatches, with the xid -8. Under the xids of pings
 //! and auths, and under an event's, all goes to the talk.
@@ -21,12 +21,22 @@
 //!
 //! Memory is allocated once, by `Through::new`. The crate rests on `zk_jute`, `zk_records`, `zk_asks`, `zk_answers`,
 //! `zk_frames`, `zk_waiting`, `zk_talk` and `circular_buffer`.
+//!
+//! ```text
+//! let mut through = Through::new(rt.alloc(), limits)?;
+//! assert!(rt; through.step(Side::Client, CONNECT).is_ok());
+//! let passed = through.step(Side::Client, ADD_WATCH)?; // an operation that no profile has
+//! assert!(rt; matches!(passed.went, Went::Asked(_)) && through.left_out(Side::Client).is_some());
+//! ```
 #![tactic(auto)]
 
-mod ahead;
-mod holds;
+mod fate;
+mod frame_header;
+mod held_counts;
 mod join;
 mod laws;
+mod offer;
+mod resume;
 mod through;
 mod turn;
 mod turns;

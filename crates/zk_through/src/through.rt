@@ -5,12 +5,11 @@ ghost use Rattle.zk_talk.specs.{declared.message.Fault.Fault, declared.message.E
 ghost use Rattle.zk_talk.specs.declared.message.Side.TheVariants.{Client, Server};
 ghost use Rattle.zk_talk.specs.{Held.Message, Stands.Stands, Stands.WhereItStands, Stands.kept_on, Ending.unwelcomed, Viewed.Leaves, Viewed.Shows, Viewed.other_side};
 ghost use Rattle.zk_through.specs.{Came.Came, declared.through.Passed.Passed, declared.through.Went.Went, Turns.HaveRoom, Turns.left_out};
-ghost use Rattle.zk_through.specs.Runs.{ThroughState, WentOn, IsRefused, IsTold, IsNotTold, IsKeptAt, IsNeverFull, IsEndOf, Runs, WaitsAfter, KeepsTalk, KeepsWaiting, given_up, LeavesSide};
+ghost use Rattle.zk_through.specs.Runs.{ThroughState, WentOn, IsRefused, IsTold, IsNotTold, IsKeptAt, IsNeverFull, IsEndOf, Runs, WaitsAfter, KeepsTalk, KeepsWaiting, KeepsNothing, KeepsNone, given_up, silenced, stream_on, left_on, LeavesSide};
 
-use crate::ahead::{asked, lacking, replied, weight};
+use crate::fate::{ClientFate, ServerFate, client_fate, server_fate};
 use crate::turn::Turn;
-use crate::turns::{Due, Turns, frame_answered};
-use crate::unseen::unseen;
+use crate::turns::Turns;
 use std::alloc::{AllocError, Global};
 use std::marker::Model;
 use zk_jute::ItemFault;
@@ -23,7 +22,7 @@ pub enum Went {
     Within,
     /// A frame is whole: a message of the conversation.
     Message,
-    /// A request is whole whose operation the profile lacks.
+    /// A request is whole whose operation the profile lacks, or a multi with a part of a later profile.
     Asked(Turn),
     /// The reply to such a request, the oldest that waits, is whole.
     Answered(Turn),
@@ -44,7 +43,7 @@ pub struct Passed {
 }
 
 impl Passed {
-    fn of(used: usize, went: Went) -> Passed
+    pub(crate) fn of(used: usize, went: Went) -> Passed
         ensures { result ≡ record { used = used; went = went } }
     {
         Passed { used, went }
@@ -58,14 +57,14 @@ pub struct Through {
     pub(crate) client: Stream,
     pub(crate) server: Stream,
     pub(crate) turns: Turns,
-    limits: Limits,
+    pub(crate) limits: Limits,
     /// Whether the connection is seen late.
-    late: bool,
+    pub(crate) late: bool,
     /// Whether a reply of the plain lane came to a request that was seen, if the connection is seen late.
-    matched: bool,
+    pub(crate) matched: bool,
     /// The number of the client's frame that the server's newest frame answers.
     pub(crate) answered: Option<u64>,
-    fault: Option<Fault>,
+    pub(crate) fault: Option<Fault>,
 }
 
 impl Model for Through {
@@ -114,25 +113,6 @@ fn tell(
     }
 }
 
-/// The weight of the requests that wait, those that are left out too.
-pub(crate) fn weight_waiting(talk: &Talk, turns: &Turns) -> u32
-    requires { HaveRoom talk.now.limits.waiting turns.now }
-    ensures stands { WhereItStands talk.now (λ v c s. result ≡ load v.client v.server + left_out turns.now) }
-    ensures after { (h : History) (M : List Message) → WaitsAfter talk.now h M → result ≡ load (clients M) (servers M) + left_out turns.now }
-    ensures left { left_out turns.now ≤ result }
-{
-    talk.waiting() + turns.left()
-}
-
-/// What more may wait, by weight, if no more than `most` may.
-fn room(talk: &Talk, turns: &Turns, most: u32) -> u64
-    requires { HaveRoom talk.now.limits.waiting turns.now }
-    ensures stands { WhereItStands talk.now (λ v c s. result ≡ most - (load v.client v.server + left_out turns.now)) }
-    ensures left { result ≤ most - left_out turns.now }
-{
-    u64::from(most.saturating_sub(weight_waiting(talk, turns)))
-}
-
 /// 1 if a connect request has no reply, else 0.
 fn unwelcomed(talk: &Talk) -> u32
     ensures value { (h : History) (M : List Message) (st : Stands talk.now h M) → result ≡ unwelcomed st.conversation.client st.conversation.server }
@@ -155,6 +135,7 @@ impl Through {
         ensures limits { IfOk result (λ t. t.talk.limits ≡ limits) }
         ensures late { IfOk result (λ t. t.late ≡ false) }
         ensures runs { IfOk result (λ t. Runs t [] [] [] []) }
+        ensures none { IfOk result KeepsNothing }
     {
         let talk = Talk::new(alloc, limits)?;
         let client = Stream::new(alloc, limits.client())?;
@@ -184,29 +165,33 @@ impl Through {
         ensures err { IfErr result (λ e. IsRefused self.old Client piece.now e self.new) }
         ensures waits { OnErr result (KeepsWaiting self.old self.new) }
         ensures other { LeavesSide Server self.old self.new }
+        ensures left { OnErr result (self.new.client.kept ≡ []) }
+        ensures frames { OnErr result (self.new.client.count ≡ self.old.client.count) }
+        ensures sizes { OnErr result (self.new.client.size ≡ self.old.client.size) }
+        ensures answered { self.new.answered ≡ self.old.answered }
     {
         let side = Side::Client;
         let received = receive(&mut self.fault, side, &mut self.client, piece)?;
         let Some(new) = received else {
             return Ok(Passed::of(piece.len(), Went::Within));
         };
-        let ahead = asked(&self.client);
-        let profile = self.limits.profile();
-        let out = lacking(profile, ahead);
-        let room = room(&self.talk, &self.turns, self.limits.waiting());
-        let weight = weight(profile, out, &self.client, room);
-        if weight > room {
-            self.client.take_back(new);
-            return Ok(Passed::of(0, Went::Full));
+        let (number, payload) = (self.client.count(), self.client.payload());
+        match client_fate(self.limits, &self.talk, &self.turns, number, payload) {
+            ClientFate::Full => {
+                self.client.take_back(new);
+                Ok(Passed::of(0, Went::Full))
+            }
+            ClientFate::LeftOut(turn) => {
+                self.turns.leave(turn);
+                self.client.keep(new);
+                Ok(Passed::of(new, Went::Asked(turn)))
+            }
+            ClientFate::Told(turn) => {
+                tell(&mut self.talk, &mut self.fault, side, &mut self.client, new)?;
+                self.turns.ask(turn);
+                Ok(Passed::of(new, Went::Message))
+            }
         }
-        if let Some(turn) = out {
-            self.turns.leave(turn);
-            self.client.keep(new);
-            return Ok(Passed::of(new, Went::Asked(turn)));
-        }
-        tell(&mut self.talk, &mut self.fault, side, &mut self.client, new)?;
-        self.turns.ask(ahead);
-        Ok(Passed::of(new, Went::Message))
     }
 
     /// Takes the server's piece up to the end of the first frame that becomes whole, or all of it.
@@ -220,50 +205,75 @@ impl Through {
         ensures err { IfErr result (λ e. IsRefused self.old Server piece.now e self.new) }
         ensures waits { OnErr result (KeepsWaiting self.old self.new) }
         ensures other { LeavesSide Client self.old self.new }
+        ensures left { OnErr result (self.new.server.kept ≡ []) }
+        ensures frames { OnErr result (self.new.server.count ≡ self.old.server.count) }
+        ensures sizes { OnErr result (self.new.server.size ≡ self.old.server.size) }
+        ensures answered { OnErr result (self.new.answered ≡ self.old.answered) }
     {
         let side = Side::Server;
         let received = receive(&mut self.fault, side, &mut self.server, piece)?;
         let Some(new) = received else {
             return Ok(Passed::of(piece.len(), Went::Within));
         };
-        let ahead = replied(&self.server);
-        if let Some((xid, zxid, err)) = unseen(
-            self.late,
-            &mut self.matched,
-            &self.turns,
-            &self.server,
-            ahead,
-        ) {
-            self.server.keep(new);
-            return Ok(Passed::of(new, Went::Unseen { xid, zxid, err }));
-        }
-        let due = match self.turns.due(self.limits.profile(), ahead) {
-            Ok(due) => due,
-            Err(reason) => {
-                let item = ItemFault::at(0, reason);
-                return Err(refuse(&mut self.fault, side, &self.server, new, item));
+        let (number, payload) = (self.server.count(), self.server.payload());
+        match server_fate(self.late, &mut self.matched, &self.turns, number, payload) {
+            ServerFate::Unseen { xid, zxid, err } => {
+                self.server.keep(new);
+                Ok(Passed::of(new, Went::Unseen { xid, zxid, err }))
             }
-        };
-        let answered = frame_answered(due, self.server.count());
-        if let Due::LeftOut(turn) = due {
-            self.turns.answer(turn.xid);
-            self.server.keep(new);
-            self.answered = answered;
-            return Ok(Passed::of(new, Went::Answered(turn)));
+            ServerFate::Refused(reason) => {
+                let item = ItemFault::at(0, reason);
+                Err(refuse(&mut self.fault, side, &self.server, new, item))
+            }
+            ServerFate::LeftOut(turn) => {
+                self.turns.answer(turn.xid);
+                self.server.keep(new);
+                self.answered = Some(turn.frame);
+                Ok(Passed::of(new, Went::Answered(turn)))
+            }
+            ServerFate::Told { xid, frame } => {
+                tell(&mut self.talk, &mut self.fault, side, &mut self.server, new)?;
+                self.turns.reply(xid);
+                self.answered = frame;
+                Ok(Passed::of(new, Went::Message))
+            }
         }
-        tell(&mut self.talk, &mut self.fault, side, &mut self.server, new)?;
-        self.turns.reply(ahead);
-        self.answered = answered;
-        Ok(Passed::of(new, Went::Message))
     }
 
     /// Drops the side's frame that was left out last.
-    fn give_up(&mut self, side: Side)
+    pub(crate) fn give_up(&mut self, side: Side)
         ensures { self.new ≡ given_up side self.old }
     {
         match side {
             Side::Client => self.client.give_up(),
             Side::Server => self.server.give_up(),
+        }
+    }
+
+    /// `step`; but a refused side shows what it showed, unless the talk refused it.
+    #[tactic(auto, using(crate::proofs::Given::leaves_then, crate::proofs::Given::waits_then))]
+    #[inline(always)]
+    fn advance(&mut self, side: Side, piece: &[u8]) -> Result<Passed, Fault>
+        ensures limits { self.new.talk.limits ≡ self.old.talk.limits }
+        ensures late { self.new.late ≡ self.old.late }
+        ensures ok { IfOk result (λ s. WentOn self.old side piece.now s.used s.went self.new) }
+        ensures err { IfErr result (λ e. IsRefused self.old side piece.now e self.new) }
+        ensures room { IfErr result (λ e. IsNeverFull self.old e) }
+        ensures waits { OnErr result (KeepsWaiting self.old self.new) }
+        ensures other { LeavesSide (other_side side) self.old self.new }
+        ensures left { OnErr result (left_on side self.new ≡ []) }
+        ensures frames { OnErr result ((stream_on side self.new).count ≡ (stream_on side self.old).count) }
+        ensures sizes { OnErr result ((stream_on side self.new).size ≡ (stream_on side self.old).size) }
+        ensures answered { OnErr result (self.new.answered ≡ self.old.answered) }
+        ensures kept { (f : Fault) → self.old.fault ≡ Some f → (result ≡ Err f) × (self.new ≡ given_up side self.old) }
+    {
+        self.give_up(side);
+        if let Some(fault) = self.fault {
+            return Err(fault);
+        }
+        match side {
+            Side::Client => self.client_step(piece),
+            Side::Server => self.server_step(piece),
         }
     }
 
@@ -274,7 +284,6 @@ impl Through {
     ///
     /// Why the frame is refused, at the side's own frame and offset, those left out counted; never `QueueFull`. It is
     /// kept, and each later call returns it and uses nothing.
-    #[tactic(auto, using(crate::proofs::Given::leaves_then, crate::proofs::Given::waits_then))]
     #[inline(always)]
     pub fn step(&mut self, side: Side, piece: &[u8]) -> Result<Passed, Fault>
         ensures limits { self.new.talk.limits ≡ self.old.talk.limits }
@@ -289,20 +298,22 @@ impl Through {
         ensures waits { OnErr result (KeepsWaiting self.old self.new) }
         // The other side's frames stay as they are, and show what they show.
         ensures other { LeavesSide (other_side side) self.old self.new }
+        // A refused side keeps and shows nothing, and its refused frame isn't counted.
+        ensures none { OnErr result (KeepsNone side self.old self.new) }
         // A fault is kept.
-        ensures kept { (f : Fault) → self.old.fault ≡ Some f → (result ≡ Err f) × (self.new ≡ given_up side self.old) }
+        ensures kept { (f : Fault) → self.old.fault ≡ Some f → (result ≡ Err f) × (self.new ≡ silenced side (given_up side self.old)) }
     {
-        self.give_up(side);
-        if let Some(fault) = self.fault {
-            return Err(fault);
-        }
-        match side {
-            Side::Client => self.client_step(piece),
-            Side::Server => self.server_step(piece),
+        match self.advance(side, piece) {
+            Ok(passed) => Ok(passed),
+            Err(fault) => {
+                self.talk.give_up(side);
+                Err(fault)
+            }
         }
     }
 
-    /// The message of the side's newest frame that the talk got, borrowed; `None` if it got none.
+    /// The message of the side's newest frame that the talk got, borrowed; `None` if it got none, or if the side's last
+    /// step was refused.
     pub fn view(&self, side: Side) -> Option<MessageRef<'_>>
         ensures shown { MatchOption result (kept_on side self.now.talk ≡ []) (λ m. Shows self.now.talk side m) }
         ensures none { kept_on side self.now.talk ≡ [] → result ≡ None }
@@ -311,7 +322,7 @@ impl Through {
         self.talk.view(side)
     }
 
-    /// How the bytes so far end, those left out too.
+    /// How the bytes so far end, those left out too: whole, within a frame, or refused.
     pub fn finish(&self) -> Ending
         ensures runs { (h : History) (c k : Came) (M : List Message) (r : Runs self.now h c k M) → IsEndOf self.now r.all k result }
         ensures refused { (f : Fault) → self.now.fault ≡ Some f → result ≡ Refused f }
@@ -334,19 +345,12 @@ impl Through {
         Ending::Whole { unanswered }
     }
 
-    /// From now on the connection is one that is seen late, and no reply of the plain lane came.
-    pub(crate) fn be_late(&mut self)
-        ensures { self.new ≡ record self.old { late = true; matched = false } }
-    {
-        self.late = true;
-        self.matched = false;
-    }
-
     /// Begins anew with the same limits: a conversation of which nothing has come, as `new` makes it. Allocates nothing.
     pub fn renew(&mut self)
         ensures limits { self.new.talk.limits ≡ self.old.talk.limits }
         ensures late { self.new.late ≡ false }
         ensures runs { Runs self.new [] [] [] [] }
+        ensures none { KeepsNothing self.new }
     {
         self.talk.renew();
         self.client.renew();

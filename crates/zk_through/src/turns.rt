@@ -4,12 +4,11 @@ ghost use Rattle.std.specs.{List.list_any, Ordering.int_eq};
 ghost use Rattle.zk_waiting.specs.Lane.{lane_of};
 ghost use Rattle.zk_through.specs.Turns.{Judges, TellsFrame, no_turns, and_turn, waits_on, with_waits, after_request, after_left, after_reply, after_answer, IsEarlier, matched_after};
 
-use crate::turn::{Turn, is_lacked};
+use crate::turn::Turn;
 use circular_buffer::HeapCircularBuffer;
 use std::alloc::{AllocError, Global};
 use std::marker::Model;
 use zk_jute::Reason;
-use zk_records::Profile;
 use zk_waiting::{Lane, lane_of};
 
 /// Which request a server's frame is to answer.
@@ -172,8 +171,8 @@ impl Turns {
     /// `Unasked` if nothing of the lane waits; `XidOrder` if it is the turn of a request that is left out, with another
     /// xid.
     #[inline(always)]
-    pub fn due(&self, profile: Profile, xid: Option<i32>) -> Result<Due, Reason>
-        ensures { Judges profile self.now xid result }
+    pub fn due(&self, xid: Option<i32>) -> Result<Due, Reason>
+        ensures { Judges self.now xid result }
     {
         let Some(xid) = xid else {
             return Ok(Due::Nothing);
@@ -181,7 +180,7 @@ impl Turns {
         let Some(turn) = self.oldest(lane_of(xid)) else {
             return Err(Reason::Unasked);
         };
-        if !is_lacked(profile, turn) {
+        if !turn.out {
             return Ok(Due::Told(turn));
         }
         if turn.xid == xid {

@@ -1,11 +1,9 @@
 //! Whether a reply is to a request that wasn't seen, of a connection that is seen late.
 ghost use Rattle.std.specs.Prelude.{◌≡◌, true, IfSome, IfNone, MatchBool};
-ghost use Rattle.zk_frames.specs.Framing.{IsFrame};
-ghost use Rattle.zk_through.specs.{Turns.IsEarlier, Turns.matched_after, LeftOut.xid_of, Runs.IsAhead, Runs.IsHeader};
+ghost use Rattle.zk_through.specs.{Turns.IsEarlier, Turns.matched_after, LeftOut.has_turn, LeftOut.xid_of, LeftOut.zxid_of, LeftOut.err_of};
 
-use crate::ahead::header;
+use crate::frame_header::header;
 use crate::turns::{Turns, has_matched};
-use zk_talk::Stream;
 
 /// Whether the reply with this xid is to a request that wasn't seen. If it isn't, it counts for `matched`.
 #[cold]
@@ -21,20 +19,19 @@ fn is_unseen(matched: &mut bool, turns: &Turns, ahead: Option<i32>) -> bool
     false
 }
 
-/// The xid, the zxid and the err of the server's whole frame, if that is such a reply, of a connection that is seen
-/// `late`; nothing of another.
+/// The xid, the zxid and the err of the server's frame with this payload, if that is such a reply, of a connection that is
+/// seen `late`; nothing of another.
 #[inline(always)]
 pub fn unseen(
     late: bool,
     matched: &mut bool,
     turns: &Turns,
-    server: &Stream,
+    payload: &[u8],
     ahead: Option<i32>,
 ) -> Option<(i32, i64, i32)>
-    requires whole { IsFrame server.now.limit server.now.held }
-    requires ahead { IfSome ahead (λ xid. IsAhead 16 server.now (λ q. xid ≡ xid_of q)) }
+    requires ahead { IfSome ahead (λ xid. has_turn 16 payload.now ≡ true) }
     ensures late { IfSome result (λ head. late ≡ true) }
-    ensures some { IfSome result (λ head. IsEarlier matched.old turns.now ahead × IsHeader server.now head) }
+    ensures some { IfSome result (λ head. IsEarlier matched.old turns.now ahead × (head ≡ (xid_of payload.now, zxid_of payload.now, err_of payload.now))) }
     ensures none { IfNone result (late ≡ true → IsEarlier matched.old turns.now ahead → ⊥) }
     ensures same { late ≡ true → IsEarlier matched.old turns.now ahead → matched.new ≡ matched.old }
     ensures counts { late ≡ true → (IsEarlier matched.old turns.now ahead → ⊥) → matched.new ≡ matched_after ahead matched.old }
@@ -45,5 +42,5 @@ pub fn unseen(
     if !is_unseen(matched, turns, ahead) {
         return None;
     }
-    header(server.payload())
+    header(payload)
 }

@@ -6,7 +6,7 @@ use Rattle.std.proofs.{lemmas.Bool.Decides.Decides-int_eq, lemmas.List.map-appen
 use Rattle.zk_records.specs.{declared.op.Op.Op, declared.op.PartOp.PartOp}
 use Rattle.zk_records.specs.declared.op.Op.TheVariants as ops
 use Rattle.zk_asks.specs.Codes.{ping_xid, auth_xid, watches_xid, IsAllowed}
-use Rattle.zk_waiting.specs.{Lane.lane_of, declared.lane.Lane.Lane, Awaited.bare, Awaited.numbered, Columns.Columns, Columns.column_of, Columns.numbers_on, Columns.with_numbers}
+use Rattle.zk_waiting.specs.{Lane.lane_of, declared.lane.Lane.Lane, Awaited.bare, Awaited.numbered}
 use Rattle.zk_waiting.specs.declared.lane.Lane.TheVariants.{Ping, Auth, Watches, Plain}
 use Rattle.zk_waiting.specs.Waiting.{Request, Lanes, request_weight, queue_weight, weight_of, IsPut, IsWeighed}
 use Rattle.zk_waiting.proofs.Weights.{queue_weight_push}
@@ -69,38 +69,22 @@ put_weighs Auth r old new weight was room e = rw e (record { is = omega (arith, 
 put_weighs Watches r old new weight was room e = rw e (record { is = omega (arith, was.is, queue_weight_push old.watches r); within = omega (arith, was.is, room); small = was.small })
 put_weighs Plain r old new weight was room e = rw e (record { is = omega (arith, was.is, queue_weight_push old.plain r); within = omega (arith, was.is, room); small = was.small })
 
-module _ (max : ℕ) (l : Columns Request) (lane : Lane) (special : lane ≢ Plain) where
+module _ (max : ℕ) (pings auths watches : List ℕ) (plain : List Request) where
   abbrev before : Lanes
-  before = numbered max l.ping l.auth l.watches l.plain
+  before = numbered max pings auths watches plain
 
-  -- the lane has room for one number more
-  pub number_fits : (parts : List PartOp) (now : Lanes) → before ≡ now → weight_of now + (1 + length parts) ≤ now.max → l.room ≡ max → length (numbers_on (column_of lane) l) < l.room
-  number_fits parts now is fits room = go lane special
-    where
-      room_here : weight_of before + (1 + length parts) ≤ max
-      room_here = subst (λ (w : Lanes). weight_of w + (1 + length parts) ≤ w.max) (sym is) fits
+  -- each special lane has room for one number more
+  pub numbers_fit : (parts : List PartOp) (now : Lanes) → before ≡ now → weight_of now + (1 + length parts) ≤ now.max → length pings + length auths + length watches < max
+  numbers_fit parts now is fits =
+      let room : weight_of before + (1 + length parts) ≤ max = subst (λ (w : Lanes). weight_of w + (1 + length parts) ≤ w.max) (sym is) fits in
+      omega (arith, room, numbered_weight max pings auths watches plain)
 
-      all : length l.ping + length l.auth + length l.watches < l.room
-      all = omega (arith, room_here, room, numbered_weight max l.ping l.auth l.watches l.plain)
+  module _ (r : Request) (may : IsAllowed r.xid r.op) (none : r.op ≢ ops.Multi → r.parts ≡ []) where
+    pub put_ping : Ping ≡ lane_of r.xid → IsPut Ping r before (numbered max (pings ++ r.frame ∷ []) auths watches plain)
+    put_ping e = rw (is_bare Ping r may none e, map-append) refl
 
-      go : (k : Lane) → k ≢ Plain → length (numbers_on (column_of k) l) < l.room
-      go Ping s = omega (arith, all)
-      go Auth s = omega (arith, all)
-      go Watches s = omega (arith, all)
-      go Plain s = absurd (s refl)
+    pub put_auth : Auth ≡ lane_of r.xid → IsPut Auth r before (numbered max pings (auths ++ r.frame ∷ []) watches plain)
+    put_auth e = rw (is_bare Auth r may none e, map-append) refl
 
-  module _ (r : Request) (may : IsAllowed r.xid r.op) (none : r.op ≢ ops.Multi → r.parts ≡ []) (its : lane ≡ lane_of r.xid) where
-    abbrev more : Columns Request
-    more = with_numbers (column_of lane) (numbers_on (column_of lane) l ++ r.frame ∷ []) l
-
-    pub number_put : IsPut lane r before (numbered max more.ping more.auth more.watches more.plain) × (more.room ≡ l.room)
-    number_put = go lane special its
-      where
-        go : (k : Lane) → k ≢ Plain → k ≡ lane_of r.xid → (let m = with_numbers (column_of k) (numbers_on (column_of k) l ++ r.frame ∷ []) l in IsPut k r before (numbered max m.ping m.auth m.watches m.plain) × (m.room ≡ l.room))
-        go Ping s e = (rw (is_bare Ping r may none e, map-append) refl, refl)
-        go Auth s e = (rw (is_bare Auth r may none e, map-append) refl, refl)
-        go Watches s e = (rw (is_bare Watches r may none e, map-append) refl, refl)
-        go Plain s e = absurd (s refl)
-
-    pub number_weighs : (now : Lanes) (weight : ℕ) → before ≡ now → weight_of now + request_weight r ≤ now.max → IsWeighed weight before → IsWeighed (weight + 1 + length r.parts) (numbered max more.ping more.auth more.watches more.plain)
-    number_weighs now weight is fits was = put_weighs lane r _ _ weight was (subst (λ (w : Lanes). weight_of w + request_weight r ≤ w.max) (sym is) fits) number_put.0
+    pub put_watches : Watches ≡ lane_of r.xid → IsPut Watches r before (numbered max pings auths (watches ++ r.frame ∷ []) plain)
+    put_watches e = rw (is_bare Watches r may none e, map-append) refl

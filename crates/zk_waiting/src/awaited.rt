@@ -1,16 +1,17 @@
-//! `Awaited`: as `Waiting`, where each request has an xid that its operation allows. So of a request in a special lane only
-//! the number of its frame is kept.
-ghost use Rattle.std.specs.Prelude.{◌≡◌, ◌+◌, ◌<◌, ◌≤◌, ◌↔◌, [], length, IfOk, OnOk, IfErr, IfSome, IsTrue};
+//! `Awaited`: as `Waiting`, where each request has an xid that its operation allows. So of a request in a special lane
+//! only the number of its frame is kept.
+ghost use Rattle.std.specs.Prelude.{◌^◌, ◌≡◌, ◌+◌, ◌<◌, ◌≤◌, ◌↔◌, [], ◌∷◌, ◌++◌, length, drop, IfOk, OnOk, IfErr, IfSome, IsTrue};
 ghost use Rattle.std.specs.List.{slice_get};
+ghost use Rattle.circular_buffer.specs.Buffer.{buffer};
 ghost use Rattle.zk_asks.specs.Codes.{IsAllowed};
 ghost use Rattle.zk_waiting.specs.{Awaited.bare_of, Lane.lane_of};
 ghost use Rattle.zk_waiting.specs.Waiting.{weight_of, count_of, queue_on, IsPut, IsDropped, IsPutFault, IsFit};
 
 use crate::lane::{Lane, lane_of};
-use crate::lists::Lists;
-use crate::oldest::Oldest;
-use crate::row::{Column, column_of};
+use crate::queue::{Queue, push};
+use crate::slot::Slot;
 use crate::waiting::PutFault;
+use circular_buffer::HeapCircularBuffer;
 use std::alloc::{AllocError, Global};
 use std::marker::Model;
 use zk_asks::Asked;
@@ -21,7 +22,10 @@ use zk_records::Op;
 pub struct Awaited {
     max: u32,
     weight: u32,
-    lists: Lists,
+    pings: HeapCircularBuffer<u64>,
+    auths: HeapCircularBuffer<u64>,
+    watches: HeapCircularBuffer<u64>,
+    plain: Queue,
 }
 
 impl Model for Awaited {
@@ -31,9 +35,36 @@ impl Model for Awaited {
 
     ghost Value = { Lanes };
 
-    ghost view = { λ w. numbered w.max w.lists.ping w.lists.auth w.lists.watches w.lists.plain };
+    ghost view = { λ w. numbered w.max w.pings.items w.auths.items w.watches.items w.plain.requests };
 
-    ghost invariant = { λ w. IsWeighed w.weight (numbered w.max w.lists.ping w.lists.auth w.lists.watches w.lists.plain) × (w.lists.room ≡ w.max) };
+    ghost invariant = { λ w. IsWeighed w.weight (numbered w.max w.pings.items w.auths.items w.watches.items w.plain.requests) × (w.pings.capacity ≡ w.max) × (w.auths.capacity ≡ w.max) × (w.watches.capacity ≡ w.max) × (w.plain.max ≡ w.max) };
+}
+
+// The calls of a special lane are not inlined: with them the way of the plain lane is too long to be inlined itself.
+
+/// Appends the number of a frame to those of its lane, which has room for it.
+#[inline(never)]
+fn put_number(numbers: &mut HeapCircularBuffer<u64>, frame: u64)
+    requires { length numbers.old.items < numbers.old.capacity }
+    ensures { numbers.new ≡ buffer (numbers.old.items ++ frame ∷ []) numbers.old.capacity }
+{
+    push(numbers, frame);
+}
+
+/// The oldest number.
+#[inline(never)]
+fn first_number(numbers: &HeapCircularBuffer<u64>) -> Option<u64>
+    ensures { result ≡ slice_get numbers.now.items 0 }
+{
+    numbers.front().copied()
+}
+
+/// Removes the oldest number.
+#[inline(never)]
+fn drop_number(numbers: &mut HeapCircularBuffer<u64>)
+    ensures { numbers.new ≡ buffer (drop 1 numbers.old.items) numbers.old.capacity }
+{
+    numbers.pop_front();
 }
 
 impl Awaited {
@@ -45,12 +76,27 @@ impl Awaited {
     pub fn new(alloc: Global, max: u32) -> Result<Self, AllocError>
         ensures { IfOk result (λ w. w ≡ record { max = max; ping = []; auth = []; watches = []; plain = [] }) }
     {
-        let lists = Lists::new(alloc, max)?;
+        let pings = HeapCircularBuffer::with_capacity(alloc, max as usize)?;
+        let auths = HeapCircularBuffer::with_capacity(alloc, max as usize)?;
+        let watches = HeapCircularBuffer::with_capacity(alloc, max as usize)?;
+        let plain = Queue::new(alloc, max)?;
         Ok(Awaited {
             max,
             weight: 0,
-            lists,
+            pings,
+            auths,
+            watches,
+            plain,
         })
+    }
+
+    /// Whether there is room for a request of `parts` parts.
+    #[inline(always)]
+    pub fn has_room_for(&self, parts: u64) -> bool
+        requires { parts < 2 ^ 63 }
+        ensures { IsTrue result ↔ (weight_of self.now + (1 + parts) ≤ self.now.max) }
+    {
+        u64::from(self.weight) + 1 + parts <= u64::from(self.max)
     }
 
     /// Whether there is room for the request `form`.
@@ -58,7 +104,7 @@ impl Awaited {
     pub fn has_room<F: Asked>(&self, form: &F) -> bool
         ensures { IsTrue result ↔ (weight_of self.now + (1 + length (F.part_ops form.now)) ≤ self.now.max) }
     {
-        u64::from(self.weight) + 1 + u64::from(form.parts()) <= u64::from(self.max)
+        self.has_room_for(u64::from(form.parts()))
     }
 
     /// Appends the request `form` with the xid `xid` to its lane. It weighs 1, and 1 more for each part of a multi.
@@ -104,35 +150,37 @@ impl Awaited {
     {
         self.weight = self.weight + 1 + form.parts();
         match lane {
-            Lane::Plain => self.lists.put(xid, form, frame),
-            _ => self.lists.push(column_of(lane), frame),
+            Lane::Ping => put_number(&mut self.pings, frame),
+            Lane::Auth => put_number(&mut self.auths, frame),
+            Lane::Watches => put_number(&mut self.watches, frame),
+            Lane::Plain => self.plain.put(xid, form, frame),
         }
     }
 
     /// The request without parts of the frame `frame`, if there is one.
     #[inline(always)]
-    fn bare(&self, xid: i32, op: Op, frame: Option<u64>) -> Option<Oldest<'_>>
+    fn bare(&self, xid: i32, op: Op, frame: Option<u64>) -> Option<Slot<'_>>
         ensures value { result ≡ bare_of xid op frame }
         ensures fit { IfSome result IsFit }
     {
         match frame {
-            Some(frame) => Some(self.lists.bare(xid, op, frame)),
+            Some(frame) => Some(self.plain.bare(xid, op, frame)),
             None => None,
         }
     }
 
-    /// The lane's oldest request.
+    /// The lane's oldest request; `None` if none waits there.
     #[inline(always)]
-    pub fn oldest(&self, lane: Lane) -> Option<Oldest<'_>>
+    pub fn oldest(&self, lane: Lane) -> Option<Slot<'_>>
         ensures value { result ≡ slice_get (queue_on lane self.now) 0 }
         // Only a multi has parts.
         ensures fit { IfSome result IsFit }
     {
         match lane {
-            Lane::Ping => self.bare(-2, Op::Ping, self.lists.first(Column::Ping)),
-            Lane::Auth => self.bare(-4, Op::Auth, self.lists.first(Column::Auth)),
-            Lane::Watches => self.bare(-8, Op::SetWatches, self.lists.first(Column::Watches)),
-            Lane::Plain => self.lists.oldest(),
+            Lane::Ping => self.bare(-2, Op::Ping, first_number(&self.pings)),
+            Lane::Auth => self.bare(-4, Op::Auth, first_number(&self.auths)),
+            Lane::Watches => self.bare(-8, Op::SetWatches, first_number(&self.watches)),
+            Lane::Plain => self.plain.oldest(),
         }
     }
 
@@ -143,13 +191,12 @@ impl Awaited {
         ensures { IsDropped lane self.old self.new }
     {
         match lane {
-            Lane::Plain => self.weight -= self.lists.pop(),
+            Lane::Plain => self.weight -= self.plain.pop(),
             _ => self.drop_oldest_of(lane),
         }
     }
 
     /// `drop_oldest` of any lane.
-    // Not inlined: with it the way of the plain lane is too long to be inlined itself.
     #[inline(never)]
     fn drop_oldest_of(&mut self, lane: Lane)
         requires { 0 < length (queue_on lane self.old) }
@@ -157,19 +204,19 @@ impl Awaited {
     {
         match lane {
             Lane::Ping => {
-                self.lists.drop_first(Column::Ping);
+                drop_number(&mut self.pings);
                 self.weight -= 1;
             }
             Lane::Auth => {
-                self.lists.drop_first(Column::Auth);
+                drop_number(&mut self.auths);
                 self.weight -= 1;
             }
             Lane::Watches => {
-                self.lists.drop_first(Column::Watches);
+                drop_number(&mut self.watches);
                 self.weight -= 1;
             }
             Lane::Plain => {
-                let weight = self.lists.pop();
+                let weight = self.plain.pop();
                 self.weight -= weight;
             }
         }
@@ -180,7 +227,10 @@ impl Awaited {
         ensures { self.new ≡ record { max = self.old.max; ping = []; auth = []; watches = []; plain = [] } }
     {
         self.weight = 0;
-        self.lists.renew();
+        self.pings.clear();
+        self.auths.clear();
+        self.watches.clear();
+        self.plain.renew();
     }
 
     /// The weight of all requests that wait: 1 each, and 1 more for each part of a multi.
@@ -196,6 +246,6 @@ impl Awaited {
         ensures value { result ≡ count_of self.now }
         ensures within { result ≤ self.now.max }
     {
-        self.lists.count() as u32
+        (self.pings.len() + self.auths.len() + self.watches.len() + self.plain.len()) as u32
     }
 }

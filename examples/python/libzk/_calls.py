@@ -96,6 +96,7 @@ CALLS = {
     "zk_talk_renew": (U32, HANDLE),
     "zk_talk_step": (Step, HANDLE, U32, BYTES, SIZE),
     "zk_talk_pass": (Step, HANDLE, U32, BYTES, SIZE),
+    "zk_talk_offer": (Step, HANDLE, U32, BYTES, SIZE),
     "zk_talk_view_into": (None, HANDLE, U32, ctypes.POINTER(Message), SIZE),
     "zk_talk_line": (Line, HANDLE, U32, BYTES, SIZE),
     "zk_talk_payload": (Line, HANDLE, U32, BYTES, SIZE),
@@ -106,14 +107,20 @@ CALLS = {
     "zk_talk_ending_line": (Line, HANDLE, BYTES, SIZE),
     "zk_talk_free": (None, HANDLE),
     "zk_through_new": (U32, HANDLE, U32, U32, U32, U32),
-    "zk_talk_join": (U32, HANDLE, U32, U32, U32, U32),
+    "zk_through_join": (U32, HANDLE, U32, U32, U32, U32),
     "zk_through_renew": (U32, HANDLE),
     "zk_through_step_into": (None, HANDLE, U32, BYTES, SIZE, ctypes.POINTER(Passed), SIZE),
+    "zk_through_pass_into": (None, HANDLE, U32, BYTES, SIZE, ctypes.POINTER(Passed), SIZE),
+    "zk_through_offer_into": (None, HANDLE, U32, BYTES, SIZE, ctypes.POINTER(Passed), SIZE),
+    "zk_through_resume": (Step, HANDLE),
     "zk_through_view_into": (None, HANDLE, U32, ctypes.POINTER(Message), SIZE),
     "zk_through_line": (Line, HANDLE, U32, BYTES, SIZE),
     "zk_through_fields": (Read, HANDLE, U32, FIELDS, SIZE),
     "zk_through_payload": (Line, HANDLE, U32, BYTES, SIZE),
+    "zk_through_waiting": (Waiting, HANDLE),
+    "zk_through_held": (Held, HANDLE, U32),
     "zk_through_finish_into": (None, HANDLE, ctypes.POINTER(Ending), SIZE),
+    "zk_through_ending_line": (Line, HANDLE, BYTES, SIZE),
     "zk_through_free": (None, HANDLE),
     "zk_speaker_new": (U32, HANDLE, U32, U32, U32, U32),
     "zk_speaker_renew": (U32, HANDLE),
@@ -142,7 +149,7 @@ CALLS = {
 
 
 _FILLED = {"zk_talk_view": Message, "zk_through_view": Message, "zk_talk_finish": Ending, "zk_through_finish": Ending,
-           "zk_through_step": Passed}
+           "zk_through_step": Passed, "zk_through_pass": Passed, "zk_through_offer": Passed}
 
 
 def _filled(call: Callable[..., None], kind: Type[ctypes.Structure]) -> Callable[..., ctypes.Structure]:

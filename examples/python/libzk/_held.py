@@ -1,19 +1,16 @@
-"""Talks, passages and speakers: what holds a handle."""
+"""Talks and speakers, and what passages have in common with them: what holds a handle."""
 
-import collections
 import ctypes
-import enum
-from typing import Callable, Deque, Iterable, Iterator, List, NamedTuple, NoReturn, Optional, Tuple, TypeVar
+from typing import Any, Callable, Iterable, Iterator, List, NamedTuple, NoReturn, Optional, Tuple, TypeVar, Union
 
 from . import _calls
 from ._calls import library
 from ._block import Room
-from ._messages import RANGE, Fault, Kind, Message, Refused, Side, bytes_of, fault_of, message_of, written
+from ._messages import RANGE, Fault, Message, Refused, Side, bytes_of, fault_of, message_of, written
 from ._names import Profile
 
 _WHOLE, _CUT = 1, 2
-_Self = TypeVar("_Self", bound="_Held")
-_Step = TypeVar("_Step", _calls.Step, _calls.Passed)
+_Self = TypeVar("_Self", bound="Held")
 
 
 class Waiting(NamedTuple):
@@ -30,10 +27,9 @@ class Cut(NamedTuple):
 
 
 class Ending(NamedTuple):
-    """How a conversation would end: its line (docs/FORMATS.md, section 11; None of a passage), and what that has.
-    `unanswered` is how many requests have no reply, where it is whole; else it is None, and either `cut` or `fault`
-    isn't."""
-    line: Optional[str]
+    """How a conversation would end: its line (docs/FORMATS.md, section 11), and what that has. `unanswered` is how many
+    requests have no reply, where it is whole; else it is None, and either `cut` or `fault` isn't."""
+    line: str
     unanswered: Optional[int]
     cut: Optional[Cut]
     fault: Optional[Fault]
@@ -43,7 +39,17 @@ class Ending(NamedTuple):
         return self.unanswered is not None
 
 
-class _Held:
+def refusal(step: Union[_calls.Step, _calls.Passed, _calls.Block]) -> Refused:
+    """Why a step was refused."""
+    return Refused(step.status, step.fault.place, fault=fault_of(step.fault))
+
+
+def address_of(piece: bytes) -> int:
+    """Where bytes lie."""
+    return ctypes.cast(ctypes.c_char_p(piece), ctypes.c_void_p).value or 0
+
+
+class Held:
     """What holds a handle: it is freed once, when it is closed or collected, and can't be copied."""
 
     def __init__(self, new: Callable[..., int], again: Callable[..., int], free: Callable[..., None],
@@ -58,26 +64,6 @@ class _Held:
         status = self._again(self._handle)
         if status:
             raise Refused(status)
-
-    def _steps(self, take: Callable[..., _Step], side: Side, piece: bytes, at: int = 0) -> Iterator[_Step]:
-        """Takes the piece from `at` on: what each step returns, which ends wherever a frame is whole."""
-        begin, length = ctypes.cast(ctypes.c_char_p(piece), ctypes.c_void_p).value or 0, len(piece)
-        while True:
-            step = take(self._handle, side, begin + at, length - at)
-            if step.status:
-                raise Refused(step.status, step.fault.place, fault=fault_of(step.fault))
-            at += step.used
-            yield step
-            if at == length:
-                return
-
-    def _ending(self, finish: Callable[..., _calls.Ending], line: Optional[str] = None) -> Ending:
-        ending = finish(self._handle)
-        if ending.status:
-            raise Refused(ending.status)
-        return Ending(line, ending.unanswered if ending.kind == _WHOLE else None,
-                      Cut(Side(ending.side), ending.frame, ending.got) if ending.kind == _CUT else None,
-                      fault_of(ending.fault))
 
     def close(self) -> None:
         self._free(self._handle)
@@ -96,9 +82,52 @@ class _Held:
         raise TypeError("a handle can't be copied")
 
 
-class Talk(_Held):
+class Conversation(Held):
+    """What a talk and a passage have in common: calls of the same name."""
+    _kind = ""
+
+    def _call(self, name: str) -> Callable[..., Any]:
+        call: Callable[..., Any] = getattr(library, f"zk_{self._kind}_{name}")
+        return call
+
+    def _shown(self, side: Side, lines: bool) -> Message:
+        """The side's newest message."""
+        view, line = self._call("view")(self._handle, side), None
+        payload = written(lambda *out: self._call("payload")(self._handle, side, *out), max(view.size, 1))
+        if lines:
+            line = written(lambda *out: self._call("line")(self._handle, side, *out)).decode()
+        return message_of(view, lambda *out: self._call("fields")(self._handle, side, *out), payload, line)
+
+    def waiting(self) -> Waiting:
+        """What waits for replies; after a fault, before the byte that decided it."""
+        waiting = self._call("waiting")(self._handle)
+        if waiting.status:
+            raise Refused(waiting.status)
+        return Waiting(waiting.requests, waiting.weight)
+
+    def held(self, side: Side) -> int:
+        """How many bytes the side has sent of a frame that isn't whole, or is refused, its length included."""
+        held = self._call("held")(self._handle, Side(side))
+        if held.status:
+            raise Refused(held.status)
+        count: int = held.bytes
+        return count
+
+    def ending(self) -> Ending:
+        """How the conversation ends if nothing more comes."""
+        ending = self._call("finish")(self._handle)
+        if ending.status:
+            raise Refused(ending.status)
+        return Ending(written(lambda *out: self._call("ending_line")(self._handle, *out)).decode(),
+                      ending.unanswered if ending.kind == _WHOLE else None,
+                      Cut(Side(ending.side), ending.frame, ending.got) if ending.kind == _CUT else None,
+                      fault_of(ending.fault))
+
+
+class Talk(Conversation):
     """A conversation as it comes. `client` and `server` are the greatest payloads in bytes, `waiting` is how many
     requests may wait. With `lines` each message has its line."""
+    _kind = "talk"
 
     def __init__(self, client: int = 4194304, server: int = 4194304, waiting: int = 65536,
                  profile: Profile = Profile.V34, lines: bool = False):
@@ -119,22 +148,36 @@ class Talk(_Held):
 
     def _messages(self, side: Side, piece: bytes) -> Iterator[Message]:
         """The messages that the piece completes."""
-        if self._lines:  # a line is asked for while its message is the newest
-            for step in self._steps(library.zk_talk_step, side, piece):
-                if step.whole:
-                    yield self._newest(side)
-            return
-        begin, length, at = ctypes.cast(ctypes.c_char_p(piece), ctypes.c_void_p).value or 0, len(piece), 0
+        begin, length, at = address_of(piece), len(piece), 0
+        while self._lines:  # a line is asked for while its message is the newest
+            step = library.zk_talk_step(self._handle, side, begin + at, length - at)
+            if step.status:
+                raise refusal(step)
+            at += step.used
+            if step.whole:
+                yield self._shown(side, True)
+            if at == length:
+                return
         while True:
             block = library.zk_talk_block(self._handle, side, begin + at, length - at, *self._room.words)
             at += block.used
             yield from self._room.messages(block.entries)
             if block.status:
-                raise Refused(block.status, block.fault.place, fault=fault_of(block.fault))
+                raise refusal(block)
             if block.more:  # than the room takes
-                yield self._newest(side)
+                yield self._shown(side, False)
             if at == length:
                 return
+
+    def offer(self, side: Side, frame: bytes) -> Message:
+        """Takes the side's next frame, whole, its length included, if it may come next, and returns its message: for who
+        asks before a frame is sent. A refusal says why it may not, and leaves the talk as it was, so that another may be
+        offered. It is RANGE if the bytes aren't one frame, or the side has begun another."""
+        side, frame = Side(side), bytes_of(frame)
+        step = library.zk_talk_offer(self._handle, side, frame, len(frame))
+        if step.status:
+            raise refusal(step)
+        return self._shown(side, self._lines)
 
     def read(self, pieces: Iterable[Tuple[Side, bytes]]) -> Iterator[Tuple[Side, Message]]:
         """The messages of the pieces that both sides sent, in the order in which these came: each with its side, as it
@@ -146,181 +189,18 @@ class Talk(_Held):
 
     def skip(self, side: Side, piece: bytes) -> int:
         """Takes bytes of a side and judges them as `feed`, but makes no message: how many they complete."""
-        return sum(1 for step in self._steps(library.zk_talk_pass, Side(side), bytes_of(piece)) if step.whole)
-
-    def _newest(self, side: Side) -> Message:
-        view = library.zk_talk_view(self._handle, side)
-        payload = written(lambda *out: library.zk_talk_payload(self._handle, side, *out), max(view.size, 1))
-        line = None
-        if self._lines:
-            line = written(lambda *out: library.zk_talk_line(self._handle, side, *out)).decode()
-        return message_of(view, lambda *out: library.zk_talk_fields(self._handle, side, *out), payload, line)
-
-    def waiting(self) -> Waiting:
-        """What waits for replies; after a fault, before the byte that decided it."""
-        waiting = library.zk_talk_waiting(self._handle)
-        if waiting.status:
-            raise Refused(waiting.status)
-        return Waiting(waiting.requests, waiting.weight)
-
-    def held(self, side: Side) -> int:
-        """How many bytes the side has sent of a frame that isn't whole, its length included."""
-        held = library.zk_talk_held(self._handle, Side(side))
-        if held.status:
-            raise Refused(held.status)
-        count: int = held.bytes
-        return count
-
-    def ending(self) -> Ending:
-        """How the conversation ends if nothing more comes."""
-        line = written(lambda *out: library.zk_talk_ending_line(self._handle, *out)).decode()
-        return self._ending(library.zk_talk_finish, line)
-
-
-class Went(enum.IntEnum):
-    """What became of bytes of a passage."""
-    WITHIN = 0
-    MESSAGE = 1
-    ASKED = 2
-    ANSWERED = 3
-    FULL = 4
-    UNSEEN = 5
-
-
-class Passed(NamedTuple):
-    """What became of the `used` bytes of a step. WITHIN: no frame is whole. MESSAGE: a frame is, and `message` is its
-    message. ASKED: a request is whole whose operation the profile lacks, and is left out; ANSWERED: so is the reply to
-    one. Both have the request's xid, the number of its operation, the payload that is left out, and the number of the
-    request's frame. FULL: nothing was used, and bytes of the other side come first. With this frame of the client more
-    would wait than may; where all requests have their replies, it alone weighs more. Or the server has replied since,
-    and the client's bytes fit now. UNSEEN: a reply to a request that wasn't seen is whole, where the passage is `late`,
-    with its xid, zxid, err and payload."""
-    went: Went
-    used: int
-    message: Optional[Message] = None
-    xid: Optional[int] = None
-    operation: Optional[int] = None
-    payload: Optional[bytes] = None
-    frame: Optional[int] = None
-    zxid: Optional[int] = None
-    err: Optional[int] = None
-
-
-def _is_reply(passed: Passed) -> bool:
-    """Whether a request has its reply with this step, and waits no more."""
-    return passed.went == Went.ANSWERED or passed.message is not None and passed.message.kind == Kind.REPLY
-
-
-class Through(_Held):
-    """A passage: a conversation that goes on where its profile ends. The limits and `lines` are those of a talk. A `late`
-    one is seen from the middle on: frame 0 of each side was made up, and each side's first byte is to begin a frame, the
-    server's before it answers what the client's ask. Begun anew, it is not late."""
-
-    def __init__(self, client: int = 4194304, server: int = 4194304, waiting: int = 65536,
-                 profile: Profile = Profile.V34, lines: bool = False, late: bool = False):
-        super().__init__(library.zk_talk_join if late else library.zk_through_new, library.zk_through_renew,
-                         library.zk_through_free, (client, server, waiting, Profile(profile)))
-        self._lines = lines
-        self._begin()
-
-    def _begin(self) -> None:
-        self._came, self._full = (bytearray(), bytearray()), False
-        self._later: Deque[Tuple[bytes, int]] = collections.deque()  # pieces of the client, and what was used of each
-
-    def renew(self) -> None:
-        super().renew()
-        self._begin()
-
-    def feed(self, side: Side, piece: bytes) -> List[Passed]:
-        """What became of these bytes of a side, step by step. Where the last step is FULL, feed the other side's bytes,
-        and then again those of this piece that weren't used: the server's up to the next reply, then the client's, and
-        so on. `read` does this. A refusal has the messages before it."""
-        every: List[Passed] = []
-        try:
-            for passed in self._take(Side(side), bytes_of(piece)):
-                every.append(passed)
-        except Refused as refused:
-            refused.messages = tuple(passed.message for passed in every if passed.message)
-            raise
-        return every
-
-    def read(self, pieces: Iterable[Tuple[Side, bytes]]) -> Iterator[Tuple[Side, Passed]]:
-        """What became of the pieces that both sides sent, in the order in which these came: each step with its side.
-        While more would wait than may, what the client sends is kept, and taken after each reply: the step before is
-        FULL. A piece is taken as its steps are asked for."""
-        for side, piece in pieces:
-            if Side(side) == Side.CLIENT:
-                self._later.append((bytes_of(piece), 0))
-                if len(self._later) == 1:
-                    yield from self._take_later()
-            else:
-                yield from self._take_replies(bytes_of(piece))
-
-    def _take_later(self) -> Iterator[Tuple[Side, Passed]]:
-        """Takes what the client sent, as far as it may come."""
-        while self._later:
-            piece, at = self._later.popleft()
-            for passed in self._take(Side.CLIENT, piece, at):
-                at += passed.used
-                if passed.went == Went.FULL:
-                    self._later.appendleft((piece, at))
-                yield Side.CLIENT, passed
-                if passed.went == Went.FULL:
-                    return
-
-    def _take_replies(self, piece: bytes) -> Iterator[Tuple[Side, Passed]]:
-        """Takes what the server sent, and after each reply what the client sent before."""
-        at = 0
+        side, piece, count, at = Side(side), bytes_of(piece), 0, 0
+        begin, length = address_of(piece), len(piece)
         while True:
-            for passed in self._take(Side.SERVER, piece, at):
-                if passed.went != Went.FULL:
-                    at += passed.used
-                    yield Side.SERVER, passed
-            if not self._full:
-                yield from self._take_later()
-            if at == len(piece):
-                return
-
-    def _take(self, side: Side, piece: bytes, at: int = 0) -> Iterator[Passed]:
-        """What became of the bytes of a piece from `at` on. It ends with FULL where the other side's come first."""
-        for step in self._steps(library.zk_through_step, side, piece, at):
-            passed = self._passed(side, step, piece[at:at + step.used])
-            at += step.used
-            if side == Side.CLIENT:
-                self._full = passed.went == Went.FULL
-            yield passed
-            if passed.went == Went.FULL:
-                return
-            if self._full and side == Side.SERVER and _is_reply(passed):
-                self._full = False
-                if at < len(piece):
-                    yield Passed(Went.FULL, 0)
-                    return
-
-    def _passed(self, side: Side, step: _calls.Passed, used: bytes) -> Passed:
-        went, came = Went(step.went), self._came[side]
-        came += used
-        if went in (Went.WITHIN, Went.FULL):
-            return Passed(went, step.used)
-        frame = bytes(came)
-        came.clear()
-        if went == Went.MESSAGE:
-            view, line = library.zk_through_view(self._handle, side), None
-            if self._lines:
-                line = written(lambda *out: library.zk_through_line(self._handle, side, *out)).decode()
-            read = message_of(view, lambda *out: library.zk_through_fields(self._handle, side, *out), frame[4:], line)
-            return Passed(went, step.used, read)
-        payload = written(lambda *out: library.zk_through_payload(self._handle, side, *out), len(frame))
-        if went == Went.UNSEEN:
-            return Passed(went, step.used, None, step.xid, None, payload, None, step.zxid, step.err)
-        return Passed(went, step.used, None, step.xid, step.operation, payload, step.frame)
-
-    def ending(self) -> Ending:
-        """How the conversation ends if nothing more comes, with all frames that came; it has no line."""
-        return self._ending(library.zk_through_finish)
+            step = library.zk_talk_pass(self._handle, side, begin + at, length - at)
+            if step.status:
+                raise refusal(step)
+            at, count = at + step.used, count + step.whole
+            if at == length:
+                return count
 
 
-class Speaker(_Held):
+class Speaker(Held):
     """Makes the frames of what may be said next; the numbers are those of a talk. Each message of both sides has to be
     said, so that replies free the places of their requests."""
 

@@ -25,7 +25,7 @@ class Passages(unittest.TestCase):
         message = passed.message
         if message is None:
             return passed.went, passed.xid, passed.operation, passed.payload, passed.frame
-        self.assertEqual((passed.went, *passed[3:]), (Went.MESSAGE, *[None] * 6))
+        self.assertEqual((passed.went, *passed[3:]), (Went.MESSAGE, *[None] * 7))
         return message.kind, message.xid, message.operation, message.payload, message.frame, message.answers
 
     def test_pairs_are_left_out(self):
@@ -152,18 +152,45 @@ class Passages(unittest.TestCase):
 
     def test_endings(self):
         with Through() as through:
-            self.assertEqual(through.ending(), (None, 0, None, None))
+            self.assertEqual(through.ending(), (". whole unanswered=0", 0, None, None))
             for side, payload in self.CAME[:4]:
                 through.feed(side, frame(payload))
-            self.assertEqual(through.ending(), (None, 2, None, None))
+            self.assertEqual(through.ending(), (". whole unanswered=2", 2, None, None))
             through.feed(Side.SERVER, frame(NONE)[:9])
-            self.assertEqual(through.ending(), (None, None, Cut(Side.SERVER, 1, 9), None))
+            self.assertEqual(through.ending(), (". cut side=S frame=1 got=9", None, Cut(Side.SERVER, 1, 9), None))
             through.feed(Side.SERVER, frame(NONE)[9:])
-            self.assertEqual(through.ending(), (None, 1, None, None))
+            self.assertEqual(through.ending(), (". whole unanswered=1", 1, None, None))
             with self.assertRaises(Refused):
                 through.feed(Side.SERVER, frame(NONE))
             wanted = Fault(Side.SERVER, 2, 89, 0, "XID_ORDER", 2, 1)
-            self.assertEqual(through.ending(), (None, None, None, wanted))
+            line = ". refused side=S frame=2 offset=89 place=0 reason=XidOrder expected=2 got=1"
+            self.assertEqual(through.ending(), (line, None, None, wanted))
+
+    def test_what_waits_and_is_held(self):
+        """The request that is left out waits, too, and weighs 1."""
+        with Through() as through:
+            found = []
+            for side, payload in self.CAME:
+                through.feed(side, frame(payload)[:-1])
+                held = through.held(side)
+                through.feed(side, frame(payload)[-1:])
+                found.append((held, through.held(side), through.waiting()))
+            sizes = [len(frame(payload)) - 1 for _, payload in self.CAME]
+            self.assertEqual(found, [(size, 0, (count, count)) for size, count in zip(sizes, (0, 0, 1, 2, 1, 0))])
+            self.assertEqual(through.ending().line, ". whole unanswered=0")
+
+    def test_skip(self):
+        """What is skipped is judged, and has no message and no payload."""
+        with Through() as through:
+            every = [passed for side, payload in self.CAME for passed in through.skip(side, frame(payload))]
+            sizes = [len(frame(payload)) for _, payload in self.CAME]
+            self.assertEqual(every, [
+                Passed(Went.MESSAGE, sizes[0]), Passed(Went.MESSAGE, sizes[1]),
+                Passed(Went.ASKED, sizes[2], None, 1, 9999, None, 1), Passed(Went.MESSAGE, sizes[3]),
+                Passed(Went.ANSWERED, sizes[4], None, 1, 9999, None, 1), Passed(Went.MESSAGE, sizes[5])])
+            with self.assertRaises(Refused) as caught:
+                through.skip(Side.SERVER, frame(NONE))
+            self.assertEqual(caught.exception.fault, Fault(Side.SERVER, 3, 109, 0, "UNASKED", None, None))
 
 
 if __name__ == "__main__":

@@ -6,11 +6,12 @@ import datetime
 import os
 import pathlib
 import re
+import signal
 import subprocess
 import sys
 import tempfile
 
-from .. import facts, inputs, listing, packed, zkr
+from .. import facts, inputs, listing, packed, packets, zkr
 
 TOOLS = pathlib.Path(__file__).resolve().parents[2]
 LISTINGS = re.compile(rb"[CS] |\. |\{")
@@ -39,7 +40,7 @@ class Source:
 
     def has_hole(self):
         """Whether bytes of the connection are known to be missing."""
-        return not {"hole", "lost", "unfinished"}.isdisjoint(self.notes)
+        return not facts.MISSING.isdisjoint(self.notes)
 
     def take_facts(self, known, parts):
         """Takes the facts of the recording, or None. `parts` has the first part of each connection that has several,
@@ -78,9 +79,9 @@ class Opener:
         if source.path is None:
             yield Nothing(source.name, (), self.progress)
             return
-        with open(source.path, "rb") as stream:
+        with contextlib.ExitStack() as opened:
             try:
-                talk = inputs.conversation(self.parser, self.words, source.path, stream, True, self.progress,
+                talk = inputs.conversation(self.parser, self.words, source.path, opened, True, self.progress,
                                            lambda: None, lambda _: ["--lines"], source.facts)
             except zkr.Damaged as damage:
                 raise ValueError(f"{source.path}: {damage}") from None
@@ -107,8 +108,12 @@ def sources_of(paths, folder, port, warnings):
     be read of a capture goes to the warnings."""
     parts = {}
     for path in paths:
+        if path == listing.STANDARD_INPUT:
+            yield from captured(path, path, os.path.join(tempfile.mkdtemp(dir=folder), "capture"), port, warnings)
+            continue
         if pathlib.Path(path).is_fifo():
-            raise ValueError(f"{path} is a pipe, and a report reads its files more than once: name a file")
+            raise ValueError(f"{path} is a pipe, and a report reads its files more than once: name a file, or - for a "
+                             "capture on standard input")
         path = packed.in_folder(path, folder)
         with open(path, "rb") as stream:
             mark = stream.read(4)
@@ -129,7 +134,8 @@ def sources_of(paths, folder, port, warnings):
 def captured(path, name, prefix, port, warnings):
     """The connections of a capture: recordings that begin with the prefix."""
     words = [sys.executable, TOOLS / "pcap2zkr.py", "--times", "--late", "--port", str(port), path, prefix]
-    done = subprocess.run(words, stdout=subprocess.PIPE, stderr=subprocess.PIPE, check=False)
+    done = to_a_signal(words) if path == listing.STANDARD_INPUT else \
+        subprocess.run(words, stdout=subprocess.PIPE, stderr=subprocess.PIPE, check=False)
     lines, error = (os.fsdecode(each).strip() for each in (done.stdout, done.stderr))
     lines, troubles = lines.splitlines(), [error.removeprefix("pcap2zkr.py: ")] if error else []
     if done.returncode < 0:
@@ -140,6 +146,29 @@ def captured(path, name, prefix, port, warnings):
     parts = {}
     for line in lines:
         yield source_of(line, name, prefix, parts)
+
+
+def to_a_signal(words):
+    """Runs a converter of standard input to its end, or to a signal, which ends it alone: what it has read by then is
+    reported."""
+    running, signals = [], []
+
+    def end(number, _):
+        signals.append(number)
+        for converter in running:
+            converter.terminate()
+    before = {number: signal.signal(number, end) for number in packets.ENDING}
+    try:
+        with subprocess.Popen(words, stdout=subprocess.PIPE, stderr=subprocess.PIPE,
+                              start_new_session=True) as converter:
+            running.append(converter)
+            if signals:
+                converter.terminate()
+            out, error = converter.communicate()
+    finally:
+        for number, handler in before.items():
+            signal.signal(number, handler)
+    return subprocess.CompletedProcess(words, converter.returncode, out, error)
 
 
 def source_of(line, name, prefix, parts):

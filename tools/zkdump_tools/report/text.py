@@ -7,14 +7,20 @@ NUMBERS = ("count", "ms", "length", "connection")
 ROWS, WHOLE = 20, ("sessions", "connections", "operations", "errors")
 
 
+def several(count, what):
+    """That many of what is called so, as `1 session` or `2 sessions`."""
+    return f"{count} {what}" if count == 1 else f"{count} {what}s"
+
+
 def lines_of(found, top=ROWS):
     """The lines of all tables of a summary, of most of them the first `top` rows."""
     counts = found.counts
-    yield (f"{found.run.whole} connections, {len(found.sessions)} sessions, {counts['messages']} messages, "
-           f"{counts['asked']} requests, {counts['failed']} failed, {counts['unanswered']} unanswered, "
+    yield (f"{several(found.run.whole, 'connection')}, {several(len(found.sessions), 'session')}, "
+           f"{several(counts['messages'], 'message')}, {several(counts['asked'], 'request')}, {counts['failed']} failed, "
+           f"{counts['unanswered']} unanswered, "
            + (f"{counts['notCaptured']} replies not captured, " if counts["notCaptured"] else "")
            + (f"{counts['notKnown']} not known, " if counts["notKnown"] else "")
-           + f"{counts['events']} events")
+           + several(counts["events"], "event"))
     if found.begun is not None:
         yield f"from {zkr.clock(found.begun)} to {zkr.clock(found.ended)}"
     if 0 < counts["timed"] < counts["answered"]:

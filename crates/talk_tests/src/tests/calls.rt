@@ -1,10 +1,10 @@
 //! Tests of `Talk`, call by call: what each returns, and what the sides then hold.
-use super::frames::{Has, keeps, piece, same, usual};
+use super::frames::{CONNECT, Has, keeps, piece, same, usual};
 use std::alloc::Global;
 use std::process::Abort;
 use std::test::Fail;
 use zk_records::Profile;
-use zk_talk::{Fault, Limits, Side, Talk};
+use zk_talk::{Ending, Fault, Limits, Side, Talk, read_all};
 
 /// How much of the piece is used, and whether a message came, by `take`.
 fn took(talk: &mut Talk, side: Side, piece: &[u8]) -> Result<(usize, bool), Fault> {
@@ -14,10 +14,19 @@ fn took(talk: &mut Talk, side: Side, piece: &[u8]) -> Result<(usize, bool), Faul
     Ok(told)
 }
 
+/// How much of the frame is used, and whether it is taken, by `offer`.
+fn offered(talk: &mut Talk, side: Side, frame: &[u8]) -> Result<(usize, bool), Fault> {
+    let is_taken = talk.offer(side, frame)?;
+    Ok((if is_taken { frame.len() } else { 0 }, is_taken))
+}
+
 /// How much of the piece is used, and whether a message came, by the call of this name.
 fn called(talk: &mut Talk, call: &str, side: Side, piece: &[u8]) -> Result<(usize, bool), Fault> {
     if call == "take" {
         return took(talk, side, piece);
+    }
+    if call == "offer" {
+        return offered(talk, side, piece);
     }
     let stepped = talk.step(side, piece)?;
     Ok((stepped.used, stepped.whole))
@@ -48,10 +57,15 @@ pub(crate) fn told(alloc: Global, talk: &mut Talk, asked: &str) -> Result<String
     Ok(format!(in alloc; "{answer:?} held {held:?} waiting {waiting} shown {shown:?}")?)
 }
 
-/// Each call of a new conversation returns what its row says.
-fn goes(rt: &impl Abort, alloc: Global, rows: &str) -> Result<(), Fail> {
-    let mut talk = Talk::new(alloc, usual()?)?;
+/// Each call of a new conversation within these limits returns what its row says.
+fn goes_within(rt: &impl Abort, alloc: Global, limits: Limits, rows: &str) -> Result<(), Fail> {
+    let mut talk = Talk::new(alloc, limits)?;
     keeps(rt, alloc, &mut talk, rows, Has::Beginning, told)
+}
+
+/// The same within the usual limits.
+fn goes(rt: &impl Abort, alloc: Global, rows: &str) -> Result<(), Fail> {
+    goes_within(rt, alloc, usual()?, rows)
 }
 
 /// Within a request and after it, by `take`, which keeps no frame.
@@ -80,6 +94,45 @@ fn frame_is_kept(rt: HostRuntime) -> Result<(), Fail> {
     goes(&rt, rt.alloc(), STEPPED)
 }
 
+/// What is refused changes nothing, and another frame may be offered: an exists request without its boolean, one with it, a
+/// reply with another xid, and its own. Less or more than one frame isn't taken, nor one within another.
+const OFFERED: &str = "\
+offer C 0000002d000000000000000000000000000075300000000000000000000000100000000000000000000000000000000000 = Ok((49, true)) held (49, 0) waiting 0 shown (true, false)
+offer S 000000250000000000007530010000000000000100000010000102030405060708090a0b0c0d0e0f00 = Ok((41, true)) held (49, 41) waiting 0 shown (true, true)
+offer C 0000000e0000000100000003000000022f61 = Err(Fault { side: Client, frame: 1, offset: 67, place: 14, reason: Short }) held (49, 41) waiting 0 shown (true, true)
+offer C 00400001 = Err(Fault { side: Client, frame: 1, offset: 53, place: 0, reason: LengthRange }) held (49, 41) waiting 0 shown (true, true)
+offer C 0000000f0000000100000003000000022f61 = Ok((0, false)) held (49, 41) waiting 0 shown (true, true)
+offer C 0000000f0000000100000003000000022f610100 = Ok((0, false)) held (49, 41) waiting 0 shown (true, true)
+offer C  = Ok((0, false)) held (49, 41) waiting 0 shown (true, true)
+offer C 0000000f0000000100000003000000022f6101 = Ok((19, true)) held (19, 41) waiting 1 shown (true, true)
+offer S 00000010000000020000000000000005ffffff9b = Err(Fault { side: Server, frame: 1, offset: 61, place: 0, reason: XidOrder { expected: 1, got: 2 } }) held (19, 41) waiting 1 shown (true, true)
+step S 00 = Ok((1, false)) held (19, 1) waiting 1 shown (true, false)
+offer S 00000010000000010000000000000005ffffff9b = Ok((0, false)) held (19, 1) waiting 1 shown (true, false)
+step S 000010000000010000000000000005ffffff9b = Ok((19, true)) held (19, 20) waiting 0 shown (true, true)
+step S ffffffff = Err(Fault { side: Server, frame: 2, offset: 65, place: 0, reason: LengthRange }) held (19, 4) waiting 0 shown (true, false)
+offer C 00000008fffffffe0000000b = Err(Fault { side: Server, frame: 2, offset: 65, place: 0, reason: LengthRange }) held (19, 4) waiting 0 shown (true, false)
+offer C 00 = Err(Fault { side: Server, frame: 2, offset: 65, place: 0, reason: LengthRange }) held (19, 4) waiting 0 shown (true, false)";
+
+#[test]
+fn refused_offer_changes_nothing(rt: HostRuntime) -> Result<(), Fail> {
+    goes(&rt, rt.alloc(), OFFERED)
+}
+
+/// Where one request may wait, a second is refused until the first has its reply.
+const OFFERED_TWICE: &str = "\
+offer C 0000002d000000000000000000000000000075300000000000000000000000100000000000000000000000000000000000 = Ok((49, true)) held (49, 0) waiting 0 shown (true, false)
+offer S 000000250000000000007530010000000000000100000010000102030405060708090a0b0c0d0e0f00 = Ok((41, true)) held (49, 41) waiting 0 shown (true, true)
+offer C 0000000f0000000100000003000000022f6101 = Ok((19, true)) held (19, 41) waiting 1 shown (true, true)
+offer C 0000000f0000000200000003000000022f6101 = Err(Fault { side: Client, frame: 2, offset: 87, place: 0, reason: QueueFull }) held (19, 41) waiting 1 shown (true, true)
+offer S 00000010000000010000000000000005ffffff9b = Ok((20, true)) held (19, 20) waiting 0 shown (true, true)
+offer C 0000000f0000000200000003000000022f6101 = Ok((19, true)) held (19, 20) waiting 1 shown (true, true)";
+
+#[test]
+fn offer_waits_for_room(rt: HostRuntime) -> Result<(), Fail> {
+    let limits = Limits::new(64, 64, 1).ok_or("no limits")?;
+    goes_within(&rt, rt.alloc(), limits, OFFERED_TWICE)
+}
+
 /// A fault is returned for good, on both sides, and no byte is used.
 const REFUSED: &str = "\
 take C 0000002d000000000000000000000000000075300000000000000000000000100000000000000000000000000000000000 = Ok((49, true))
@@ -94,6 +147,29 @@ step S 00 = Err(Fault { side: Server, frame: 1, offset: 61, place: 0, reason: Xi
 #[test]
 fn fault_is_kept(rt: HostRuntime) -> Result<(), Fail> {
     goes(&rt, rt.alloc(), REFUSED)
+}
+
+/// A ping.
+const PING: &[u8] = b"\0\0\0\x08\xff\xff\xff\xfe\0\0\0\x0b";
+
+/// A conversation of a thousand thousand pieces of a byte each.
+#[test]
+fn pieces_of_a_byte(rt: HostRuntime) -> Result<(), Fail> {
+    let mut bytes = Vec::new(rt.alloc());
+    bytes.extend_from_slice(CONNECT)?;
+    for _ in 0..83_330 {
+        bytes.extend_from_slice(PING)?;
+    }
+    let mut pieces = Vec::new(rt.alloc());
+    for byte in bytes.chunks(1) {
+        pieces.push((Side::Client, byte))?;
+    }
+    let limits = Limits::new(64, 64, 1_048_576).ok_or("no limits")?;
+    let ended = read_all(rt.alloc(), limits, &pieces)?;
+    same(&rt, &pieces.len(), &1_000_009);
+    same(&rt, &ended.messages.len(), &83_331);
+    same(&rt, &ended.ending, &Ending::Whole { unanswered: 83_331 });
+    Ok(())
 }
 
 #[test]

@@ -74,7 +74,7 @@ fn copied(alloc: Global, message: &MessageRef<'_>) -> Result<Message, AllocError
 
 fn message(alloc: Global, line: &[u8]) -> Result<Message, LineFault> {
     read_line(alloc, line).or_else(|fault| match fault.reason {
-        LineReason::NoMemory => read_line(alloc, line),
+        LineReason::NoMemory if fault.column == 0 => read_line(alloc, line),
         _ => Err(fault),
     })
 }

@@ -181,6 +181,8 @@ extern "C" {
     pub fn zk_talk_held(talk: *mut zk_talk, side: u32) -> zk_held;
     pub fn zk_talk_finish_into(talk: *mut zk_talk, out: *mut zk_ending, size: usize);
     pub fn zk_talk_step(talk: *mut zk_talk, side: u32, piece: *const u8, length: usize) -> zk_step;
+    pub fn zk_talk_offer(talk: *mut zk_talk, side: u32, frame: *const u8, length: usize)
+        -> zk_step;
     pub fn zk_talk_view_into(talk: *mut zk_talk, side: u32, out: *mut zk_message, size: usize);
     pub fn zk_talk_line(talk: *mut zk_talk, side: u32, out: *mut u8, room: usize) -> zk_line;
     pub fn zk_talk_payload(talk: *mut zk_talk, side: u32, out: *mut u8, room: usize) -> zk_line;
@@ -199,7 +201,7 @@ extern "C" {
         waiting: u32,
         profile: u32,
     ) -> u32;
-    pub fn zk_talk_join(
+    pub fn zk_through_join(
         through: *mut zk_through,
         client: u32,
         server: u32,
@@ -215,6 +217,23 @@ extern "C" {
         out: *mut zk_passed,
         size: usize,
     );
+    pub fn zk_through_pass_into(
+        through: *mut zk_through,
+        side: u32,
+        piece: *const u8,
+        length: usize,
+        out: *mut zk_passed,
+        size: usize,
+    );
+    pub fn zk_through_offer_into(
+        through: *mut zk_through,
+        side: u32,
+        frame: *const u8,
+        length: usize,
+        out: *mut zk_passed,
+        size: usize,
+    );
+    pub fn zk_through_resume(through: *mut zk_through) -> zk_step;
     pub fn zk_through_view_into(
         through: *mut zk_through,
         side: u32,
@@ -239,7 +258,10 @@ extern "C" {
         out: *mut u8,
         room: usize,
     ) -> zk_line;
+    pub fn zk_through_waiting(through: *mut zk_through) -> zk_waiting;
+    pub fn zk_through_held(through: *mut zk_through, side: u32) -> zk_held;
     pub fn zk_through_finish_into(through: *mut zk_through, out: *mut zk_ending, size: usize);
+    pub fn zk_through_ending_line(through: *mut zk_through, out: *mut u8, room: usize) -> zk_line;
     pub fn zk_through_free(through: *mut zk_through);
     pub fn zk_speaker_new(
         speaker: *mut zk_speaker,

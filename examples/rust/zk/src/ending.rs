@@ -1,7 +1,7 @@
 //! How a conversation ends, and what waits.
 
 use crate::{At, Fault, Order, Side};
-use zk_sys::{zk_ending, zk_fault};
+use zk_sys::{zk_ending, zk_fault, zk_waiting};
 
 const WHOLE: u32 = 1;
 const CUT: u32 = 2;
@@ -23,6 +23,15 @@ pub enum Ending {
 pub struct Waiting {
     pub requests: u32,
     pub weight: u32,
+}
+
+impl Waiting {
+    pub(crate) fn of(waiting: &zk_waiting) -> Waiting {
+        Waiting {
+            requests: waiting.requests,
+            weight: waiting.weight,
+        }
+    }
 }
 
 fn side_of(side: u32) -> Side {

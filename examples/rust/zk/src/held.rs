@@ -84,29 +84,40 @@ impl Talk {
         side: Side,
         piece: &mut &[u8],
     ) -> Result<Option<Message<'t>>, Fault> {
-        let Talk {
-            handle,
-            payload,
-            reader,
-        } = self;
-        let (handle, side) = (handle.get(), side as u32);
-        let step = unsafe { zk_sys::zk_talk_step(handle, side, piece.as_ptr(), piece.len()) };
+        let (bytes, length) = (piece.as_ptr(), piece.len());
+        let step = unsafe { zk_sys::zk_talk_step(self.handle.get(), side as u32, bytes, length) };
         take(piece, step.used, step.status, &step.fault)?;
         if !step.whole {
             return Ok(None);
         }
+        self.newest(side).map(Some)
+    }
+
+    /// Takes the side's next frame, whole, its length included, if it may come next, and returns its message: for who asks
+    /// before a frame is sent. An error says why it may not, and leaves the talk as it was, so that another may be offered.
+    /// It is `Status::Range` if the bytes aren't one frame, or the side has begun another.
+    pub fn offer<'t>(&'t mut self, side: Side, frame: &[u8]) -> Result<Message<'t>, Fault> {
+        let (bytes, length) = (frame.as_ptr(), frame.len());
+        let step = unsafe { zk_sys::zk_talk_offer(self.handle.get(), side as u32, bytes, length) };
+        take(&mut &frame[..], step.used, step.status, &step.fault)?;
+        self.newest(side)
+    }
+
+    /// The message of the side's kept frame.
+    fn newest(&mut self, side: Side) -> Result<Message<'_>, Fault> {
+        let (handle, side) = (self.handle.get(), side as u32);
         let view: zk_message = filled(|out, size| unsafe {
             zk_sys::zk_talk_view_into(handle, side, out, size);
         });
-        written(payload, |out, room| unsafe {
+        written(&mut self.payload, |out, room| unsafe {
             zk_sys::zk_talk_payload(handle, side, out, room)
         })?;
-        let mut message = reader.read(payload, |out, room| unsafe {
+        let mut message = self.reader.read(&self.payload, |out, room| unsafe {
             zk_sys::zk_talk_fields(handle, side, out, room)
         })?;
         message.frame = view.frame;
         message.answers = view.answers;
-        Ok(Some(message))
+        Ok(message)
     }
 
     /// The same, and it makes no message. Returns whether one is whole.
@@ -119,14 +130,10 @@ impl Talk {
 
     /// What waits for replies; after a fault, before the byte that decided it.
     pub fn waiting(&self) -> Waiting {
-        let waiting = unsafe { zk_sys::zk_talk_waiting(self.handle.get()) };
-        Waiting {
-            requests: waiting.requests,
-            weight: waiting.weight,
-        }
+        Waiting::of(&unsafe { zk_sys::zk_talk_waiting(self.handle.get()) })
     }
 
-    /// How many bytes the side has sent of a frame that isn't whole, its length included.
+    /// How many bytes the side has sent of a frame that isn't whole, or is refused, its length included.
     pub fn held(&self, side: Side) -> u32 {
         unsafe { zk_sys::zk_talk_held(self.handle.get(), side as u32) }.bytes
     }

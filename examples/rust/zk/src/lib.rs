@@ -10,7 +10,7 @@
 //! # Ok::<(), zk::Fault>(())
 //! ```
 //!
-//! A request is written from its values, and judged by a talk before it is sent:
+//! A request is written from its values, and offered to a talk before it is sent, which takes it if it may come next:
 //!
 //! ```
 //! use zk::{Limits, Operation, Side, Talk, Value, Writer};
@@ -20,7 +20,7 @@
 //! # talk.step(Side::Client, &mut &hello[..])?;
 //! let mut writer = Writer::new();
 //! let frame = writer.request(1, Operation::Exists, [Value::Text("/a"), Value::Bool(true)])?;
-//! let message = talk.step(Side::Client, &mut &frame[..])?.expect("a whole frame");
+//! let message = talk.offer(Side::Client, frame)?;
 //! assert_eq!(message.get("path"), Some(Value::Text("/a")));
 //! # Ok::<(), zk::Fault>(())
 //! ```
@@ -102,7 +102,7 @@ pub use ending::{Ending, Waiting};
 pub use held::{listing, Limits, Speaker, Talk};
 pub use judge::{judge_connected, judge_event, judge_first, judge_reply, judge_request};
 pub use message::{Faulty, Field, Kind, Message, OwnedMessage, Reader, Value};
-pub use through::{LeftOut, Through, Unseen, Went};
+pub use through::{Judged, LeftOut, Through, Unseen, Went};
 pub use write::Writer;
 
 pub use names::{

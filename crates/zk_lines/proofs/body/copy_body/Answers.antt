@@ -3,42 +3,42 @@ use Rattle.std.proofs.lemmas.List.{append-nil}
 use Rattle.zk_records.specs.Records.{data_body, acl_body, children_body, create_body}
 use Rattle.zk_answers.specs.Rows.{body_items}
 use Rattle.zk_answers.specs.declared.frame.BodyOf.TheVariants as body
-use Rattle.zk_items.proofs.Kept.{on_some}
+use Rattle.zk_lines.proofs.Appended.{on_good}
 use Rattle.zk_lines.proofs.Appended.{made, value_copied}
 use Rattle.zk_lines.proofs.body.copy_body.Goals as goal
 
 pub returns-in-Create-clause-copied : goal.returns-in-Create-clause-copied
-returns-in-Create-clause-copied c = rw c.in-Create.is (on_some c.copy_field.result (λ k. made body_items _ (λ _ _. (_, refl, refl)) k) c.copy_field.ensures.copied)
+returns-in-Create-clause-copied c = rw c.in-Create.is (on_good c.copy_field.result (λ k. made body_items _ (λ _ _. (_, refl, refl)) k) c.copy_field.ensures.copied)
 
 pub returns-in-Exists-clause-copied : goal.returns-in-Exists-clause-copied
-returns-in-Exists-clause-copied c = rw c.in-Exists.is (on_some c.copy_field-in-Exists.result (λ k. made body_items _ (λ _ _. (_, refl, refl)) k) c.copy_field-in-Exists.ensures.copied)
+returns-in-Exists-clause-copied c = rw c.in-Exists.is (on_good c.copy_field-in-Exists.result (λ k. made body_items _ (λ _ _. (_, refl, refl)) k) c.copy_field-in-Exists.ensures.copied)
 
 pub returns-in-SetData-clause-copied : goal.returns-in-SetData-clause-copied
-returns-in-SetData-clause-copied c = rw c.in-SetData.is (on_some c.copy_field-in-SetData.result (λ k. made body_items _ (λ _ _. (_, refl, refl)) k) c.copy_field-in-SetData.ensures.copied)
+returns-in-SetData-clause-copied c = rw c.in-SetData.is (on_good c.copy_field-in-SetData.result (λ k. made body_items _ (λ _ _. (_, refl, refl)) k) c.copy_field-in-SetData.ensures.copied)
 
 pub returns-in-SetAcl-clause-copied : goal.returns-in-SetAcl-clause-copied
-returns-in-SetAcl-clause-copied c = rw c.in-SetAcl.is (on_some c.copy_field-in-SetAcl.result (λ k. made body_items _ (λ _ _. (_, refl, refl)) k) c.copy_field-in-SetAcl.ensures.copied)
+returns-in-SetAcl-clause-copied c = rw c.in-SetAcl.is (on_good c.copy_field-in-SetAcl.result (λ k. made body_items _ (λ _ _. (_, refl, refl)) k) c.copy_field-in-SetAcl.ensures.copied)
 
 pub returns-in-GetChildren-clause-copied : goal.returns-in-GetChildren-clause-copied
-returns-in-GetChildren-clause-copied c = rw c.in-GetChildren.is (on_some c.copy_field-in-GetChildren.result (λ k. made body_items _ (λ _ _. (_, refl, refl)) k) c.copy_field-in-GetChildren.ensures.copied)
+returns-in-GetChildren-clause-copied c = rw c.in-GetChildren.is (on_good c.copy_field-in-GetChildren.result (λ k. made body_items _ (λ _ _. (_, refl, refl)) k) c.copy_field-in-GetChildren.ensures.copied)
 
 pub returns-in-Sync-clause-copied : goal.returns-in-Sync-clause-copied
-returns-in-Sync-clause-copied c = rw c.in-Sync.is (on_some c.copy_field-in-Sync.result (λ k. made body_items _ (λ _ _. (_, refl, refl)) k) c.copy_field-in-Sync.ensures.copied)
+returns-in-Sync-clause-copied c = rw c.in-Sync.is (on_good c.copy_field-in-Sync.result (λ k. made body_items _ (λ _ _. (_, refl, refl)) k) c.copy_field-in-Sync.ensures.copied)
 
 pub returns-in-GetData-clause-copied : goal.returns-in-GetData-clause-copied
-returns-in-GetData-clause-copied c = rw c.in-GetData.is (on_some c.copy_with_stat.result (λ k. made body_items _ (λ _ _. (_, refl, refl)) (made data_body.items _ (λ _ _. (_, refl, refl)) k)) c.copy_with_stat.ensures.copied)
+returns-in-GetData-clause-copied c = rw c.in-GetData.is (on_good c.copy_with_stat.result (λ k. made body_items _ (λ _ _. (_, refl, refl)) (made data_body.items _ (λ _ _. (_, refl, refl)) k)) c.copy_with_stat.ensures.copied)
 
 pub returns-in-GetAcl-clause-copied : goal.returns-in-GetAcl-clause-copied
-returns-in-GetAcl-clause-copied c = rw c.in-GetAcl.is (on_some c.copy_with_stat-in-GetAcl.result (λ k. made body_items _ (λ _ _. (_, refl, refl)) (made acl_body.items _ (λ _ _. (_, refl, refl)) k)) c.copy_with_stat-in-GetAcl.ensures.copied)
+returns-in-GetAcl-clause-copied c = rw c.in-GetAcl.is (on_good c.copy_with_stat-in-GetAcl.result (λ k. made body_items _ (λ _ _. (_, refl, refl)) (made acl_body.items _ (λ _ _. (_, refl, refl)) k)) c.copy_with_stat-in-GetAcl.ensures.copied)
 
 pub returns-in-GetChildren2-clause-copied : goal.returns-in-GetChildren2-clause-copied
-returns-in-GetChildren2-clause-copied c = rw c.in-GetChildren2.is (on_some c.copy_with_stat-in-GetChildren2.result (λ k. made body_items _ (λ _ _. (_, refl, refl)) (made children_body.items _ (λ _ _. (_, refl, refl)) k)) c.copy_with_stat-in-GetChildren2.ensures.copied)
+returns-in-GetChildren2-clause-copied c = rw c.in-GetChildren2.is (on_good c.copy_with_stat-in-GetChildren2.result (λ k. made body_items _ (λ _ _. (_, refl, refl)) (made children_body.items _ (λ _ _. (_, refl, refl)) k)) c.copy_with_stat-in-GetChildren2.ensures.copied)
 
 pub returns-in-Create2-clause-copied : goal.returns-in-Create2-clause-copied
-returns-in-Create2-clause-copied c = rw c.in-Create2.is (on_some c.copy_with_stat-in-Create2.result (λ k. made body_items _ (λ _ _. (_, refl, refl)) (made create_body.items _ (λ _ _. (_, refl, refl)) k)) c.copy_with_stat-in-Create2.ensures.copied)
+returns-in-Create2-clause-copied c = rw c.in-Create2.is (on_good c.copy_with_stat-in-Create2.result (λ k. made body_items _ (λ _ _. (_, refl, refl)) (made create_body.items _ (λ _ _. (_, refl, refl)) k)) c.copy_with_stat-in-Create2.ensures.copied)
 
 pub returns-in-Multi-clause-copied : goal.returns-in-Multi-clause-copied
-returns-in-Multi-clause-copied c = rw c.in-Multi.is (on_some c.copy_multi.result (λ k. made body_items _ (λ _ _. (_, refl, refl)) k) c.copy_multi.ensures.copied)
+returns-in-Multi-clause-copied c = rw c.in-Multi.is (on_good c.copy_multi.result (λ k. made body_items _ (λ _ _. (_, refl, refl)) k) c.copy_multi.ensures.copied)
 
 pub returns-in-Delete-clause-copied : goal.returns-in-Delete-clause-copied
 returns-in-Delete-clause-copied c = rw c.in-Delete.is (value_copied body.Delete refl tt (sym (append-nil c.args.out.now.items)))

@@ -1,7 +1,7 @@
 use Rattle.std.proofs.Common.{◌≡◌, ◌∷◌, [], ◌++◌}
 use Rattle.zk_jute.specs.Item.{AnInt, bytes_of, HaveBytes}
 use Rattle.zk_items.specs.Codes.{type_name}
-use Rattle.zk_items.proofs.{Codes.code_is, Copies.ok_is}
+use Rattle.zk_items.proofs.{Codes.code_is}
 use Rattle.zk_lines.proofs.{Appended.as_int, CopiedAnswers.event_copied}
 use Rattle.zk_lines.proofs.copy_answer.copy_event.Goals as goal
 
@@ -10,8 +10,8 @@ returns-clause-copied c =
     let first = c.in_ok-append.ensures.appended in
     let second = c.in_ok-append-2.ensures.appended in
     let kind = c.in_ok-kind.kind in
-    let word = rw (ok_is c.ok.ensures.value c.in_ok-ok.was) at c.read_word.ensures in
-    let code = rw (ok_is c.ok-2.ensures.value c.in_ok-kind.was) at c.read_event_code.ensures in
+    let word = c.in_ok-read_word.ensures in
+    let code = c.in_ok-kind.ensures in
     let fit = (code_is type_name).sound c.read_word.new.line kind c.read_event_code.new.line code in
     let third = as_int (λ n. HaveBytes (AnInt n ∷ []) × (c.append-3.new.out.items ≡ c.append-2.new.out.items ++ bytes_of (AnInt n ∷ []))) kind fit.1 c.in_ok-append-3.ensures.appended in
     event_copied c.args.line.now c.copy_field.new.line c.read_word.new.line c.read_event_code.new.line c.copy_field-2.new.line c.copy_field-3.new.line c.args.out.now.items c.append.new.out.items c.copy_field.new.out.items

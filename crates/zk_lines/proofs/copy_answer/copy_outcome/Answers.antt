@@ -2,10 +2,11 @@ use Rattle.std.proofs.Common.{◌≡◌, ◌∷◌, [], ◌++◌, List, ℕ, ℤ
 use Rattle.zk_jute.specs.Item.{AnInt, bytes_of, HaveBytes}
 use Rattle.zk_answers.specs.Rows.{body_items}
 use Rattle.zk_items.specs.{Copied.Copied, Form.word_at, Codes.error_name}
-use Rattle.zk_items.proofs.{Codes.other_code_is, Kept.on_some, Copies.ok_is}
+use Rattle.zk_items.proofs.{Codes.other_code_is}
 use Rattle.zk_lines.proofs.{Appended.as_int, CopiedAnswers.failure_copied, CopiedAnswers.done_copied}
 use Rattle.zk_lines.specs.Answers as answers
 use Rattle.zk_lines.specs.Rows.{row_at}
+use Rattle.zk_lines.proofs.Appended.{on_good}
 use Rattle.zk_lines.proofs.copy_answer.copy_outcome.Goals as goal
 
 pub returns-then-passes-clause-copied : goal.returns-then-passes-clause-copied
@@ -14,14 +15,13 @@ returns-then-passes-clause-copied c =
     let old = c.args.out.now.items in
     let new = c.append.new.out.items in
     let failure = c.in_ok-failure.failure in
-    let read = rw (ok_is c.ok.ensures.value c.in_ok-failure.was) at c.read_failure.ensures in
+    let read = c.in_ok-failure.ensures in
     let word = ap (λ (w : List ℕ). word_at w line) (sym c.word_bytes.ensures) ∙ rw c.if-passes.true at c.passes.ensures in
-    on_some c.append.result
-    (λ h. let One : ℤ → Type 0 = λ n. HaveBytes (AnInt n ∷ []) × (new ≡ old ++ bytes_of (AnInt n ∷ [])) in
+    let h = c.in_ok-append.ensures.appended in
+    let One : ℤ → Type 0 = λ n. HaveBytes (AnInt n ∷ []) × (new ≡ old ++ bytes_of (AnInt n ∷ [])) in
     let fit = (other_code_is error_name).sound c.passes.new.self failure c.read_failure.new.line read in
     let n = as_int One failure fit.1.0 (subst (λ (n : ℤ). One (to_z w32 (of_z w32 n))) c.number.ensures.value h) in
-    failure_copied c.args.op line c.passes.new.self c.read_failure.new.line old new failure word read n.0 n.1)
-    c.append.ensures.appended
+    failure_copied c.args.op line c.passes.new.self c.read_failure.new.line old new failure word read n.0 n.1
 
 pub returns-clause-copied : goal.returns-clause-copied
 returns-clause-copied c =
@@ -30,8 +30,8 @@ returns-clause-copied c =
     let new = c.copy_body.new.out.items in
     let other = rw c.if-passes.false at c.passes.ensures in
     let none = ap (λ (w : List ℕ). word_at w line) (sym c.word_bytes.ensures) ∙ other.0 in
-    let zero = c.in_ok-append.ensures.appended in
-    on_some c.copy_body.result
+    let zero = c.in_ok-append-2.ensures.appended in
+    on_good c.copy_body.result
     (λ k. done_copied c.args.op line c.copy_body.new.line old c.append-2.new.out.items new none zero.0 zero.1
     (subst (λ (l : List ℕ). Copied (row_at (answers.line_of c.args.op)) body_items l c.copy_body.new.line c.append-2.new.out.items new) other.1 k))
     c.copy_body.ensures.copied

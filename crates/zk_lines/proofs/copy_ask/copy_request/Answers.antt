@@ -1,7 +1,8 @@
 use Rattle.std.proofs.Common.{◌≡◌, ◌∷◌, [], ◌++◌, ℤ, refl, sym, subst, ◌∙◌, w32, to_z, of_z}
 use Rattle.zk_jute.specs.Item.{AnInt, bytes_of, HaveBytes}
-use Rattle.zk_items.proofs.{Kept.on_some, Numbers.int_is, Copies.ok_is}
+use Rattle.zk_items.proofs.{Numbers.int_is}
 use Rattle.zk_lines.proofs.{Appended.as_int, Appended.op_kind, CopiedAsks.request_copied}
+use Rattle.zk_lines.proofs.Appended.{on_good}
 use Rattle.zk_lines.proofs.copy_ask.copy_request.Goals as goal
 
 pub returns-clause-copied : goal.returns-clause-copied
@@ -11,14 +12,14 @@ returns-clause-copied c =
     let first = c.append.new.out.items in
     let second = c.append-2.new.out.items in
     let xid = c.in_ok-xid.xid in
-    let int = rw (ok_is c.ok.ensures.value c.in_ok-xid.was) at c.int.ensures in
-    let blank = rw (ok_is c.ok-2.ensures.value c.in_ok-ok.was) at c.read_word.ensures in
-    let op = c.in_ok-op.op in
+    let int = c.in_ok-xid.ensures in
+    let blank = c.in_ok-read_word.ensures in
+    let op = c.in-Some.key in
     let Head : ℤ → Type 0 = λ n. HaveBytes (AnInt n ∷ []) × (first ≡ old ++ bytes_of (AnInt n ∷ [])) in
     let Next : ℤ → Type 0 = λ n. HaveBytes (AnInt n ∷ []) × (second ≡ first ++ bytes_of (AnInt n ∷ [])) in
     let head = as_int Head xid (int_is.sound line xid c.int.new.self int).1 c.in_ok-append.ensures.appended in
     let next = subst Next (op_kind op) (subst (λ (n : ℤ). Next (to_z w32 (of_z w32 n))) c.op_number.ensures c.in_ok-append-2.ensures.appended) in
-    on_some c.copy_body.result
+    on_good c.copy_body.result
     (λ k. request_copied line c.int.new.self c.read_word.new.line c.name.result.now c.name.new.self c.copy_body.new.line old first second c.copy_body.new.out.items
-    xid _ op int blank c.name.ensures.name c.name.ensures.rest (sym c.op_named.ensures ∙ c.in_ok-op.was) refl head next k)
+    xid _ op int blank c.name.ensures.name c.name.ensures.rest (sym c.op_named.ensures ∙ c.in-Some.is) refl head next k)
     c.copy_body.ensures.copied

@@ -1,8 +1,7 @@
 use Rattle.std.proofs.Common.{◌≡◌, ◌+◌, ◌++◌, ◌∷◌, [], ℕ, length, take, drop, refl, subst, arith}
 use Rattle.std.specs.Prelude.{pos}
 use Rattle.zk_jute.specs.Item.{AnInt, bytes_of, int_bytes}
-use Rattle.zk_items.proofs.Kept.{on_both}
-use Rattle.zk_lines.proofs.Counted.{counted, kept}
+use Rattle.zk_lines.proofs.Counted.{counted}
 use Rattle.zk_lines.proofs.list.copy_counted.Goals as goal
 
 pub returns-clause-copied : goal.returns-clause-copied
@@ -12,14 +11,5 @@ returns-clause-copied g c =
     let new = c.set_count.new.out.items in
     let n = c.in_ok-count.count in
     let begins : c.len-start.result ≡ length old = omega (arith, c.len-start.ensures, c.args.out.now.ok.0) in
-    on_both c.set_count.result
-    (λ small set. counted g.T.Put.form.at g.T.Spell.items c.args.line.now c.copy_series.new.line old (bytes_of (AnInt (pos 0) ∷ [])) c.append.new.out.items last new n refl c.in_ok-append.ensures.appended.1 c.in_ok-count.ensures.copied small
-    (subst (λ (s : ℕ). new ≡ take s last ++ (int_bytes (pos n) ++ drop (s + 4) last)) begins set))
-    c.set_count.ensures.small c.set_count.ensures.set
-
-pub returns-clause-keeps : goal.returns-clause-keeps
-returns-clause-keeps g c =
-    let old = c.args.out.now.items in
-    let begins : c.len-start.result ≡ length old = omega (arith, c.len-start.ensures, c.args.out.now.ok.0) in
-    kept c.set_count.result old (bytes_of (AnInt (pos 0) ∷ [])) c.append.new.out.items (int_bytes (pos c.in_ok-count.count)) c.copy_series.new.out.items c.set_count.new.out.items c.len-start.result begins c.in_ok-append.ensures.appended.1
-    c.in_ok-count.ensures.keeps c.set_count.ensures.set c.set_count.ensures.unchanged
+    counted g.T.Put.form.at g.T.Spell.items c.args.line.now c.copy_series.new.line old (bytes_of (AnInt (pos 0) ∷ [])) c.append.new.out.items last new n refl c.in_ok-append.ensures.appended.1 c.in_ok-count.ensures.copied c.in_ok-set_count.ensures.small
+    (subst (λ (s : ℕ). new ≡ take s last ++ (int_bytes (pos n) ++ drop (s + 4) last)) begins c.in_ok-set_count.ensures.set)

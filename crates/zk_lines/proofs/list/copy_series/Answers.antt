@@ -1,5 +1,5 @@
-use Rattle.zk_lines.proofs.{Appended.if_some, Counted.series_empty, Counted.series_more}
-use Rattle.std.proofs.Common.{subst}
+use Rattle.zk_lines.proofs.{Appended.if_good, Appended.refused_by, Appended.handed_on, Counted.series_empty, Counted.series_more, Counted.series_unread, Counted.series_cut}
+use Rattle.std.proofs.Common.{subst, ap, sym, ◌∙◌}
 use Rattle.zk_items.specs.Copied.{Copied}
 use Rattle.zk_lines.proofs.list.copy_series.Goals as goal
 
@@ -11,6 +11,18 @@ pub returns-clause-copied : goal.returns-clause-copied
 returns-clause-copied g c =
     let other = rw c.if-passes.false at c.passes.ensures in
     let first = subst (λ l. Copied g.T.Put.form.at g.T.Spell.items l c.copy.new.line c.args.out.now.items c.copy.new.out.items) other.1 c.in_ok-copy.ensures.copied in
-    if_some c.copy_others.result
+    if_good c.copy_others.result
     (λ n others. series_more c.args.signs.between c.args.signs.behind g.T.Put.form.at g.T.Spell.items c.args.line.now c.copy.new.line c.copy_others.new.line c.args.out.now.items c.copy.new.out.items c.copy_others.new.out.items n other.0 first others)
     c.copy_others.ensures.copied
+
+pub returns-in_err-copy-clause-refused : goal.returns-in_err-copy-clause-refused
+returns-in_err-copy-clause-refused g c =
+    let other = rw c.if-passes.false at c.passes.ensures in
+    handed_on _ c.from_residual.result c.from_residual.ensures.1 c.in_err-copy.ensures.refused
+    (λ none. series_unread c.args.signs.between c.args.signs.behind g.T.Put.form.at c.args.line.now other.0 (ap g.T.Put.form.at (sym other.1) ∙ none))
+
+pub returns-clause-refused : goal.returns-clause-refused
+returns-clause-refused g c =
+    let other = rw c.if-passes.false at c.passes.ensures in
+    let first = subst (λ l. Copied g.T.Put.form.at g.T.Spell.items l c.copy.new.line c.args.out.now.items c.copy.new.out.items) other.1 c.in_ok-copy.ensures.copied in
+    refused_by c.copy_others.result (λ none. series_cut c.args.signs.between c.args.signs.behind g.T.Put.form.at other.0 first none) c.copy_others.ensures.refused

@@ -36,7 +36,8 @@ returns-in_default-clause-lacks c =
     let k = c.in-Ok.ensures.found in
     let turn = subst (λ (z : Profile). IsInTurn z n k.0) c.profile.ensures k.1.turn in
     let small : length c.args.payload.now ≤ c.args.limits.client = omega (arith, c.if-payload-client.false, c.client.ensures) in
-    λ wanting. client_payload_stands c.args.limits c.args.asked n (spoken_frames c.args.asked n c.from-count.ensures) c.args.waiting.now c.args.payload.now k.0 turn k.1.sent k.1.is small
+    let room = (c.has_room.ensures k.0 (k.1.asks, k.1.sent, k.1.is)).0 (true_from_ne_false c.has_room.result (λ (off : _). cc)) in
+    λ wanting. client_payload_stands c.args.limits c.args.asked n (spoken_frames c.args.asked n c.from-count.ensures) c.args.waiting.now c.args.payload.now k.0 turn k.1.sent k.1.is c.requires.room small room
 
 pub returns-clause-said : goal.returns-clause-said
 returns-clause-said c =

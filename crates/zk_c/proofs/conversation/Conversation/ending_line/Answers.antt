@@ -1,13 +1,4 @@
-use Rattle.std.proofs.Common.{ℕ, List, refl, subst, ◌∙◌}
-use Rattle.zk_c.specs.Handle.{TellsText, no_memory}
 use Rattle.zk_c.proofs.conversation.Conversation.ending_line.Goals as goal
 
-pub returns-in_default : goal.returns-in_default
-returns-in_default c = record { ending = c.finish-ending.result; is = c.finish-ending.ensures; text = no_memory c.none.ensures refl }
-
 pub returns : goal.returns
-returns c = record {
-  ending = c.finish-ending.result;
-  is = c.finish-ending.ensures;
-  text = subst (λ (text : List ℕ). TellsText text c.args.out.now c.put.new.out c.put.result) (c.deref.ensures.value ∙ c.in-Ok.ensures) c.put.ensures.told;
-}
+returns c = record { ending = c.finish.result; is = c.finish.ensures; text = c.write_ending.ensures }

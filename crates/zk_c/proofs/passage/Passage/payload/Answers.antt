@@ -1,18 +1,17 @@
-use Rattle.std.proofs.Common.{◌≡◌, ℕ, List, [], Option, Some, None, subst}
-use Rattle.std.specs.Prelude.{MatchOption}
-use Rattle.std.specs.Borrow.{Bor}
-use Rattle.zk_frames.specs.Framing.{frame}
-use Rattle.zk_talk.specs.declared.message.Side.{Side}
-use Rattle.zk_through.specs.Runs.{left_on}
-use Rattle.zk_c.specs.{declared.answer.LineAnswer.LineAnswer, Answer.no_line, Handle.TellsText, Passage.PassageState, Passing.IsLeftOut}
-use Rattle.zk_c.proofs.Keeping.{framed_some}
+use Rattle.std.proofs.Common.{◌≡◌, ◌∙◌, true, sym, ap, subst}
+use Rattle.zk_c.specs.{Passage.PassageState, Passage.newest_on, PassingOn.IsPayload, contracts.passage.Passage.the_view}
+use Rattle.zk_c.proofs.{Keeping.payload_told, Payloads.left_written, Payloads.shown_written}
 use Rattle.zk_c.proofs.passage.Passage.payload.Goals as goal
 
-left_told : (p : PassageState) (side : Side) (before after : List ℕ) (answer : LineAnswer) (left : Option (Bor (List ℕ))) → MatchOption left (left_on side p.through ≡ []) (λ q. left_on side p.through ≡ frame q.now) →
-    MatchOption left ((answer ≡ no_line 69) × (after ≡ before)) (λ q. TellsText q.now before after answer) → IsLeftOut p side before after answer
-left_told p side before after answer (Some q) is text = record { none = λ empty. absurd (framed_some q.now (left_on side p.through) is empty); some = λ there. (q.now, is, text) }
-left_told p side before after answer None none told = record { none = λ empty. told; some = λ there. absurd (there none) }
+pub returns-in-Some : goal.returns-in-Some
+returns-in-Some c =
+    subst (λ (p : PassageState). IsPayload p c.args.side c.args.out.now c.of.new.out c.of.result) c.self.view_is
+    (left_written (the_view c.self.inside) c.args.side c.args.out.now c.of.new.out c.of.result c.in-Some.left.now c.in-Some.ensures c.of.ensures)
 
 pub returns : goal.returns
-returns c = subst (λ (p : PassageState). IsLeftOut p c.args.side c.args.out.now c.of.new.out c.of.result) c.self.view_is
-    (left_told (record { through = c.self.inside.through; client = c.self.inside.client; server = c.self.inside.server }) c.args.side c.args.out.now c.of.new.out c.of.result c.payload.result c.payload.ensures c.of.ensures)
+returns c =
+    let side = c.args.side in
+    let newest : newest_on side (the_view c.self.inside) ≡ true = ap (newest_on side) c.self.view_is ∙ sym c.is_newest.ensures ∙ c.if-not-is_newest.false in
+    subst (λ (p : PassageState). IsPayload p side c.args.out.now c.of-2.new.out c.of-2.result) c.self.view_is
+    (shown_written (the_view c.self.inside) side c.args.out.now c.of-2.new.out c.of-2.result c.in_default.ensures newest
+    (payload_told c.self.inside.through.talk side c.args.out.now c.of-2.new.out c.of-2.result c.payload.result c.payload.ensures c.of-2.ensures))

@@ -1,20 +1,20 @@
 use Rattle.std.proofs.Common.{◌≡◌, ◌∷◌, ◌++◌, ◌/◌, List, ℕ, length, take, drop, refl, ap, sym, subst, ◌∙◌}
 use Rattle.std.specs.List.{prefix_len}
 use Rattle.zk_items.specs.Leaf.{in_hex}
-use Rattle.zk_items.proofs.{Copies.null_blob, Copies.full_blob, Joined.Hex, Kept.on_some, Runs.run_passes}
+use Rattle.zk_items.proofs.{Copies.null_blob, Copies.full_blob, Joined.Hex, Runs.run_passes}
 use Rattle.zk_items.proofs.reader.Reader.copy_blob.Goals as goal
 
-pub append_bytes-requires : goal.append_bytes-requires
-append_bytes-requires c =
+pub append_bytes-requires-clause-hex : goal.append_bytes-requires-clause-hex
+append_bytes-requires-clause-hex c =
     let rest = c.in-Some-eq35-default.rest.now in
     let front : c.split_at.result.0.now ≡ take (prefix_len in_hex rest) rest = c.split_at.ensures.front ∙ ap (λ (n : ℕ). take n rest) c.hex_len.ensures.value in
     subst Hex (sym front) (run_passes in_hex rest)
 
-pub returns-in-Some-eq126-default-clause-copied : goal.returns-in-Some-eq126-default-clause-copied
-returns-in-Some-eq126-default-clause-copied c =
+pub returns-in_ok-append_null-in-Some-eq126-default-clause-copied : goal.returns-in_ok-append_null-in-Some-eq126-default-clause-copied
+returns-in_ok-append_null-in-Some-eq126-default-clause-copied c =
     let first = c.in-Some-eq126-default in
     let ahead : c.self.inside.ahead.now ≡ 126 ∷ first.rest.now = cc first.ensures.cases.0 in
-    on_some c.append_null.result (λ e. null_blob _ _ _ _ (sym c.self.view_is ∙ ahead) e) c.append_null.ensures.appended
+    null_blob _ _ _ _ (sym c.self.view_is ∙ ahead) c.in_ok-append_null-in-Some-eq126-default.ensures.appended
 
 pub returns-in_ok-append_bytes-in-Some-eq35-default-clause-copied : goal.returns-in_ok-append_bytes-in-Some-eq35-default-clause-copied
 returns-in_ok-append_bytes-in-Some-eq35-default-clause-copied c =

@@ -2,7 +2,7 @@ use Rattle.std.proofs.Common.{◌≡◌, ◌++◌, ℤ, sym, ◌∙◌, subst, f
 use Rattle.std.specs.Prelude.{negsuc}
 use Rattle.zk_jute.specs.Item.{bytes_of, HaveBytes}
 use Rattle.zk_asks.specs.Parts.{marked}
-use Rattle.zk_items.proofs.Kept.{on_some}
+use Rattle.zk_lines.proofs.Appended.{on_good}
 use Rattle.zk_lines.proofs.{Appended.part_kind, CopiedAsks.part_copied}
 use Rattle.zk_lines.proofs.copy_ask.PartCopies.copy.Goals as goal
 
@@ -11,7 +11,7 @@ returns-clause-copied c =
     let old = c.args.out.now.items in
     let mid = c.append_header.new.out.items in
     let Head : ℤ → Type 0 = λ k. HaveBytes (marked (record { kind = k; done = false; err = negsuc 0 })) × (mid ≡ old ++ bytes_of (marked (record { kind = k; done = false; err = negsuc 0 }))) in
-    let head = subst Head (part_kind c.in_ok-op.op) (subst (λ (k : ℤ). Head (to_z w32 (of_z w32 k))) c.part_number.ensures c.in_ok-append_header.ensures.appended) in
-    on_some c.copy_part.result
-    (λ k. part_copied c.args.line.now c.name.result.now c.name.new.self c.copy_part.new.line old mid c.copy_part.new.out.items c.in_ok-op.op c.name.ensures.name c.name.ensures.rest (sym c.part_named.ensures ∙ c.in_ok-op.was) head.0 head.1 k)
+    let head = subst Head (part_kind c.in-Some.key) (subst (λ (k : ℤ). Head (to_z w32 (of_z w32 k))) c.part_number.ensures c.in_ok-append_header.ensures.appended) in
+    on_good c.copy_part.result
+    (λ k. part_copied c.args.line.now c.name.result.now c.name.new.self c.copy_part.new.line old mid c.copy_part.new.out.items c.in-Some.key c.name.ensures.name c.name.ensures.rest (sym c.part_named.ensures ∙ c.in-Some.is) head.0 head.1 k)
     c.copy_part.ensures.copied

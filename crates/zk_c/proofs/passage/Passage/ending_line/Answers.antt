@@ -1,0 +1,4 @@
+use Rattle.zk_c.proofs.passage.Passage.ending_line.Goals as goal
+
+pub returns : goal.returns
+returns c = record { ending = c.finish.result; is = c.finish.ensures; text = c.write_ending.ensures }

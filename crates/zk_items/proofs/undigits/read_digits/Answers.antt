@@ -1,7 +1,0 @@
-use Rattle.std.proofs.Common.{length}
-use Rattle.zk_items.proofs.Copies.{few_read}
-use Rattle.zk_items.proofs.undigits.read_digits.Goals as goal
-
-pub returns-then-room-lt16 : goal.returns-then-room-lt16
-returns-then-room-lt16 c =
-    few_read c.args.digits.now c.decode_to_slice.new.out (length c.args.room.now) c.decode_to_slice.result c.ok.result c.requires.hex c.requires.room c.decode_to_slice.ensures.value c.ok.ensures.value

@@ -1,4 +1,0 @@
-use Rattle.zk_listings.proofs.gather.settle.Goals as goal
-
-pub returns-clause-taken : goal.returns-clause-taken
-returns-clause-taken c = rw (← c.side.ensures, ← c.bytes.ensures) c.judge-refused.ensures.taken

@@ -1,0 +1,10 @@
+use Rattle.std.proofs.Common.{arith}
+use Rattle.zk_talk.specs.Conversation.{number_waiting}
+use Rattle.zk_through.proofs.Waits.{said_after}
+use Rattle.zk_through.proofs.held_counts.requests_waiting.Goals as goal
+
+pub returns-clause-stands : goal.returns-clause-stands
+returns-clause-stands c = λ h M v cr sr st g. omega (arith, c.requests.ensures.stands h M v cr sr st g, c.left.ensures)
+
+pub returns-clause-after : goal.returns-clause-after
+returns-clause-after c = λ h M w. omega (arith, said_after number_waiting c.args.talk.now c.requests.result h M c.requests.ensures.stands c.requests.ensures.refuses w, c.left.ensures)
