@@ -16,7 +16,8 @@ A case NAME is the files
     NAME.err     its standard error         (no file: nothing)
     NAME.status  its exit status            (no file: 0)
 
-A recording is NAME.zkr, NAME.show is its listing, and NAME.show35, where it has one, the listing with --profile 3.5.
+A recording is NAME.zkr, NAME.show is its listing, and NAME.show35 and NAME.show37, where it has them, are the listings
+with --profile 3.5 and with --profile 3.7.
 check has to print the last line of the listing, and show all of it. build, given the listing, has to make a recording
 that shows the same messages; where the conversation is whole, it has one piece for each message and the bytes of each
 side. migrate has to make a recording that shows the same listing without options, and that it migrates to itself. The

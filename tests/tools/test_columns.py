@@ -77,11 +77,16 @@ class Left(ToolCase):
 class Program(ColumnsCase):
     def test_damaged_head(self):
         """The plain form reports it, so nothing is written."""
-        for data in (b"", b"ZKR", b"ZKR3", b"ZKR2\0\0\0", b"ZKR2" + bytes(16)):
+        numbers = b"\0\1\0\0" * 3
+        for data in (b"", b"ZKR", b"ZKR3", b"ZKR2\0\0\0", b"ZKR2" + bytes(16), b"ZKR2" + numbers + b"\0\0\0\x21",
+                     b"ZKR2" + numbers + b"\0\0\0\x24", b"ZKR2" + numbers + b"\0\0\0\x26"):
             path = self.folder / "head.zkr"
             path.write_bytes(data)
             done = self.columns(path)
             self.assertEqual((done.returncode, done.stdout, done.stderr.count(b"\n")), (4, b"", 1), data)
+        for profile in (34, 35, 37):
+            path.write_bytes(b"ZKR2" + numbers + bytes([0, 0, 0, profile]))
+            self.assertEqual(self.columns(path).returncode, 0, profile)
 
     def test_times_that_do_not_fit(self):
         recording, times = self.folder / "a.zkr", self.folder / "a.zkr.times"

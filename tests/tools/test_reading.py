@@ -278,6 +278,15 @@ class Reading(ReadingCase):
         self.assertEqual(self.counts("--profile", "3.4", path)["byNumber"], {"create2": 1})
         path = self.write(recording([create2, answer(1, 5, -110)], ">cqI", zkr2(35)), "b.zkr")
         self.assertEqual(self.counts("--profile", "3.4", path)["byNumber"], {"create2": 1})
+        frames = [ask(1, 106, PATH + b"\0\0\0\1"), answer(1, 5, 0, bytes(4))]
+        for profile in (34, 35, 37):
+            path = self.write(recording(frames, ">cqI", zkr2(profile)), f"{profile}.zkr")
+            self.assertNotIn("byNumber", self.counts(path))
+            for words in (["--profile", "3.4"], ["--profile", "3.5"]):
+                self.assertEqual(self.counts(*words, path)["byNumber"], {"addWatch": 1})
+            asked, answered = self.messages(path)[0][-2:]
+            self.assertEqual((asked["op"], asked["path"], asked["mode"]), ("addWatch", "/a", 1))
+            self.assertEqual((answered["op"], answered["zxid"], answered["code"]), ("addWatch", "0x5", 0))
 
     def test_times_beside(self):
         """They are those of all frames, also of what is left out."""

@@ -13,8 +13,9 @@ use crate::word::{Word, field_word, read_word};
 use zk_asks::{Part, ask_rows, part_rows};
 use zk_items::{LineFault, LineReason, Reader};
 use zk_records::{
-    AuthAsk, CheckAsk, CreateAsk, DeleteAsk, Op, PartOp, PathAsk, SetAclAsk, SetDataAsk,
-    SetWatchesAsk, WatchAsk, fields_of, op_number, owned, part_number,
+    AddWatchAsk, AuthAsk, CheckAsk, CreateAsk, CreateTtlAsk, DeleteAsk, Op, PartOp, PathAsk,
+    ReconfigAsk, SetAclAsk, SetDataAsk, SetWatchesAsk, WatchAsk, WatchesAsk, fields_of, op_number,
+    owned, part_number,
 };
 use zk_talk::Kind;
 

@@ -7,9 +7,10 @@ use crate::word::{Word, field_word};
 use std::alloc::AllocError;
 use zk_items::{LineFault, Reader};
 use zk_records::{
-    AuthAsk, AuthAskOf, CheckAsk, CheckAskOf, CreateAsk, CreateAskOf, DeleteAsk, DeleteAskOf,
-    PathAsk, PathAskOf, SetAclAsk, SetAclAskOf, SetDataAsk, SetDataAskOf, SetWatchesAsk,
-    SetWatchesAskOf, WatchAsk, WatchAskOf, fields_of, owned,
+    AddWatchAsk, AddWatchAskOf, AuthAsk, AuthAskOf, CheckAsk, CheckAskOf, CreateAsk, CreateAskOf,
+    CreateTtlAsk, CreateTtlAskOf, DeleteAsk, DeleteAskOf, PathAsk, PathAskOf, ReconfigAsk,
+    ReconfigAskOf, SetAclAsk, SetAclAskOf, SetDataAsk, SetDataAskOf, SetWatchesAsk,
+    SetWatchesAskOf, WatchAsk, WatchAskOf, WatchesAsk, WatchesAskOf, fields_of, owned,
 };
 
 impl<T: Put, B: Put, A: Put> Put for CreateAskOf<T, B, A> {
@@ -143,6 +144,66 @@ impl<T: Put> Put for CheckAskOf<T> {
 impl Copies for CheckAsk {
     fn copy(line: &mut Reader<'_>, out: &mut Vec<u8>) -> Result<(), LineFault> {
         fields_of!(CheckAsk, copy_fields, line, out);
+        Ok(())
+    }
+}
+
+impl<T: Put, B: Put, A: Put> Put for CreateTtlAskOf<T, B, A> {
+    ghost form = { asks.create_ttl_of T.form B.form A.form };
+
+    fn put(&self, out: &mut Vec<u8>) -> Result<(), AllocError> {
+        fields_of!(CreateTtlAsk, put_fields, out, self)
+    }
+}
+
+impl Copies for CreateTtlAsk {
+    fn copy(line: &mut Reader<'_>, out: &mut Vec<u8>) -> Result<(), LineFault> {
+        fields_of!(CreateTtlAsk, copy_fields, line, out);
+        Ok(())
+    }
+}
+
+impl<T: Put> Put for WatchesAskOf<T> {
+    ghost form = { asks.watches_of T.form };
+
+    fn put(&self, out: &mut Vec<u8>) -> Result<(), AllocError> {
+        fields_of!(WatchesAsk, put_fields, out, self)
+    }
+}
+
+impl Copies for WatchesAsk {
+    fn copy(line: &mut Reader<'_>, out: &mut Vec<u8>) -> Result<(), LineFault> {
+        fields_of!(WatchesAsk, copy_fields, line, out);
+        Ok(())
+    }
+}
+
+impl<T: Put> Put for AddWatchAskOf<T> {
+    ghost form = { asks.add_watch_of T.form };
+
+    fn put(&self, out: &mut Vec<u8>) -> Result<(), AllocError> {
+        fields_of!(AddWatchAsk, put_fields, out, self)
+    }
+}
+
+impl Copies for AddWatchAsk {
+    fn copy(line: &mut Reader<'_>, out: &mut Vec<u8>) -> Result<(), LineFault> {
+        fields_of!(AddWatchAsk, copy_fields, line, out);
+        Ok(())
+    }
+}
+
+impl<T: Put> Put for ReconfigAskOf<T> {
+    ghost form = { asks.reconfig_of T.form };
+
+    fn put(&self, out: &mut Vec<u8>) -> Result<(), AllocError> {
+        fields_of!(ReconfigAsk, put_fields, out, self)
+    }
+}
+
+impl Copies for ReconfigAsk {
+    fn copy(line: &mut Reader<'_>, out: &mut Vec<u8>) -> Result<(), LineFault> {
+        fields_of!(ReconfigAsk, copy_fields, line, out);
         Ok(())
     }
 }

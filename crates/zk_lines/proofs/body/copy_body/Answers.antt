@@ -25,6 +25,15 @@ returns-in-GetChildren-clause-copied c = rw c.in-GetChildren.is (on_good c.copy_
 pub returns-in-Sync-clause-copied : goal.returns-in-Sync-clause-copied
 returns-in-Sync-clause-copied c = rw c.in-Sync.is (on_good c.copy_field-in-Sync.result (λ k. made body_items _ (λ _ _. (_, refl, refl)) k) c.copy_field-in-Sync.ensures.copied)
 
+pub returns-in-GetEphemerals-clause-copied : goal.returns-in-GetEphemerals-clause-copied
+returns-in-GetEphemerals-clause-copied c = rw c.in-GetEphemerals.is (on_good c.copy_field-in-GetEphemerals.result (λ k. made body_items _ (λ _ _. (_, refl, refl)) k) c.copy_field-in-GetEphemerals.ensures.copied)
+
+pub returns-in-GetAllChildrenNumber-clause-copied : goal.returns-in-GetAllChildrenNumber-clause-copied
+returns-in-GetAllChildrenNumber-clause-copied c = rw c.in-GetAllChildrenNumber.is (on_good c.copy_field-in-GetAllChildrenNumber.result (λ k. made body_items _ (λ _ _. (_, refl, refl)) k) c.copy_field-in-GetAllChildrenNumber.ensures.copied)
+
+pub returns-in-AddWatch-clause-copied : goal.returns-in-AddWatch-clause-copied
+returns-in-AddWatch-clause-copied c = rw c.in-AddWatch.is (on_good c.copy_field-in-AddWatch.result (λ k. made body_items _ (λ _ _. (_, refl, refl)) k) c.copy_field-in-AddWatch.ensures.copied)
+
 pub returns-in-GetData-clause-copied : goal.returns-in-GetData-clause-copied
 returns-in-GetData-clause-copied c = rw c.in-GetData.is (on_good c.copy_with_stat.result (λ k. made body_items _ (λ _ _. (_, refl, refl)) (made data_body.items _ (λ _ _. (_, refl, refl)) k)) c.copy_with_stat.ensures.copied)
 
@@ -36,6 +45,15 @@ returns-in-GetChildren2-clause-copied c = rw c.in-GetChildren2.is (on_good c.cop
 
 pub returns-in-Create2-clause-copied : goal.returns-in-Create2-clause-copied
 returns-in-Create2-clause-copied c = rw c.in-Create2.is (on_good c.copy_with_stat-in-Create2.result (λ k. made body_items _ (λ _ _. (_, refl, refl)) (made create_body.items _ (λ _ _. (_, refl, refl)) k)) c.copy_with_stat-in-Create2.ensures.copied)
+
+pub returns-in-CreateContainer-clause-copied : goal.returns-in-CreateContainer-clause-copied
+returns-in-CreateContainer-clause-copied c = rw c.in-CreateContainer.is (on_good c.copy_with_stat-in-CreateContainer.result (λ k. made body_items _ (λ _ _. (_, refl, refl)) (made create_body.items _ (λ _ _. (_, refl, refl)) k)) c.copy_with_stat-in-CreateContainer.ensures.copied)
+
+pub returns-in-CreateTtl-clause-copied : goal.returns-in-CreateTtl-clause-copied
+returns-in-CreateTtl-clause-copied c = rw c.in-CreateTtl.is (on_good c.copy_with_stat-in-CreateTtl.result (λ k. made body_items _ (λ _ _. (_, refl, refl)) (made create_body.items _ (λ _ _. (_, refl, refl)) k)) c.copy_with_stat-in-CreateTtl.ensures.copied)
+
+pub returns-in-Reconfig-clause-copied : goal.returns-in-Reconfig-clause-copied
+returns-in-Reconfig-clause-copied c = rw c.in-Reconfig.is (on_good c.copy_with_stat-in-Reconfig.result (λ k. made body_items _ (λ _ _. (_, refl, refl)) (made data_body.items _ (λ _ _. (_, refl, refl)) k)) c.copy_with_stat-in-Reconfig.ensures.copied)
 
 pub returns-in-Multi-clause-copied : goal.returns-in-Multi-clause-copied
 returns-in-Multi-clause-copied c = rw c.in-Multi.is (on_good c.copy_multi.result (λ k. made body_items _ (λ _ _. (_, refl, refl)) k) c.copy_multi.ensures.copied)
@@ -54,3 +72,9 @@ returns-in-SetWatches-clause-copied c = rw c.in-SetWatches.is (value_copied body
 
 pub returns-in-CloseSession-clause-copied : goal.returns-in-CloseSession-clause-copied
 returns-in-CloseSession-clause-copied c = rw c.in-CloseSession.is (value_copied body.CloseSession refl tt (sym (append-nil c.args.out.now.items)))
+
+pub returns-in-CheckWatches-clause-copied : goal.returns-in-CheckWatches-clause-copied
+returns-in-CheckWatches-clause-copied c = rw c.in-CheckWatches.is (value_copied body.CheckWatches refl tt (sym (append-nil c.args.out.now.items)))
+
+pub returns-in-RemoveWatches-clause-copied : goal.returns-in-RemoveWatches-clause-copied
+returns-in-RemoveWatches-clause-copied c = rw c.in-RemoveWatches.is (value_copied body.RemoveWatches refl tt (sym (append-nil c.args.out.now.items)))

@@ -10,7 +10,8 @@ pub returns-in-Create-clause-copied : goal.returns-in-Create-clause-copied
 returns-in-Create-clause-copied c =
     elim c.in-Create.is [
       | inl e ↦ rw e (on_good c.copy.result (λ k. made body_items _ (λ _ _. (_, refl, refl)) k) c.copy.ensures.copied)
-      | inr e ↦ rw e (on_good c.copy.result (λ k. made body_items _ (λ _ _. (_, refl, refl)) k) c.copy.ensures.copied)
+      | inr (inl e) ↦ rw e (on_good c.copy.result (λ k. made body_items _ (λ _ _. (_, refl, refl)) k) c.copy.ensures.copied)
+      | inr (inr e) ↦ rw e (on_good c.copy.result (λ k. made body_items _ (λ _ _. (_, refl, refl)) k) c.copy.ensures.copied)
     ]
 
 pub returns-in-Delete-clause-copied : goal.returns-in-Delete-clause-copied
@@ -32,7 +33,9 @@ pub returns-in-GetAcl-clause-copied : goal.returns-in-GetAcl-clause-copied
 returns-in-GetAcl-clause-copied c =
     elim c.in-GetAcl.is [
       | inl e ↦ rw e (on_good c.copy-in-GetAcl.result (λ k. made body_items _ (λ _ _. (_, refl, refl)) k) c.copy-in-GetAcl.ensures.copied)
-      | inr e ↦ rw e (on_good c.copy-in-GetAcl.result (λ k. made body_items _ (λ _ _. (_, refl, refl)) k) c.copy-in-GetAcl.ensures.copied)
+      | inr (inl e) ↦ rw e (on_good c.copy-in-GetAcl.result (λ k. made body_items _ (λ _ _. (_, refl, refl)) k) c.copy-in-GetAcl.ensures.copied)
+      | inr (inr (inl e)) ↦ rw e (on_good c.copy-in-GetAcl.result (λ k. made body_items _ (λ _ _. (_, refl, refl)) k) c.copy-in-GetAcl.ensures.copied)
+      | inr (inr (inr e)) ↦ rw e (on_good c.copy-in-GetAcl.result (λ k. made body_items _ (λ _ _. (_, refl, refl)) k) c.copy-in-GetAcl.ensures.copied)
     ]
 
 pub returns-in-SetAcl-clause-copied : goal.returns-in-SetAcl-clause-copied
@@ -43,6 +46,22 @@ returns-in-Auth-clause-copied c = rw c.in-Auth.is (on_good c.copy-in-Auth.result
 
 pub returns-in-SetWatches-clause-copied : goal.returns-in-SetWatches-clause-copied
 returns-in-SetWatches-clause-copied c = rw c.in-SetWatches.is (on_good c.copy-in-SetWatches.result (λ k. made body_items _ (λ _ _. (_, refl, refl)) k) c.copy-in-SetWatches.ensures.copied)
+
+pub returns-in-CheckWatches-clause-copied : goal.returns-in-CheckWatches-clause-copied
+returns-in-CheckWatches-clause-copied c =
+    elim c.in-CheckWatches.is [
+      | inl e ↦ rw e (on_good c.copy-in-CheckWatches.result (λ k. made body_items _ (λ _ _. (_, refl, refl)) k) c.copy-in-CheckWatches.ensures.copied)
+      | inr e ↦ rw e (on_good c.copy-in-CheckWatches.result (λ k. made body_items _ (λ _ _. (_, refl, refl)) k) c.copy-in-CheckWatches.ensures.copied)
+    ]
+
+pub returns-in-CreateTtl-clause-copied : goal.returns-in-CreateTtl-clause-copied
+returns-in-CreateTtl-clause-copied c = rw c.in-CreateTtl.is (on_good c.copy-in-CreateTtl.result (λ k. made body_items _ (λ _ _. (_, refl, refl)) k) c.copy-in-CreateTtl.ensures.copied)
+
+pub returns-in-AddWatch-clause-copied : goal.returns-in-AddWatch-clause-copied
+returns-in-AddWatch-clause-copied c = rw c.in-AddWatch.is (on_good c.copy-in-AddWatch.result (λ k. made body_items _ (λ _ _. (_, refl, refl)) k) c.copy-in-AddWatch.ensures.copied)
+
+pub returns-in-Reconfig-clause-copied : goal.returns-in-Reconfig-clause-copied
+returns-in-Reconfig-clause-copied c = rw c.in-Reconfig.is (on_good c.copy-in-Reconfig.result (λ k. made body_items _ (λ _ _. (_, refl, refl)) k) c.copy-in-Reconfig.ensures.copied)
 
 pub returns-in-Multi-clause-copied : goal.returns-in-Multi-clause-copied
 returns-in-Multi-clause-copied c = rw c.in-Multi.is (on_good c.copy_multi.result (λ k. made body_items _ (λ _ _. (_, refl, refl)) k) c.copy_multi.ensures.copied)
