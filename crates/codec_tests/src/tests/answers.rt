@@ -4,7 +4,7 @@ use super::values::{fault_told, is_told};
 use std::alloc::Global;
 use std::test::Fail;
 use zk_answers::{
-    Form, ServerFrame, ServerRef, borrow_event_under, borrow_reply_under, fits, form_of,
+    Form, ServerFrame, ServerRef, borrow_event, borrow_reply, fits, form_of,
     judge_reply, read_connected, read_event, read_reply, reply_head, scan_connected, scan_event,
     scan_reply, write_server,
 };
@@ -139,7 +139,7 @@ fn reply_seen<'a>(form: &Form, payload: &'a [u8]) -> Result<ServerRef<'a>, ItemF
         return Err(ItemFault::at(0, Reason::Unasked));
     }
     scan_reply(form, payload)?;
-    borrow_reply_under(form, &head, payload)
+    borrow_reply(form, payload)
 }
 
 /// Whether `judge_reply` finds that the payload is a reply to `form`.
@@ -169,7 +169,7 @@ fn event_seen(payload: &[u8]) -> Result<ServerRef<'_>, ItemFault> {
         return Err(ItemFault::at(0, Reason::Unasked));
     }
     scan_event(payload)?;
-    borrow_event_under(&head, payload)
+    borrow_event(payload)
 }
 
 /// Why the payload is refused when it is scanned; `None` if it isn't.
