@@ -271,7 +271,8 @@ impl Progress {
         }
     }
 
-    /// Takes a block, and appends the lines of its messages. Returns the recording's summary if it is decided, whatever follows.
+    /// Takes a block, and appends the lines of its messages. Returns the recording's summary if it is decided, whatever
+    /// follows.
     pub fn feed(
         &mut self,
         block: &[u8],
