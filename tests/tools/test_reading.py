@@ -311,7 +311,7 @@ class Reading(ReadingCase):
     def test_folders(self):
         """They are read one by one where no number of processes is named."""
         for number in range(3):
-            self.write(recording(NEWER), f"{number}.zkr")
+            self.write(recording(NEWER, ">cqI", zkr2()), f"{number}.zkr")
         self.write(b"ZKR2 no head", "bad.zkr")
         listed = self.folder / "list"
         listed.write_text("".join(f"{path}\n" for path in sorted(self.folder.glob("*.zkr"))))
