@@ -311,19 +311,20 @@ class Reading(ReadingCase):
     def test_folders(self):
         """They are read one by one where no number of processes is named."""
         for number in range(3):
-            self.write(recording(NEWER, ">cqI", zkr2()), f"{number}.zkr")
+            self.write(recording(NEWER), f"{number}.zkr")
         self.write(b"ZKR2 no head", "bad.zkr")
         listed = self.folder / "list"
         listed.write_text("".join(f"{path}\n" for path in sorted(self.folder.glob("*.zkr"))))
         for tool, words in (("zkstat.py", []), ("zkstat.py", ["--json"]), ("zkjson.py", []),
                             ("zkreport.py", ["--text"])):
+            words = ["--profile", "3.4", *words]
             wanted = self.run_tool(tool, *words, "--jobs", "2", self.folder)
             self.assertEqual((wanted[0], wanted[1].count("BadLimits")), (1, 1))
             for each in (self.folder, f"@{listed}"):
                 self.assertEqual(self.run_tool(tool, *words, each), wanted, tool)
         (self.folder / "bad.zkr").unlink()
         page = self.folder / "page.html"
-        self.assertEqual(self.run_tool("zkreport.py", "-o", page, self.folder), (0, "", ""))
+        self.assertEqual(self.run_tool("zkreport.py", "-o", page, "--profile", "3.4", self.folder), (0, "", ""))
         self.assertIn('"connections":3', page.read_text("utf-8"))
 
     def test_the_session_that_a_line_has(self):
