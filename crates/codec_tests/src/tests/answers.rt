@@ -4,9 +4,9 @@ use super::values::{fault_told, is_told};
 use std::alloc::Global;
 use std::test::Fail;
 use zk_answers::{
-    Form, ServerFrame, ServerRef, borrow_event, borrow_reply, fits, form_of,
-    judge_reply, read_connected, read_event, read_reply, reply_head, scan_connected, scan_event,
-    scan_reply, write_server,
+    Form, ServerFrame, ServerRef, borrow_event, borrow_reply, fits, form_of, judge_reply,
+    read_connected, read_event, read_reply, reply_head, scan_connected, scan_event, scan_reply,
+    write_server,
 };
 use zk_asks::{Ask, ClientFrame, read_ask};
 use zk_jute::{ItemFault, Reason, Undecided};
