@@ -1,6 +1,8 @@
-"""Where the program zkdump is, for the tools that run it."""
+"""Where the programs zkdump and zkcolumns are, for the tools that run them. The environment variable ZKCOLUMNS names
+zkcolumns, or is empty for none."""
 
 import argparse
+import os
 import pathlib
 import shutil
 import subprocess
@@ -9,13 +11,30 @@ OWN = ("share", "zkdump", "tools")     # where installed tools are, below the pr
 TOOLS = pathlib.Path(__file__).resolve().parents[1]
 
 
+def beside(installed, built):
+    """The path of what was installed with these tools, below their prefix, or of what was built with them."""
+    return TOOLS.parents[len(OWN) - 1] / installed if TOOLS.parts[-len(OWN):] == OWN else TOOLS.parent / built
+
+
 def found():
     """The program that was installed or built with these tools, or else the name of the one on the PATH."""
-    if TOOLS.parts[-len(OWN):] == OWN:
-        path = TOOLS.parents[len(OWN) - 1] / "bin" / "zkdump"
-    else:
-        path = TOOLS.parent / "crates" / "zkdump" / "out" / "zkdump"
+    path = beside("bin/zkdump", "crates/zkdump/out/zkdump")
     return str(path) if path.exists() else "zkdump"
+
+
+def found_columns():
+    """The path of zkcolumns, or None."""
+    if (named := os.environ.get("ZKCOLUMNS")) is not None:
+        return named or None
+    path = beside("lib/zkdump/zkcolumns", "tools/zkdump_tools/zkcolumns/out/zkcolumns")
+    return str(path) if os.access(path, os.X_OK) else None
+
+
+def lacks_columns(zkdump):
+    """Why zkcolumns can't be used in place of this program zkdump, or None."""
+    if zkdump != found():
+        return "--zkdump names another program"
+    return None if found_columns() else "zkcolumns is not built or installed"
 
 
 def version():
