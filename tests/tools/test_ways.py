@@ -5,13 +5,15 @@ import itertools
 import os
 import pathlib
 import random
+import shutil
 import struct
 import subprocess
+import sys
 import unittest.mock
 
 from tools.zkdump_tools import lister, operations, program, zkr
 from .proxied import TroubleCase
-from .support import CAPTURES, PROGRAM, pieces
+from .support import CAPTURES, PROGRAM, TOOLS, pieces
 from .test_columns import ColumnsCase
 from .test_live import HELLO, PING, WELCOME
 from .test_refused import NUMBER, UNREAD, RefusedCase, answers, asks, cut_anew, framed
@@ -123,15 +125,28 @@ class OneProcess(ColumnsCase, TroubleCase):
 class Command(ColumnsCase):
     def command(self, zkdump, columns):
         words = argparse.Namespace(zkdump=zkdump, profile="3.5", limit=1000)
-        with unittest.mock.patch.dict(os.environ, ZKCOLUMNS=columns):
+        with unittest.mock.patch.dict(os.environ, ZKCOLUMNS=str(columns)):
             return lister.command(words)
 
     def test_the_program_that_reads(self):
-        """It is zkcolumns, unless there is none, or --zkdump names another program."""
-        options, own = ["--profile", "3.5", "--limit", "1000"], program.found()
-        self.assertEqual(self.command(own, "/c"), ["/c", *options, "--waiting", "65536", "--follow"])
-        self.assertEqual(self.command(own, ""), [own, "show", *options])
-        self.assertEqual(self.command("/other", "/c"), ["/other", "show", *options])
+        """It is zkcolumns, unless there is none that follows, or --zkdump names another program."""
+        options, own, older = ["--profile", "3.5", "--limit", "1000"], program.found(), self.folder / "older"
+        older.write_text("#!/bin/sh\nexit 2\n")
+        older.chmod(0o700)
+        self.assertEqual(self.command(own, self.program), [str(self.program), *options, "--waiting", "65536", "--follow"])
+        for columns in ("", "/no/such/program", older):
+            self.assertEqual(self.command(own, columns), [own, "show", *options])
+        self.assertEqual(self.command("/other", self.program), ["/other", "show", *options])
+
+    def test_an_installed_one(self):
+        tools = shutil.copytree(TOOLS, self.folder / "share" / "zkdump" / "tools", ignore=shutil.ignore_patterns("out"))
+        columns = self.folder / "lib" / "zkdump" / "zkcolumns"
+        columns.parent.mkdir(parents=True)
+        columns.touch(0o700)
+        environment = {name: value for name, value in os.environ.items() if name != "ZKCOLUMNS"}
+        done = subprocess.run([sys.executable, "-c", "from zkdump_tools import program; print(program.found_columns())"],
+                              cwd=tools, env=environment, stdout=subprocess.PIPE, text=True, check=True)
+        self.assertEqual(done.stdout, f"{columns}\n")
 
 
 class Follow(ColumnsCase):

@@ -21,11 +21,13 @@ ASKED = {zkr.CLIENT: struct.pack(">iiiiB", 13, 1, 3, 0, 0), zkr.SERVER: struct.p
 
 
 def command(words):
-    """The program that reads each connection, with its options, by these arguments."""
+    """The program that reads each connection, with its options, by these arguments: zkcolumns, where it runs."""
     options = ["--profile", words.profile, "--limit", str(words.limit)]
-    if program.lacks_columns(words.zkdump):
-        return [words.zkdump, "show", *options]
-    return [program.found_columns(), *options, "--waiting", str(zkr.USUAL_WAITING), FOLLOW]
+    if not program.lacks_columns(words.zkdump):
+        found = [program.found_columns(), *options, "--waiting", str(zkr.USUAL_WAITING), FOLLOW]
+        if not program.trouble_of(*found):
+            return found
+    return [words.zkdump, "show", *options]
 
 
 def begun(watch, who):

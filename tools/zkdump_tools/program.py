@@ -62,22 +62,26 @@ def need(parser, path):
         parser.error(f"there is no program {path}: build or install zkdump, or name it with --zkdump PATH")
 
 
+def trouble_of(*command):
+    """Why this command, which lists a recording, doesn't run here; nothing if it lists one of no pieces."""
+    try:
+        with subprocess.Popen(command, stdin=subprocess.PIPE, stdout=subprocess.PIPE,
+                              stderr=subprocess.DEVNULL) as listing:
+            try:
+                listing.stdin.write(b"ZKR1")
+                listing.stdin.close()
+            except BrokenPipeError:
+                pass
+            line = listing.stdout.read(len(b". whole"))
+            if line:
+                listing.kill()
+        return "" if line == b". whole" else f"it writes no listing, and its status is {listing.returncode}"
+    except OSError as error:
+        return error.strerror
+
+
 def prove_runs(parser, path):
     """Ends the tool with an error if there is no program at this path, or it can't read a recording of no pieces."""
     need(parser, path)
-    try:
-        with subprocess.Popen([path, "show"], stdin=subprocess.PIPE, stdout=subprocess.PIPE,
-                              stderr=subprocess.DEVNULL) as show:
-            try:
-                show.stdin.write(b"ZKR1")
-                show.stdin.close()
-            except BrokenPipeError:
-                pass
-            line = show.stdout.read(len(b". whole"))
-            if line:
-                show.kill()
-        trouble = "" if line == b". whole" else f"it writes no listing, and its status is {show.returncode}"
-    except OSError as error:
-        trouble = error.strerror
-    if trouble:
+    if trouble := trouble_of(path, "show"):
         parser.error(f"{path} is not a zkdump that runs here: {trouble}; name another with --zkdump PATH")
