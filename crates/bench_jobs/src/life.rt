@@ -74,11 +74,10 @@ fn pass_on(
     frame: &[u8],
     said: &mut Vec<u8>,
 ) -> Result<()> {
-    let taken = talk.take(side, frame)?;
-    match taken.message {
-        Some(message) => speaker.say(&message, said)?,
-        None => anyhow::bail!("a frame isn't whole"),
-    }
+    let Some(message) = talk.take(side, frame)?.message else {
+        anyhow::bail!("a frame isn't whole");
+    };
+    speaker.say(&message, said)?;
     Ok(())
 }
 

@@ -41,5 +41,5 @@ returns-clause-only c = only_it IsEvent IsEventFault c.args.payload.now (Ok c.ev
 
 pub returns-in_err-judge_event-clause-only : goal.returns-in_err-judge_event-clause-only
 returns-in_err-judge_event-clause-only c =
-    let p = err_from_is_err_and c.from_residual.result c.from_residual.ensures.1 in
+    let p = err_from_is_err_and c.from_residual-in_err-judge_event.result c.from_residual-in_err-judge_event.ensures.1 in
     rw (p.1, p.2) (only_it IsEvent IsEventFault c.args.payload.now (Err c.in_err-judge_event.field-0.0) tt c.in_err-judge_event.ensures.fault event_injective event_excludes)

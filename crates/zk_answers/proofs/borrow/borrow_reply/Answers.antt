@@ -52,7 +52,7 @@ returns-clause-only g c =
 
 pub returns-in_err-judge_reply-clause-only : goal.returns-in_err-judge_reply-clause-only
 returns-in_err-judge_reply-clause-only g c =
-    let p = err_from_is_err_and c.from_residual.result c.from_residual.ensures.1 in
+    let p = err_from_is_err_and c.from_residual-in_err-judge_reply.result c.from_residual-in_err-judge_reply.ensures.1 in
     let op = g.F.Asked.operation c.args.form.now in
     let parts = g.F.Asked.part_ops c.args.form.now in
     let e = c.in_err-judge_reply in
