@@ -56,10 +56,8 @@ def damaged(said, chance):
             payload += b"\0"
         if kind == 5:
             late.append((side, framed(payload)))
-        elif kind > 6:
-            yield side, framed(payload)
-        if kind == 7:
-            yield side, framed(payload)
+        else:
+            yield from [(side, framed(payload))] * {6: 0, 7: 2}.get(kind, 1)
         if late and chance.randrange(5) == 0:
             yield late.pop()
 
@@ -90,8 +88,9 @@ class Same(ColumnsCase, RefusedCase):
             told, status = self.both([said for said in connections if said], *words)
             texts += [text for lines in told for _, text in lines]
             self.assertEqual(status, 1)
-        for part in ("passed over", "left out: C ", "not seen asked", " ms=", "reason=LengthRange", ". cut ", ". whole "):
-            self.assertGreater(sum(part in text for text in texts), 20, part)
+        reasons = ("Short", "Trailing", "XidOp", "Unasked", "XidOrder", "LengthRange")
+        for part in (*(f"reason={reason}" for reason in reasons), "left out: C ", "not seen asked", " ms=", ". cut "):
+            self.assertGreater(sum(part in text for text in texts), 4, part)
 
     def test_more_waits_than_may(self):
         """What comes after it is read again, as of a connection that is seen late."""
