@@ -317,13 +317,14 @@ class Reading(ReadingCase):
         listed.write_text("".join(f"{path}\n" for path in sorted(self.folder.glob("*.zkr"))))
         for tool, words in (("zkstat.py", []), ("zkstat.py", ["--json"]), ("zkjson.py", []),
                             ("zkreport.py", ["--text"])):
+            words = ["--profile", "3.4", *words]
             wanted = self.run_tool(tool, *words, "--jobs", "2", self.folder)
             self.assertEqual((wanted[0], wanted[1].count("BadLimits")), (1, 1))
             for each in (self.folder, f"@{listed}"):
                 self.assertEqual(self.run_tool(tool, *words, each), wanted, tool)
         (self.folder / "bad.zkr").unlink()
         page = self.folder / "page.html"
-        self.assertEqual(self.run_tool("zkreport.py", "-o", page, self.folder), (0, "", ""))
+        self.assertEqual(self.run_tool("zkreport.py", "-o", page, "--profile", "3.4", self.folder), (0, "", ""))
         self.assertIn('"connections":3', page.read_text("utf-8"))
 
     def test_the_session_that_a_line_has(self):

@@ -95,6 +95,7 @@ struct Scribe {
 
 impl Scribe {
     /// Takes the line of a message: its payload is read into its place in `due`, and said there.
+    #[inline(always)]
     fn say(&mut self, line: &[u8], due: &mut Vec<u8>) -> Result<(), Halt>
         requires room { self.old.lines + 1 < 2 ^ 64 }
         requires going { self.old.ended ≡ false }
