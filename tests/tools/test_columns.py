@@ -1,6 +1,7 @@
 """Recordings as columns: what the tools print of them is what they print of the lines of zkdump show."""
 
 import contextlib
+import functools
 import io
 import os
 import re
@@ -31,6 +32,14 @@ def interpreter():
     return None
 
 
+@functools.lru_cache(maxsize=None)
+def made():
+    """zkcolumns, built with checks of its memory, in a folder that there is as long as this process."""
+    folder = tempfile.TemporaryDirectory()
+    library, _ = make_library.make(folder.name)
+    return make_columns.make(folder.name, library, *SANITIZED), folder
+
+
 class ColumnsCase(ToolCase):
     """A test that has zkcolumns, `program`, built with checks of its memory."""
 
@@ -39,10 +48,7 @@ class ColumnsCase(ToolCase):
         lacking = make_library.missing()
         if lacking or not (make_library.LIBRARY.exists() and make_library.PLAIN.exists()):
             raise unittest.SkipTest(f"{', '.join(lacking) or 'the library libzk_c.a'} is missing")
-        folder = tempfile.TemporaryDirectory()
-        cls.addClassCleanup(folder.cleanup)
-        library, _ = make_library.make(folder.name)
-        cls.program = make_columns.make(folder.name, library, *SANITIZED)
+        cls.program, _ = made()
 
     def columns(self, *words):
         """What the program writes."""
