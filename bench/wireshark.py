@@ -36,7 +36,7 @@ static size_t used(void) { struct mallinfo2 now = mallinfo2(); return now.uordbl
 int main(void) {
     struct zk_through through = ZK_ZEROS;
     size_t before = used();
-    uint32_t status = zk_through_new(&through, 4194304, 4194304, VERDICT_WAITING, ZK_PROFILE_35);
+    uint32_t status = zk_through_new(&through, 4194304, 4194304, VERDICT_WAITING, ZK_PROFILE_37);
     printf("%zu bytes\n", used() - before);
     zk_through_free(&through);
     return (int)status;

@@ -39,6 +39,10 @@ def rows(kind):
     return in_order(kind.name, newer.names()[kind.name])
 
 
+def newest_profile():
+    return [*source.profiles().values()][-1]
+
+
 def wrapped(words, width, begin="    "):
     """Words in lines of at most this width."""
     lines = [begin + words[0]]
@@ -93,7 +97,8 @@ def python_names(_):
         words = [f'{number}: "{name}",' for number, name in rows(kind)]
         found += ["", f"{kind.table}: Dict[int, str] = {{", *wrapped(words, 110), "}"]
     profiles = [f"    V{number} = {number}" for number in source.profiles().values()]
-    found += ["", "", "class Profile(enum.IntEnum):", '    """The operations of a release."""', *profiles]
+    found += ["", "", "class Profile(enum.IntEnum):", '    """The operations of a release."""', *profiles,
+              f"    NEWEST = {newest_profile()}"]
     for kind in NUMBERED:
         constants = [f"    {newer.upper(kind.name, name)} = {number}" for number, name in rows(kind)]
         found += ["", "", f"class {kind.kind}(enum.IntEnum):", f'    """The number of {kind.of}."""', *constants]
@@ -105,7 +110,8 @@ def rust_names(_):
     profiles = [f"    V{number} = {number}," for number in source.profiles().values()]
     found = ['//! Names and constants of numbers, and profiles; written by dev/names.py.', "",
              "/// The operations of a release.", "#[derive(Clone, Copy, Debug, PartialEq, Eq)]", "pub enum Profile {",
-             *profiles, "}"]
+             *profiles, "}", "", "impl Profile {", "    /// The one that has the most operations.",
+             f"    pub const NEWEST: Profile = Profile::V{newest_profile()};", "}"]
     for kind in KINDS:
         words = [f'        {number} => "{name}",' for number, name in rows(kind)]
         found += ["", f'/// Of {kind.of}; "" where the number has none.',

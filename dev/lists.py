@@ -52,7 +52,10 @@ def header_enum(_):
 
 
 def go_profiles(_):
-    return [f"\tProfile{number} Profile = C.ZK_PROFILE_{number}" for number in source.profiles().values()]
+    rows = [(f"Profile{number}", f"C.ZK_PROFILE_{number}") for number in source.profiles().values()]
+    rows.append(("ProfileNewest", rows[-1][0]))
+    width = max(len(name) for name, _ in rows)
+    return [f"\t{name:{width}} Profile = {value}" for name, value in rows]
 
 
 def plugin_profiles(_):
@@ -60,6 +63,7 @@ def plugin_profiles(_):
     rows = []
     for release, number in source.profiles().items():
         more = [each.name for each in source.operations() if each.release == release and release != "3.4"]
+        more[2:] = ["others"] if len(more) > 2 else []
         names = f" ({', '.join(more)})" if more else ""
         rows.append(f'{{"{release}", "ZooKeeper {release}{names}", ZK_PROFILE_{number}}},')
     return ["static const enum_val_t profiles[] = {", *wrapped([*rows, "{NULL, NULL, 0},"], 120), "};"]
@@ -69,13 +73,19 @@ def completed_profiles(_):
     return [f'    --profile) words="{" ".join(source.profiles())}" ;;']
 
 
-def random_profiles(_):
+def known_profiles(_):
+    """Whether a number is that of a profile, in C."""
+    rows = " || ".join(f"number == {number}" for number in source.profiles().values())
+    return ["static bool is_profile(uint32_t number) {", f"    return {rows};", "}"]
+
+
+def random_profiles(lines):
     numbers = [*source.profiles().values()]
-    wrong, right = f"0, {numbers[0] - 1}, {numbers[-1] + 1}, UINT32_MAX", ", ".join(map(str, numbers))
+    none = [number for number in range(numbers[0] - 1, numbers[-1] + 2) if number not in numbers]
+    wrong, right = f"0, {', '.join(map(str, none))}, UINT32_MAX", ", ".join(map(str, numbers))
     return [f"enum {{ NEWEST = {numbers[-1]} }};", "", "static uint32_t any_profile(void) {",
             f"    return one_in(20) ? (uint32_t)PICK({wrong}) : (uint32_t)PICK({right});", "}", "",
-            "static bool is_profile(uint32_t number) {",
-            f"    return {' || '.join(f'number == {number}' for number in numbers)};", "}"]
+            *known_profiles(lines)]
 
 
 def with_others(names, there):
@@ -163,9 +173,12 @@ def newer_ranges(_):
 
 
 def arm(patterns, given):
-    """An arm of a match, laid out as by rustfmt."""
+    """An arm of a match, laid out as by rustfmt: where one pattern is a range or long, each has a line."""
     whole = f"        {' | '.join(patterns)} => {given},"
     words = [f"    {patterns[0]}", *(f"| {pattern}" for pattern in patterns[1:]), f"=> {given},"]
+    if any(len(pattern) > 20 or ".." in pattern for pattern in patterns):
+        words[-2:] = [f"{words[-2]} {words[-1]}"]
+        return [whole] if len(whole) <= 100 else wrapped(words, 0, 8)
     return [whole] if len(whole) <= 100 else wrapped(words, 95, 8)
 
 
@@ -226,7 +239,8 @@ WHOLE = {"examples/python/libzk/_names.py": constants.python_names, "examples/ru
 PARTS = {"include/zk.h": (header_profiles, header_enum, constants.header_constants, constants.header_functions),
          "tools/zkdump_tools/operations.py": (operation_rows,),
          "wireshark/names.c": (plugin_names, newer_ranges), "wireshark/hole.c": (hole_shapes,),
-         "tools/zkdump_tools/zkcolumns/json.c": (json_keys,), "tests/library/chosen.h": (random_profiles, random_operations),
+         "tools/zkdump_tools/zkcolumns/json.c": (json_keys,), "tools/zkdump_tools/zkcolumns/recording.c": (known_profiles,),
+         "tests/library/chosen.h": (random_profiles, random_operations),
          "examples/go/libzk.go": (go_profiles,), "wireshark/register.c": (plugin_profiles,),
          "packaging/completion/zkdump.bash": (completed_profiles,),
          "bench/peer/peer.rs": (peer_operations,)}

@@ -30,7 +30,7 @@ SIZES = {"int": 4, "long": 8, "bool": 1}
 ITEMS = {"kcode": "num", "ecode": "num", "ro": "bit"}
 # The enumerations of the package for Python: how each name begins in the header; and what the package alone has.
 ENUMERATIONS = {"Side": "ZK_", "Profile": "ZK_PROFILE_", "Kind": "ZK_", "FieldKind": "ZK_KIND_", "Went": "ZK_"}
-OF_PYTHON = ("Went", "PASSED_OVER")
+OF_PYTHON = ("Went", "PASSED_OVER"), ("Profile", "NEWEST")
 CONSTANTS = ("bench/make_recording.py", "wireshark/message.h", "examples/server.c")
 
 
@@ -174,11 +174,11 @@ def compare_errors():
 
 def compare_bodies():
     """The layouts of which crates/talk_tests/make_bodies.py has written bodies; the results of multis have none."""
-    name = "crates/talk_tests/src/tests/earliest/bodies.rt"
-    text = (TOP / name).read_text()
-    yield from (f"{name}: no bodies of {what}(Op::{each.variant})" for each in source.operations()
-                for what in ("Asked", "Answered") if f"Layout::{what}(Op::{each.variant})," not in text
-                and (what, each.name) != ("Answered", "multi"))
+    for what in ("Asked", "Answered"):
+        name = f"crates/talk_tests/src/tests/earliest/{what.lower()}.rt"
+        text = (TOP / name).read_text()
+        yield from (f"{name}: no bodies of {what}(Op::{each.variant})" for each in source.operations()
+                    if f"Layout::{what}(Op::{each.variant})," not in text and (what, each.name) != ("Answered", "multi"))
 
 
 def wanted_forms():
@@ -229,7 +229,7 @@ def compare_enumerations():
         text = path.read_text()
         for each in re.finditer(r"^class (\w+)\(enum.IntEnum\):\n(?:^(?:    .*)?\n)*", text, re.M):
             rows = {name: number for name, number in re.findall(r"^    V?(\w+) = (\S+)", each[0], re.M)
-                    if (each[1], name) != OF_PYTHON}
+                    if (each[1], name) not in OF_PYTHON}
             found[each[1]] = f"{path.relative_to(TOP)}:{text.count(chr(10), 0, each.start()) + 1}", rows
     for kind, begin in ENUMERATIONS.items():
         where, rows = found.get(kind, ("examples/python/libzk", {}))

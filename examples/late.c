@@ -122,7 +122,7 @@ int main(int count, char **words) {
         return 2;
     }
     struct zk_through through = ZK_ZEROS;
-    uint32_t status = zk_through_join(&through, LIMIT, LIMIT, 65536, ZK_PROFILE_35);
+    uint32_t status = zk_through_join(&through, LIMIT, LIMIT, 65536, ZK_PROFILE_37);
     if (status != ZK_WELL) fail(zk_status_name(status));
     list(&through, recording, first);
     put_ending(&through);

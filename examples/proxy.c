@@ -99,7 +99,7 @@ static void free_reader(struct reader *reader) {
 static struct reader *new_reader(void) {
     if (spare_count > 0) return spares[--spare_count];
     struct reader *reader = calloc(1, sizeof *reader);
-    if (reader == NULL || zk_through_new(&reader->through, LIMIT, LIMIT, WAITING, ZK_PROFILE_35) == ZK_WELL) return reader;
+    if (reader == NULL || zk_through_new(&reader->through, LIMIT, LIMIT, WAITING, ZK_PROFILE_37) == ZK_WELL) return reader;
     free(reader);
     return NULL;
 }

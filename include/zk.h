@@ -42,7 +42,7 @@ enum { ZK_CLIENT = 0, ZK_SERVER = 1 };
 
 /* Profiles, each the operations of a release: docs/FORMATS.md, section 4.
  * The lines from here on are written by dev/names.py. */
-enum { ZK_PROFILE_34 = 34, ZK_PROFILE_35 = 35 };
+enum { ZK_PROFILE_34 = 34, ZK_PROFILE_35 = 35, ZK_PROFILE_37 = 37 };
 /* Up to here. */
 
 /* A status: 0, a reason (docs/REASONS.md), or why a call did nothing. */
@@ -260,7 +260,15 @@ enum {
     ZK_NAME_SESSION_ID = 31,
     ZK_NAME_PASSWD = 32,
     ZK_NAME_READ_ONLY = 33,
-    ZK_NAME_ERR = 34
+    ZK_NAME_ERR = 34,
+    ZK_NAME_TTL = 35,
+    ZK_NAME_MODE = 36,
+    ZK_NAME_COUNT = 37,
+    ZK_NAME_JOINING = 38,
+    ZK_NAME_LEAVING = 39,
+    ZK_NAME_MEMBERS = 40,
+    ZK_NAME_CONFIG = 41,
+    ZK_NAME_CODE = 42
 };
 /* Up to here. */
 
@@ -887,6 +895,14 @@ ZK_ALSO const char *zk_field_name(uint16_t number) {
     case ZK_NAME_PASSWD: return "passwd";
     case ZK_NAME_READ_ONLY: return "read_only";
     case ZK_NAME_ERR: return "err";
+    case ZK_NAME_TTL: return "ttl";
+    case ZK_NAME_MODE: return "mode";
+    case ZK_NAME_COUNT: return "count";
+    case ZK_NAME_JOINING: return "joining";
+    case ZK_NAME_LEAVING: return "leaving";
+    case ZK_NAME_MEMBERS: return "members";
+    case ZK_NAME_CONFIG: return "config";
+    case ZK_NAME_CODE: return "code";
     default: return "";
     }
 }

@@ -19,7 +19,7 @@ enum {
 };
 
 /* The profile that has the most operations. */
-enum { NEWEST_PROFILE = ZK_PROFILE_35 };
+enum { NEWEST_PROFILE = ZK_PROFILE_37 };
 
 /* An error that is no failure where exists hears it. */
 enum { NO_NODE = -101 };

@@ -67,6 +67,14 @@ const value_string event_state_names[] = {
     {0, NULL},
 };
 
+const value_string watch_type_names[] = {
+    {1, "Children"}, {2, "Data"}, {3, "Any"}, {4, "Persistent"}, {5, "PersistentRecursive"}, {0, NULL},
+};
+
+const value_string watch_mode_names[] = {
+    {0, "Persistent"}, {1, "PersistentRecursive"}, {0, NULL},
+};
+
 const value_string verdict_names[] = {
     {VERDICT_WELL, "well so far"}, {VERDICT_REFUSED, "refused here"}, {VERDICT_NONE, "not judged"},
     {VERDICT_LEFT_OUT, "left out"}, {VERDICT_UNSEEN, "its request was before a refused message"}, {0, NULL},

@@ -14,6 +14,8 @@ extern const value_string kind_names[];
 extern const value_string mode_names[];
 extern const value_string event_kind_names[];
 extern const value_string event_state_names[];
+extern const value_string watch_type_names[];
+extern const value_string watch_mode_names[];
 extern const value_string reason_names[];
 extern const value_string verdict_names[];
 extern const value_string side_names[];

@@ -27,7 +27,8 @@ gint pref_profile = NEWEST_PROFILE;
 
 /* The lines from here on are written by dev/names.py. */
 static const enum_val_t profiles[] = {
-    {"3.4", "ZooKeeper 3.4", ZK_PROFILE_34}, {"3.5", "ZooKeeper 3.5 (create2)", ZK_PROFILE_35}, {NULL, NULL, 0},
+    {"3.4", "ZooKeeper 3.4", ZK_PROFILE_34}, {"3.5", "ZooKeeper 3.5 (create2)", ZK_PROFILE_35},
+    {"3.7", "ZooKeeper 3.7 (reconfig, checkWatches, others)", ZK_PROFILE_37}, {NULL, NULL, 0},
 };
 /* Up to here. */
 
@@ -37,6 +38,7 @@ static const enum_val_t profiles[] = {
 #define NAMED(name, text, abbreviation, names) \
     HF(hf_field[name], text, abbreviation, FT_INT32, BASE_DEC, VALS(names), NULL)
 #define INT(name, text, abbreviation) PLAIN(name, text, abbreviation, FT_INT32, BASE_DEC)
+#define LONG(name, text, abbreviation) PLAIN(name, text, abbreviation, FT_INT64, BASE_DEC)
 #define HEX(name, text, abbreviation) PLAIN(name, text, abbreviation, FT_UINT64, BASE_HEX)
 #define BOOL(name, text, abbreviation) PLAIN(name, text, abbreviation, FT_BOOLEAN, BASE_NONE)
 #define BIT(name, text, abbreviation, mask) \
@@ -90,6 +92,15 @@ static hf_register_info fields[] = {
     BLOB(FIELD_AUTH, "Credential", "auth"),
     INT(FIELD_CHILDREN, "Children", "children"),
     TEXT(FIELD_CHILD, "Child", "child"),
+    LONG(FIELD_TTL, "Time to live", "ttl"),
+    NAMED(FIELD_WATCH_TYPE, "Type of watch", "watch.type", watch_type_names),
+    NAMED(FIELD_MODE, "Mode of the watch", "watch.mode", watch_mode_names),
+    INT(FIELD_COUNT, "Number of all children", "count"),
+    NAMED(FIELD_CODE, "Code", "code", error_names),
+    TEXT(FIELD_JOINING, "Joining servers", "joining"),
+    TEXT(FIELD_LEAVING, "Leaving servers", "leaving"),
+    TEXT(FIELD_MEMBERS, "All servers", "members"),
+    LONG(FIELD_CONFIG, "Configuration that is changed", "config"),
     HEX(FIELD_RELATIVE_ZXID, "Relative zxid", "relative_zxid"),
     INT(FIELD_DATA_WATCHES, "Data watches", "data_watches"),
     INT(FIELD_EXIST_WATCHES, "Exist watches", "exist_watches"),

@@ -40,7 +40,10 @@ static const guint8 field_names[] = {
     [ZK_NAME_EXIST_WATCHES] = FIELD_EXIST_WATCHES, [ZK_NAME_CHILD_WATCHES] = FIELD_CHILD_WATCHES,
     [ZK_NAME_PROTOCOL_VERSION] = FIELD_PROTOCOL_VERSION, [ZK_NAME_LAST_ZXID_SEEN] = FIELD_LAST_ZXID,
     [ZK_NAME_TIME_OUT] = FIELD_TIMEOUT, [ZK_NAME_SESSION_ID] = FIELD_SESSION, [ZK_NAME_PASSWD] = FIELD_PASSWD,
-    [ZK_NAME_READ_ONLY] = FIELD_READ_ONLY, [ZK_NAME_ERR] = FIELD_PART_ERR,
+    [ZK_NAME_READ_ONLY] = FIELD_READ_ONLY, [ZK_NAME_ERR] = FIELD_PART_ERR, [ZK_NAME_TTL] = FIELD_TTL,
+    [ZK_NAME_MODE] = FIELD_MODE, [ZK_NAME_COUNT] = FIELD_COUNT, [ZK_NAME_JOINING] = FIELD_JOINING,
+    [ZK_NAME_LEAVING] = FIELD_LEAVING, [ZK_NAME_MEMBERS] = FIELD_MEMBERS, [ZK_NAME_CONFIG] = FIELD_CONFIG,
+    [ZK_NAME_CODE] = FIELD_CODE,
 };
 
 /* Which filterable field this is, in a message of this kind. */
@@ -53,7 +56,12 @@ static enum name name_in(const struct branches *in, guint32 kind, const struct z
     if (field->name == ZK_NAME_VERSION && in->stat.tree) {
         return FIELD_STAT_VERSION;
     }
-    return field->name == ZK_NAME_TYPE && kind == ZK_EVENT ? FIELD_EVENT_KIND : (enum name)field_names[field->name];
+    if (field->name == ZK_NAME_TYPE) { /* the first of auth's fields, and the second of those of watches */
+        return kind == ZK_EVENT                ? FIELD_EVENT_KIND
+               : field->place == REQUEST_HEAD ? FIELD_AUTH_TYPE
+                                              : FIELD_WATCH_TYPE;
+    }
+    return (enum name)field_names[field->name];
 }
 
 const struct zk_field *field_of(const struct zk_field *fields, size_t count, guint16 name) {

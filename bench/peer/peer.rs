@@ -195,26 +195,41 @@ const GET_CHILDREN2: i32 = 12;
 const CHECK: i32 = 13;
 const MULTI: i32 = 14;
 const CREATE2: i32 = 15;
+const RECONFIG: i32 = 16;
+const CHECK_WATCHES: i32 = 17;
+const REMOVE_WATCHES: i32 = 18;
+const CREATE_CONTAINER: i32 = 19;
+const CREATE_TTL: i32 = 21;
 const AUTH: i32 = 100;
 const SET_WATCHES: i32 = 101;
+const GET_EPHEMERALS: i32 = 103;
+const GET_ALL_CHILDREN_NUMBER: i32 = 104;
+const ADD_WATCH: i32 = 106;
 const CLOSE_SESSION: i32 = -11;
 
 fn is_operation(number: i32, profile: u32) -> bool {
     match number {
         CREATE..=SYNC | PING | GET_CHILDREN2 | MULTI | AUTH | SET_WATCHES | CLOSE_SESSION => true,
         CREATE2 => profile >= 35,
+        RECONFIG..=CREATE_CONTAINER
+        | CREATE_TTL
+        | GET_EPHEMERALS
+        | GET_ALL_CHILDREN_NUMBER
+        | ADD_WATCH => profile >= 37,
         _ => false,
     }
 }
 
 fn body_of_request<'a>(operation: i32, bytes: &mut &'a [u8]) -> Answer<()> {
     match operation {
-        CREATE | CREATE2 => read::<(Text<'a>, Blob<'a>, Acl<'a>, i32)>(bytes),
-        DELETE => read::<(Text<'a>, i32)>(bytes),
+        CREATE | CREATE2 | CREATE_CONTAINER => read::<(Text<'a>, Blob<'a>, Acl<'a>, i32)>(bytes),
+        DELETE | CHECK_WATCHES | REMOVE_WATCHES | ADD_WATCH => read::<(Text<'a>, i32)>(bytes),
         EXISTS | GET_DATA | GET_CHILDREN | GET_CHILDREN2 => read::<(Text<'a>, bool)>(bytes),
         SET_DATA => read::<(Text<'a>, Blob<'a>, i32)>(bytes),
-        GET_ACL | SYNC => read::<Text<'a>>(bytes),
+        GET_ACL | SYNC | GET_EPHEMERALS | GET_ALL_CHILDREN_NUMBER => read::<Text<'a>>(bytes),
         SET_ACL => read::<(Text<'a>, Acl<'a>, i32)>(bytes),
+        RECONFIG => read::<(Text<'a>, Text<'a>, Text<'a>, i64)>(bytes),
+        CREATE_TTL => read::<(Text<'a>, Blob<'a>, Acl<'a>, i32, i64)>(bytes),
         AUTH => read::<(i32, Text<'a>, Blob<'a>)>(bytes),
         SET_WATCHES => read::<(i64, Names<'a>, Names<'a>, Names<'a>)>(bytes),
         _ => Ok(()), // without a body
@@ -225,11 +240,12 @@ fn body_of_reply<'a>(operation: i32, bytes: &mut &'a [u8]) -> Answer<()> {
     match operation {
         CREATE | SYNC => read::<Text<'a>>(bytes),
         EXISTS | SET_DATA | SET_ACL => read::<Stat>(bytes),
-        GET_DATA => read::<(Blob<'a>, Stat)>(bytes),
+        GET_DATA | RECONFIG => read::<(Blob<'a>, Stat)>(bytes),
         GET_ACL => read::<(Acl<'a>, Stat)>(bytes),
-        GET_CHILDREN => read::<Names<'a>>(bytes),
+        GET_CHILDREN | GET_EPHEMERALS => read::<Names<'a>>(bytes),
         GET_CHILDREN2 => read::<(Names<'a>, Stat)>(bytes),
-        CREATE2 => read::<(Text<'a>, Stat)>(bytes),
+        CREATE2 | CREATE_CONTAINER | CREATE_TTL => read::<(Text<'a>, Stat)>(bytes),
+        GET_ALL_CHILDREN_NUMBER | ADD_WATCH => read::<i32>(bytes),
         _ => Ok(()), // without a body
     }
 }

@@ -1,6 +1,7 @@
-"""Writes src/tests/earliest/bodies.rt: bodies of every layout, and what `earliest` has to answer for each.
+"""Writes src/tests/earliest/asked.rt and answered.rt: bodies of every layout of a side, and what `earliest` has to answer
+for each.
 
-    python3 -m crates.talk_tests.make_bodies > crates/talk_tests/src/tests/earliest/bodies.rt
+    python3 -m crates.talk_tests.make_bodies
 
 The answers are made by the definition alone: the longest front of a body that begins some spelling of
 the same number of bytes. Whether a front does is found by trying: it is written as a pattern, in which each later
@@ -8,6 +9,7 @@ byte may be any, and `ends` gives the places where an item that fits the pattern
 """
 
 import functools
+import pathlib
 import random
 
 from dev import formats
@@ -21,12 +23,17 @@ def items(of):
 RECORDS = {name: of for name, (_, of) in formats.records().items()}
 OPERATIONS = list(formats.table("Op"))
 PARTS = [(row.number, items(formats.items(row.request))) for row in formats.table("PartOp")]
-# The answer to a multi has a layout for each list of its parts.
-LAYOUTS = {layout: items(formats.items(of)) for layout, of in (
-    ("Connect", RECORDS["ConnectRequest"]), ("ConnectRo", [*RECORDS["ConnectRequest"], formats.READ_ONLY]),
-    ("Connected", RECORDS["ConnectResponse"]), ("ConnectedRo", [*RECORDS["ConnectResponse"], formats.READ_ONLY]),
-    ("Event", RECORDS["WatcherEvent"]), *((f"Asked(Op::{row.variant})", row.request) for row in OPERATIONS),
-    *((f"Answered(Op::{row.variant})", row.reply) for row in OPERATIONS if row.name != "multi"))}
+# By the file of a side; the answer to a multi has a layout for each list of its parts.
+LAYOUTS = {
+    "asked": [
+        ("Connect", RECORDS["ConnectRequest"]), ("ConnectRo", [*RECORDS["ConnectRequest"], formats.READ_ONLY]),
+        *((f"Asked(Op::{row.variant})", row.request) for row in OPERATIONS)],
+    "answered": [
+        ("Connected", RECORDS["ConnectResponse"]), ("ConnectedRo", [*RECORDS["ConnectResponse"], formats.READ_ONLY]),
+        ("Event", RECORDS["WatcherEvent"]),
+        *((f"Answered(Op::{row.variant})", row.reply) for row in OPERATIONS if row.name != "multi")]}
+SIDES = {"asked": "client", "answered": "server"}
+FOLDER = pathlib.Path(__file__).parent / "src/tests/earliest"
 
 
 # ---- the definition
@@ -193,22 +200,28 @@ def rows(items, wanted, chance):
     return first + others[::step][:wanted - len(first)]
 
 
-# ---- the file
+# ---- the files
+
+
+def written(name):
+    """The lines of a side's file."""
+    yield f"//! Bodies of every layout of the {SIDES[name]}: written by make_bodies.py.\n"
+    yield "use zk_answers::Layout;\nuse zk_records::Op;\n\n"
+    yield "/// Bodies of each layout: the bytes of one, and what is answered to it.\n"
+    yield f"pub(crate) const {name.upper()}: &[(Layout, &str)] = &[\n"
+    for layout, of in LAYOUTS[name]:
+        found = items(formats.items(of))
+        wanted = 20 if found == ("parts",) else 2 if found == () else 6
+        # A seed of its own, so that a further layout changes no other's bodies.
+        lines = "\n".join(f"{body.hex()} = {'None' if answer is None else f'Some({answer})'}"
+                          for body, answer in rows(found, wanted, random.Random(layout)))
+        yield f'    (\n        Layout::{layout},\n        "{lines}",\n    ),\n'
+    yield "];\n"
 
 
 def main():
-    print("//! Bodies of every layout: written by make_bodies.py.")
-    print("use zk_answers::Layout;\nuse zk_records::Op;\n")
-    print("/// Bodies of each layout: the bytes of one, and what is answered to it.")
-    print("pub(crate) const BODIES: &[(Layout, &str)] = &[")
-    for layout, items in LAYOUTS.items():
-        wanted = 20 if items == ("parts",) else 2 if items == () else 6
-        # A seed of its own, so that a further layout changes no other's bodies.
-        found = rows(items, wanted, random.Random(layout))
-        told = ("None" if answer is None else f"Some({answer})" for _, answer in found)
-        lines = "\n".join(f"{body.hex()} = {answer}" for answer, (body, _) in zip(told, found))
-        print(f'    (\n        Layout::{layout},\n        "{lines}",\n    ),')
-    print("];")
+    for name in LAYOUTS:
+        (FOLDER / f"{name}.rt").write_text("".join(written(name)))
 
 
 if __name__ == "__main__":

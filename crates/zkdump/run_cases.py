@@ -16,7 +16,8 @@ A case NAME is the files
     NAME.err     its standard error         (no file: nothing)
     NAME.status  its exit status            (no file: 0)
 
-A recording is NAME.zkr, NAME.show is its listing, and NAME.show35, where it has one, the listing with --profile 3.5.
+A recording is NAME.zkr, NAME.show is its listing, and NAME.show35 and NAME.show37, where it has them, are the listings
+with --profile 3.5 and with --profile 3.7.
 check has to print the last line of the listing, and show all of it. build, given the listing, has to make a recording
 that shows the same messages; where the conversation is whole, it has one piece for each message and the bytes of each
 side. migrate has to make a recording that shows the same listing without options, and that it migrates to itself. The
@@ -132,12 +133,21 @@ def build_whole(runner, name, options, recording, listing):
     runner.hold(f"{name}, side by side", sides(built) == wanted)
 
 
+def profile_of(recording):
+    """The option for the profile that a recording's head has; none where it has none."""
+    number = int.from_bytes(recording[16:20], "big") if recording.startswith(b"ZKR2") else 0
+    return ["--profile", f"{number // 10}.{number % 10}"] if number in (34, 35, 37) else []
+
+
 def run_listings(runner, folder):
-    """The listings of the cases of show, built and shown again."""
+    """The listings of the cases of show, built and shown again under the profile that the case or its recording has."""
     for args in sorted(folder.glob("*.args")):
         listing = stored(args.with_suffix(".out"), b"")
         if listing:
-            build_again(runner, f"{folder.name}/{args.stem}", args.read_text().splitlines()[1:], listing)
+            options = args.read_text().splitlines()[1:]
+            if "--profile" not in options:
+                options += profile_of(stored(args.with_suffix(".in"), b""))
+            build_again(runner, f"{folder.name}/{args.stem}", options, listing)
 
 
 def run_long_lines(runner):

@@ -16,10 +16,11 @@ FOLDERS = [f"crates/{name}/src" for name in ("zk_records", "zk_asks", "zk_answer
 FILES = (*lists.PARTS, *lists.WHOLE, "dev/__init__.py", "dev/names.py", "dev/lists.py", "dev/constants.py", "dev/newer.py", "dev/source.py", "dev/formats.py",
          "docs/FORMATS.md", "docs/LIBRARY.md", "docs/REASONS.md", "docs/man/zkdump.1.scd", "docs/man/zkr.5.scd",
          "examples/python/libzk/_messages.py", "examples/python/libzk/_through.py", "examples/server.c",
-         "crates/talk_tests/src/tests/earliest/bodies.rt", "wireshark/tree.c", "wireshark/message.h",
+         "crates/talk_tests/src/tests/earliest/asked.rt", "crates/talk_tests/src/tests/earliest/answered.rt",
+         "wireshark/tree.c", "wireshark/message.h",
          "tools/zkdump_tools/forms.py", "tools/zkdump_tools/errors.py",
          "bench/make_recording.py")
-ALL_PASSED = (0, ["35 passed, 0 failed"])
+ALL_PASSED = (0, ["36 passed, 0 failed"])
 # A file, what is replaced in it and by what, and what is then said: `{line}` is the line of the change.
 WRITTEN = (
     ("include/zk.h", '    case 8: return "getChildren";\n', "", 'lacks case 8: return "getChildren"'),
@@ -136,8 +137,8 @@ COMPARED = (
      ("examples/python/libzk/_through.py:*: Went.UNHEARD is 6, and ZK_UNHEARD None",)),
     ("crates/zk_fields/src/kind.rt", "TEXT: u8 = 4", "TEXT: u8 = 5",
      ("include/zk.h: ZK_KIND_TEXT is 4, and in the sources 5",)),
-    ("crates/talk_tests/src/tests/earliest/bodies.rt", "Layout::Answered(Op::Sync),", "Layout::Answered(Op::Ping),",
-     ("crates/talk_tests/src/tests/earliest/bodies.rt: no bodies of Answered(Op::Sync)",)),
+    ("crates/talk_tests/src/tests/earliest/answered.rt", "Layout::Answered(Op::Sync),", "Layout::Answered(Op::Ping),",
+     ("crates/talk_tests/src/tests/earliest/answered.rt: no bodies of Answered(Op::Sync)",)),
     ("bench/make_recording.py", "NODE_EXISTS = -101, -103, -110", "NODE_EXISTS = -101, -103, -111",
      ("bench/make_recording.py: NODE_EXISTS is -111, and in the sources -110",)),
     ("docs/FORMATS.md", "| `MultiHeader`, 9 bytes |", "| `MultiHeader`, 10 bytes |",
@@ -149,16 +150,16 @@ COMPARED = (
     ("docs/FORMATS.md", "| 1 to 1,048,576 | 65,536 |", "| 1 to 1,048,577 | 65,536 |",
      ("docs/FORMATS.md:{line}: waiting is ('1 to 1,048,577', '65,536'), "
       "and in the sources ('1 to 1,048,576', '65,536')",)),
-    ("docs/FORMATS.md", "| 3.4, 3.5 | 3.4 |", "| 3.4, 3.5 | 3.5 |",
-     ("docs/FORMATS.md:{line}: profile is ('3.4, 3.5', '3.5'), and in the sources ('3.4, 3.5', '3.4')",)),
+    ("docs/FORMATS.md", "| 3.4, 3.5, 3.7 | 3.4 |", "| 3.4, 3.5, 3.7 | 3.5 |",
+     ("docs/FORMATS.md:{line}: profile is ('3.4, 3.5, 3.7', '3.5'), and in the sources ('3.4, 3.5, 3.7', '3.4')",)),
     ("docs/FORMATS.md", "of payload, usually 4,194,304.", "of payload, usually 4,194,305.",
      ("docs/FORMATS.md: there is no 'is 64 to 16,777,216 bytes of payload, usually 4,194,304.'",)),
     ("docs/FORMATS.md", "The int, from 1 to 16,777,220,", "The int, from 1 to 16,777,216,",
      ("docs/FORMATS.md: there is no 'from 1 to 16,777,220, is the number of bytes'",)),
     ("docs/man/zkdump.1.scd", "16777216; 4194304 without", "16777216; 4194305 without",
      ("docs/man/zkdump.1.scd: there is no ': 64 to 16777216; 4194304 without the option'",)),
-    ("docs/man/zkr.5.scd", "34 or 35, for", "34 or 36, for",
-     ("docs/man/zkr.5.scd: there is no 'profile, 34 or 35, for ZooKeeper 3.4 or 3.5.'",)),
+    ("docs/man/zkr.5.scd", "34 or 35 or 37, for", "34 or 36 or 37, for",
+     ("docs/man/zkr.5.scd: there is no 'profile, 34 or 35 or 37, for ZooKeeper 3.4 or 3.5 or 3.7.'",)),
     ("docs/REASONS.md", "no bytes, or more than 16,777,220", "no bytes, or more than 16,777,216",
      ("docs/REASONS.md: there is no 'a piece claims no bytes, or more than 16,777,220'",)),
     ("docs/LIBRARY.md", ", `zk_read_event` |", " |", ("docs/LIBRARY.md: no zk_read_event",)),
@@ -209,13 +210,15 @@ PAGE = (
      "vector of ustring invented (inventions; InventResponse) |\n"),
     ("docs/FORMATS.md", "| auth | `auth", "| invent | `invent path=`text |\n"),
     ("docs/FORMATS.md", " | 3.4 |\n", ", 9.9"),
-    ("docs/FORMATS.md", ", for ZooKeeper 3.4 or 3.5", " or 99"),
+    ("docs/FORMATS.md", ", for ZooKeeper 3.4 or 3.5 or 3.7", " or 99"),
     ("docs/FORMATS.md", ".\n- The side byte", " or 9.9"),
-    ("docs/man/zkr.5.scd", ", for ZooKeeper 3.4 or 3.5", " or 99"),
+    ("docs/man/zkr.5.scd", ", for ZooKeeper 3.4 or 3.5 or 3.7", " or 99"),
     ("docs/man/zkr.5.scd", ".\n\nA piece is that", " or 9.9"),
     ("docs/FORMATS.md", "| multi | ` {`,", "| invent | ` invented=`list of text |\n"),
-    ("crates/talk_tests/src/tests/earliest/bodies.rt", "    (\n        Layout::Connect,",
-     "    (Layout::Asked(Op::Invent), \"\"),\n    (Layout::Answered(Op::Invent), \"\"),\n"),
+    ("crates/talk_tests/src/tests/earliest/asked.rt", "    (\n        Layout::Connect,",
+     "    (Layout::Asked(Op::Invent), \"\"),\n"),
+    ("crates/talk_tests/src/tests/earliest/answered.rt", "    (\n        Layout::Connected,",
+     "    (Layout::Answered(Op::Invent), \"\"),\n"),
     ("wireshark/tree.c", "    [ZK_NAME_READ_ONLY]", "    [ZK_NAME_INVENTIONS] = FIELD_INVENTIONS,\n"),
 )
 
@@ -291,11 +294,12 @@ class Names(ToolCase):
         places = {re.match(r"[\w./]+", line)[0] for line in said}
         self.assertEqual(places, {"include/zk.h", "tools/zkdump_tools/operations.py", "tests/library/chosen.h", "docs/FORMATS.md",
                                   "examples/python/libzk/_names.py", "examples/rust/zk/src/names.rs",
-                                  "tools/zkdump_tools/zkcolumns/json.c", "wireshark/names.c", "wireshark/tree.c",
+                                  "tools/zkdump_tools/zkcolumns/json.c", "tools/zkdump_tools/zkcolumns/recording.c",
+                                  "wireshark/names.c", "wireshark/tree.c",
                                   "bench/peer/peer.rs", "wireshark/register.c", "examples/go/libzk.go",
                                   "examples/go/names.go",
-                                  "packaging/completion/zkdump.bash", "crates/talk_tests/src/tests/earliest/bodies.rt",
-                                  "docs/man/zkr.5.scd"})
+                                  "packaging/completion/zkdump.bash", "crates/talk_tests/src/tests/earliest/asked.rt",
+                                  "crates/talk_tests/src/tests/earliest/answered.rt", "docs/man/zkr.5.scd"})
         for name, before, added in PAGE:
             self.change(name, before, added + before)
         self.assertEqual(self.run_names("--write"), ALL_PASSED)

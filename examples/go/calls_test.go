@@ -11,11 +11,12 @@ import (
 )
 
 const (
-	hello   = "00000000 0000000000000000 00007530 0000000000000000 00000010 00000000000000000000000000000000 00"
-	welcome = "00000000 00007530 0000000000000001 00000010 000102030405060708090a0b0c0d0e0f 00"
-	noNode  = "00000001 0000000000000005 ffffff9b"
-	event   = "ffffffff ffffffffffffffff 00000000 00000003 00000003 00000002 2f61"
-	multi   = "00000003 0000000e 00000002 00 ffffffff 00000002 2f61 ffffffff ffffffff 01 ffffffff"
+	hello    = "00000000 0000000000000000 00007530 0000000000000000 00000010 00000000000000000000000000000000 00"
+	welcome  = "00000000 00007530 0000000000000001 00000010 000102030405060708090a0b0c0d0e0f 00"
+	noNode   = "00000001 0000000000000005 ffffff9b"
+	event    = "ffffffff ffffffffffffffff 00000000 00000003 00000003 00000002 2f61"
+	multi    = "00000003 0000000e 00000002 00 ffffffff 00000002 2f61 ffffffff ffffffff 01 ffffffff"
+	addWatch = "00000003 0000006a 00000002 2f61 00000001"
 )
 
 // framed returns the frames of payloads, one after the other.
@@ -238,6 +239,21 @@ func TestListing(t *testing.T) {
 	}
 	if text, err := Listing(Usual, nil); err != nil || text != ". whole unanswered=0\n" {
 		t.Error(text, err)
+	}
+}
+
+func TestUsualProfileIsTheNewest(t *testing.T) {
+	pieces := []Piece{{Client, framed(hello)}, {Server, framed(welcome)}, {Client, framed(addWatch)}}
+	older := Usual
+	older.Profile = Profile35
+	for limits, wanted := range map[Limits]string{
+		Usual: "C 3 addWatch path=\"/a\" mode=1\n. whole unanswered=1\n",
+		older: ". refused side=C frame=1 offset=71 place=4 reason=UnknownOp\n",
+	} {
+		text, err := Listing(limits, pieces)
+		if err != nil || !strings.HasSuffix(text, wanted) {
+			t.Error(text, err)
+		}
 	}
 }
 

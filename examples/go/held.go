@@ -17,7 +17,7 @@ type Limits struct {
 }
 
 // Usual are limits that are enough for most conversations.
-var Usual = Limits{4194304, 4194304, 65536, Profile34}
+var Usual = Limits{4194304, 4194304, 65536, ProfileNewest}
 
 // empty is what a call on a closed handle returns.
 var empty = Fault{Status: C.ZK_EMPTY}

@@ -41,8 +41,10 @@ type Profile uint32
 // The profiles.
 const (
 	// The lines from here on are written by dev/names.py.
-	Profile34 Profile = C.ZK_PROFILE_34
-	Profile35 Profile = C.ZK_PROFILE_35
+	Profile34     Profile = C.ZK_PROFILE_34
+	Profile35     Profile = C.ZK_PROFILE_35
+	Profile37     Profile = C.ZK_PROFILE_37
+	ProfileNewest Profile = Profile37
 	// Up to here.
 )
 

@@ -5,7 +5,7 @@ _zkdump() {
     [[ $before != = ]] || before=${COMP_WORDS[COMP_CWORD - 2]}
     case $before in
     # The lines from here on are written by dev/names.py.
-    --profile) words="3.4 3.5" ;;
+    --profile) words="3.4 3.5 3.7" ;;
     # Up to here.
     *['<>']) return ;;
     --limit | --waiting) words= ;;

@@ -58,20 +58,21 @@ static uint32_t any_side(void) {
 }
 
 /* Profiles. The lines from here on are written by dev/names.py. */
-enum { NEWEST = 35 };
+enum { NEWEST = 37 };
 
 static uint32_t any_profile(void) {
-    return one_in(20) ? (uint32_t)PICK(0, 33, 36, UINT32_MAX) : (uint32_t)PICK(34, 35);
+    return one_in(20) ? (uint32_t)PICK(0, 33, 36, 38, UINT32_MAX) : (uint32_t)PICK(34, 35, 37);
 }
 
 static bool is_profile(uint32_t number) {
-    return number == 34 || number == 35;
+    return number == 34 || number == 35 || number == 37;
 }
 /* Up to here. */
 
 static int32_t any_operation(void) {
     /* The lines from here on are written by dev/names.py. */
-    return (int32_t)PICK(1, 2, 3, 4, 5, 6, 7, 8, 9, 11, 12, 13, 14, 15, 100, 101, -11, 0, 10, -1, INT32_MIN, INT32_MAX);
+    return (int32_t)PICK(1, 2, 3, 4, 5, 6, 7, 8, 9, 11, 12, 13, 14, 15, 16, 17, 18, 19, 21, 100, 101, 103, 104, 106,
+                         -11, 0, 10, -1, INT32_MIN, INT32_MAX);
     /* Up to here. */
 }
 

@@ -16,19 +16,12 @@ import time
 from . import small_server
 from ..unknown_operations import DIGITS, NUMBER
 from ..stored_listings import listings_of
-from ..tools.reckoned import Reckoned
 
 CAPTURES = pathlib.Path(__file__).resolve().parents[2] / "captures"
 HELLO = small_server.framed(bytes.fromhex("00000000 0000000000000000 00007530 0000000000000000 00000010") + bytes(16))
 EXISTS = small_server.framed(bytes.fromhex("00000001 00000003 00000002 2f61 01"))
 PATIENCE = 20  # seconds
 WAITING = 1024  # of proxy.c
-# What profile 3.5 lacks in a recording: the lines after those of the connect messages.
-NEWER = {"refused_java_ttl_node": ["C 1 operation 21, left out", "S 1 operation 21, left out",
-                                   "C 2 operation 21, left out", "S 2 operation 21, left out", "C 3 closeSession",
-                                   "S 3 closeSession zxid=1949", ". whole unanswered=0"]}
-# Recordings whose listings end at the first operation that no profile has: every message after it has a line, too.
-READ_ON = ("curator_service", "java_containers_and_ttl")
 # Frames of each side after the connect messages, and the lines of them: what no profile has of /a, exists of /a.
 OTHER, NODE = f"0000000e 00000001 {DIGITS} 00000002 2f61", "0000000f 00000002 00000003 00000002 2f61 00"
 ENDINGS = (
@@ -133,13 +126,7 @@ def pass_recordings(program):
         status = proxy.end()
     for number, path in enumerate(paths, 1):
         listing = listings_of(path)[-1][1]
-        lines = listing.read_text().splitlines()
-        lines[2:] = NEWER.get(path.stem, lines[2:])
-        told = proxy.of(number)
-        if path.stem in READ_ON:
-            reckoned, front = Reckoned(path.read_bytes()), lines[:-1]
-            lines = [*front, *told[len(front):reckoned.messages], f". whole unanswered={len(reckoned.left())}"]
-        good = whole[path] and told == lines
+        good = whole[path] and proxy.of(number) == listing.read_text().splitlines()
         yield path.stem, good, f"proxy {path.stem}: {whole[path]}, {proxy.of(number)[-1:]}"
     waited = [(waited, line) for _, waited, line in proxy.lines]
     good = all(waited.isdigit() == bool(re.match(r"S (connect|-?\d+) ", line)) for waited, line in waited)

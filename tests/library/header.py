@@ -35,14 +35,14 @@ TOP = pathlib.Path(__file__).resolve().parents[2]
 HEADER = TOP / "include" / "zk.h"
 C_TYPES = {"u8": "uint8_t", "u16": "uint16_t", "u32": "uint32_t", "u64": "uint64_t", "i32": "int32_t", "i64": "int64_t",
            "usize": "size_t", "bool": "bool",
-           "*mut u8": "void *", "TalkBox": "void *", "TalkHandle": "struct zk_talk", "VoiceBox": "void *",
+           "*mut u8": "void *", "TalkBox": "void *", "TalkHandle": "struct zk_talk", "SpeakerBox": "void *",
            "SpeakerHandle": "struct zk_speaker", "SayAnswer": "struct zk_say", "FaultNumbers": "struct zk_fault",
            "PassageBox": "void *", "ThroughHandle": "struct zk_through", "PassedAnswer": "struct zk_passed",
            "StepAnswer": "struct zk_step", "EndingAnswer": "struct zk_ending", "MessageAnswer": "struct zk_message",
            "LineAnswer": "struct zk_line", "Piece": "struct zk_piece", "PayloadAnswer": "struct zk_payload",
            "Field": "struct zk_field", "ReadAnswer": "struct zk_read", "WriteAnswer": "struct zk_written",
            "WaitingAnswer": "struct zk_waiting", "HeldAnswer": "struct zk_held"}
-INSIDE = {"TalkBox", "PassageBox", "VoiceBox"}
+INSIDE = {"TalkBox", "PassageBox", "SpeakerBox"}
 OWN = {"struct zk_builder", "struct zk_entry", "struct zk_block"}  # of the header's functions, and of no call
 NAMED = {"uint32_t", "int32_t", "int64_t"}  # parameters of these types have the crate's names
 FIELDS = TOP / "crates" / "zk_fields" / "src"
@@ -88,7 +88,7 @@ def exported():
 def went_numbers():
     """The number of each thing that a passage's step does."""
     text = (CRATE / "src" / "passed.rt").read_text()
-    return {name.upper(): int(n) for name, n in re.findall(r"Went::(\w+)(?:\(\w+\)| \{[^}]*\})? => \((\d+),", text)}
+    return {name.upper(): int(n) for name, n in re.findall(r"StepOutcome::(\w+)(?:\(\w+\)| \{[^}]*\})? => \((\d+),", text)}
 
 
 def package_numbers():

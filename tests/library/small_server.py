@@ -22,7 +22,8 @@ PATH, CHILDREN = bytes.fromhex("00000002 2f61"), bytes.fromhex("00000002 0000000
 ACL = bytes.fromhex("00000001 0000001f 00000005 776f726c64 00000006 616e796f6e65")
 END = bytes.fromhex("ffffffff 01 ffffffff")
 CLOSE, MULTI, NO_NODE = -11, 14, -101
-VALUES = {"text": PATH, "blob": bytes.fromhex("00000005 68656c6c6f"), "texts": CHILDREN, "acl": ACL, "stat": STAT}
+VALUES = {"text": PATH, "blob": bytes.fromhex("00000005 68656c6c6f"), "texts": CHILDREN, "acl": ACL, "stat": STAT,
+          "int": bytes(4)}
 BODIES = {row.number: b"".join(VALUES[field.kind] for field in row.reply)
           for row in formats.table("Op") if row.number != MULTI}
 RESULTS = {1: PATH, 2: b"", 5: STAT, 13: b""}

@@ -38,7 +38,7 @@ KEPT = {"nothing"}
 LATER = re.compile(r"\t(pshufb|palignr|ptest|popcnt|pmul[hl][dr]\w*|p(?:min|max)(?:s[bd]|u[wd])|pblend\w+|p(?:insr|extr)[bdq]|"
                    r"pmov[sz]x\w+|pabs[bdw]|phadd\w+|round[sp][sd]|crc32\w*|pcmpgtq|pcmpeqq|packusdw)\b")
 # How many checks these have.
-PACKAGES, LIBRARIES = 6, 19
+PACKAGES, LIBRARIES = 6, 20
 # A program that takes each kind of answer, in C and in C++.
 USES = """#include <zk.h>
 int main(void) {
@@ -340,9 +340,11 @@ def main():
         results += commands(top)
         if not skip("the libraries", *make_library.TOOLS, checks=LIBRARIES):
             results += [*header(top, work), *libraries(top, work)]
-            found = run(top / "lib" / "zkdump" / "zkcolumns", "--json", "{", RECORDING)
+            columns = top / "lib" / "zkdump" / "zkcolumns"
+            found = run(columns, "--json", "{", RECORDING)
             good = found.returncode == 0 and found.stdout.endswith(LISTING.splitlines()[-1])
-            results.append(("zkcolumns", good, f"zkcolumns: status {found.returncode}, {found.stderr[-300:]}"))
+            results += [("zkcolumns", good, f"zkcolumns: status {found.returncode}, {found.stderr[-300:]}"),
+                        lists("zkcolumns --follow", columns, "--follow")]
         results += packages(dist, work / "root")
         results += installed(work)
     failures = [told for _, good, told in results if not good]

@@ -2,6 +2,7 @@
 
 import importlib
 import io
+import os
 import pathlib
 import signal
 import subprocess
@@ -75,6 +76,18 @@ class ToolCase(unittest.TestCase):
         if not PROGRAM.exists():
             self.skipTest("the program zkdump is not built")
         return subprocess.run([PROGRAM, "show"], input=recording, capture_output=True, check=False).stdout.decode()
+
+
+class WayCase(ToolCase):
+    """A test of what is read by the lines of zkdump, or, in a class that is a ColumnsCase, too, by zkcolumns."""
+
+    program = ""
+
+    def setUp(self):
+        super().setUp()
+        way = unittest.mock.patch.dict(os.environ, ZKCOLUMNS=str(self.program))
+        way.start()
+        self.addCleanup(way.stop)
 
 
 def receive(end, size):

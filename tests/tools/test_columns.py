@@ -1,6 +1,7 @@
 """Recordings as columns: what the tools print of them is what they print of the lines of zkdump show."""
 
 import contextlib
+import functools
 import io
 import os
 import re
@@ -31,6 +32,14 @@ def interpreter():
     return None
 
 
+@functools.lru_cache(maxsize=None)
+def made():
+    """zkcolumns, built with checks of its memory, in a folder that there is as long as this process."""
+    folder = tempfile.TemporaryDirectory()
+    library, _ = make_library.make(folder.name)
+    return make_columns.make(folder.name, library, *SANITIZED), folder
+
+
 class ColumnsCase(ToolCase):
     """A test that has zkcolumns, `program`, built with checks of its memory."""
 
@@ -39,10 +48,7 @@ class ColumnsCase(ToolCase):
         lacking = make_library.missing()
         if lacking or not (make_library.LIBRARY.exists() and make_library.PLAIN.exists()):
             raise unittest.SkipTest(f"{', '.join(lacking) or 'the library libzk_c.a'} is missing")
-        folder = tempfile.TemporaryDirectory()
-        cls.addClassCleanup(folder.cleanup)
-        library, _ = make_library.make(folder.name)
-        cls.program = make_columns.make(folder.name, library, *SANITIZED)
+        cls.program, _ = made()
 
     def columns(self, *words):
         """What the program writes."""
@@ -77,11 +83,16 @@ class Left(ToolCase):
 class Program(ColumnsCase):
     def test_damaged_head(self):
         """The plain form reports it, so nothing is written."""
-        for data in (b"", b"ZKR", b"ZKR3", b"ZKR2\0\0\0", b"ZKR2" + bytes(16)):
+        numbers = b"\0\1\0\0" * 3
+        for data in (b"", b"ZKR", b"ZKR3", b"ZKR2\0\0\0", b"ZKR2" + bytes(16), b"ZKR2" + numbers + b"\0\0\0\x21",
+                     b"ZKR2" + numbers + b"\0\0\0\x24", b"ZKR2" + numbers + b"\0\0\0\x26"):
             path = self.folder / "head.zkr"
             path.write_bytes(data)
             done = self.columns(path)
             self.assertEqual((done.returncode, done.stdout, done.stderr.count(b"\n")), (4, b"", 1), data)
+        for profile in (34, 35, 37):
+            path.write_bytes(b"ZKR2" + numbers + bytes([0, 0, 0, profile]))
+            self.assertEqual(self.columns(path).returncode, 0, profile)
 
     def test_times_that_do_not_fit(self):
         recording, times = self.folder / "a.zkr", self.folder / "a.zkr.times"

@@ -1,5 +1,5 @@
-"""Tests of zkwatch over a capture that comes through a pipe, with the proved program: what it prints of each connection,
-and when. What is expected is counted from the packets' bytes and times."""
+"""Tests of zkwatch over a capture that comes through a pipe, with the proved program, each way: what it prints of each
+connection, and when. What is expected is counted from the packets' bytes and times."""
 
 import collections
 import datetime
@@ -14,7 +14,8 @@ import unittest.mock
 
 from tools.zkdump_tools import live
 from . import wire
-from .support import PROGRAM, TOOLS, TOP, ToolCase, pieces, zkr
+from .support import PROGRAM, TOOLS, TOP, ToolCase, WayCase, pieces, zkr
+from .test_columns import ColumnsCase
 
 NAMES = "kazoo_basic", "c_watches_in_small_pieces", "java_multi"
 LINE = re.compile(r"(\S+Z) (#\S+) (.*)\n")
@@ -72,7 +73,7 @@ def messages(sent):
             yield int(each.milliseconds), took
 
 
-class Live(ToolCase):
+class Live(WayCase):
     def setUp(self):
         super().setUp()
         if not PROGRAM.exists():
@@ -163,6 +164,7 @@ class Live(ToolCase):
         for packet in capture[len(counts):]:
             watcher.stdin.write(packet)
         told, status, err = self.ended(watcher)
+        told.sort()     # two processes end in either order
         self.assertEqual((status, err), (1, ""))
         self.assertEqual([text.split(" begun ")[0] for _, text in told if " begun " in text],
                          ["10.0.0.7:1 > 10.0.0.9:2181", "10.0.0.7:2 > 10.0.0.9:2181"])
@@ -276,6 +278,10 @@ class Live(ToolCase):
         for words in (["--capture", "-", "0", "a:1"], ["--capture", "-", "--once"], ["--port", "5", "0", "a:1"],
                       ["--capture"]):
             self.assert_bad_words("zkwatch.py", *words)
+
+
+class LiveFast(ColumnsCase, Live):
+    """The same through zkcolumns."""
 
 
 class Kept(ToolCase):

@@ -278,6 +278,15 @@ class Reading(ReadingCase):
         self.assertEqual(self.counts("--profile", "3.4", path)["byNumber"], {"create2": 1})
         path = self.write(recording([create2, answer(1, 5, -110)], ">cqI", zkr2(35)), "b.zkr")
         self.assertEqual(self.counts("--profile", "3.4", path)["byNumber"], {"create2": 1})
+        frames = [ask(1, 106, PATH + b"\0\0\0\1"), answer(1, 5, 0, bytes(4))]
+        for profile in (34, 35, 37):
+            path = self.write(recording(frames, ">cqI", zkr2(profile)), f"{profile}.zkr")
+            self.assertNotIn("byNumber", self.counts(path))
+            for words in (["--profile", "3.4"], ["--profile", "3.5"]):
+                self.assertEqual(self.counts(*words, path)["byNumber"], {"addWatch": 1})
+            asked, answered = self.messages(path)[0][-2:]
+            self.assertEqual((asked["op"], asked["path"], asked["mode"]), ("addWatch", "/a", 1))
+            self.assertEqual((answered["op"], answered["zxid"], answered["code"]), ("addWatch", "0x5", 0))
 
     def test_times_beside(self):
         """They are those of all frames, also of what is left out."""
@@ -308,13 +317,14 @@ class Reading(ReadingCase):
         listed.write_text("".join(f"{path}\n" for path in sorted(self.folder.glob("*.zkr"))))
         for tool, words in (("zkstat.py", []), ("zkstat.py", ["--json"]), ("zkjson.py", []),
                             ("zkreport.py", ["--text"])):
+            words = ["--profile", "3.4", *words]
             wanted = self.run_tool(tool, *words, "--jobs", "2", self.folder)
             self.assertEqual((wanted[0], wanted[1].count("BadLimits")), (1, 1))
             for each in (self.folder, f"@{listed}"):
                 self.assertEqual(self.run_tool(tool, *words, each), wanted, tool)
         (self.folder / "bad.zkr").unlink()
         page = self.folder / "page.html"
-        self.assertEqual(self.run_tool("zkreport.py", "-o", page, self.folder), (0, "", ""))
+        self.assertEqual(self.run_tool("zkreport.py", "-o", page, "--profile", "3.4", self.folder), (0, "", ""))
         self.assertIn('"connections":3', page.read_text("utf-8"))
 
     def test_the_session_that_a_line_has(self):

@@ -1,5 +1,5 @@
-"""Tests of zkwatch after a refusal, with the proved program: what it passes over, and what it reads on. What is expected
-is counted from the bytes (followed.py), or written by hand."""
+"""Tests of zkwatch after a refusal, with the proved program, each way: what it passes over, and what it reads on. What is
+expected is counted from the bytes (followed.py), or written by hand."""
 
 import random
 import re
@@ -10,12 +10,14 @@ import sys
 from . import wire
 from .followed import followed
 from .proxied import TroubleCase
-from .support import PROGRAM, TOOLS, TOP, ToolCase, pieces, zkr
+from .support import PROGRAM, TOOLS, TOP, WayCase, pieces, zkr
+from .test_columns import ColumnsCase
 from .test_live import HELLO, LINE, SECONDS, WELCOME, clock
 from ..unknown_operations import NAMED
 
 UNREAD = "what follows is not read"
-LACKING = {15: "create2", 21: "createTTL", NAMED.number: NAMED.name}        # of 3.4, as far as they are in these tests
+NUMBER = 4242               # which no release has
+LACKING = {15: "create2", 21: "createTTL", NAMED.number: NAMED.name, NUMBER: str(NUMBER)}   # of 3.4, in these tests
 RECORDINGS = sorted((TOP / "captures").glob("refused_*.zkr"))
 STAY = ("refused_go_auth_under_an_ordinary_xid", "refused_java_ttl_node", "refused_kazoo_create2")
 EVENT = struct.pack(">iqiii", -1, -1, 0, 3, 3) + b"\0\0\0\2/a"
@@ -60,7 +62,8 @@ def conversation(chance, count):
             said.append(asks(xid, last=2 if kind == 4 else 0))
             waits.append(xid)
         elif kind == 5:
-            said.append((zkr.CLIENT, framed(struct.pack(">iiI2s", xid, NAMED.number, 2, b"/a"))))
+            number = chance.choice((NAMED.number, NUMBER))
+            said.append((zkr.CLIENT, framed(struct.pack(">iiI2s", xid, number, 2, b"/a"))))
             waits.append(xid)
         elif kind == 6:
             said.append(chance.choice([(zkr.SERVER, framed(EVENT)), (zkr.CLIENT, framed(struct.pack(">ii", -2, 11)))]))
@@ -73,7 +76,9 @@ def conversation(chance, count):
     return said
 
 
-class Refused(ToolCase):
+class RefusedCase(WayCase):
+    """A test that watches captures."""
+
     def setUp(self):
         super().setUp()
         if not PROGRAM.exists():
@@ -97,6 +102,8 @@ class Refused(ToolCase):
         return [(told[number][1:-1], [(each.side.decode(), each.milliseconds, each.data) for each in sent[number]])
                 for number in sent], done.returncode
 
+
+class Refused(RefusedCase):
     def assert_told(self, told, said, lacking):
         """That the lines of a connection are those of the model."""
         told, wanted = [each for each in told if each[1] != UNREAD], followed(said, lacking)
@@ -133,7 +140,7 @@ class Refused(ToolCase):
             with self.subTest(seed):
                 self.assert_told(told, sent, LACKING)
             texts += [text for _, text in told]
-        for words in ("BadBool", "Unasked", "XidOrder", "not seen asked", NAMED.name):
+        for words in ("BadBool", "Unasked", "XidOrder", "not seen asked", NAMED.name, f" {NUMBER}, "):
             self.assertGreater(sum(words in text for text in texts), 9, words)
 
     def test_both_sides_begin_anew(self):
@@ -161,7 +168,11 @@ class Refused(ToolCase):
                              ([refused, 'C 2 exists path="/a" watch=0', ending], 1))
 
 
-class Proxied(TroubleCase):
+class RefusedFast(ColumnsCase, Refused):
+    """The same through zkcolumns."""
+
+
+class Proxied(WayCase, TroubleCase):
     """What else comes of it, through the proxy."""
 
     def told(self, count):
@@ -190,3 +201,7 @@ class Proxied(TroubleCase):
         client.sendall(HELLO + b"".join(asks(xid, last=2)[1] for xid in range(200)))
         took = sorted(self.ask(other) for _ in range(20))
         self.assertLess(took[10], 0.5, took)        # all of them take longer, and a process begins for each
+
+
+class ProxiedFast(ColumnsCase, Proxied):
+    """The same through zkcolumns, which goes on itself."""

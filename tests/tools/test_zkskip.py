@@ -97,6 +97,16 @@ class Zkskip(ToolCase):
         self.assertEqual(self.skip(recording(frames), "--profile", "3.5")[0], recording(frames[::2]))
         self.assertEqual(self.skip(recording(frames), "--profile=3.4")[0], recording([]))
 
+    def test_operations_of_3_7_stay_under_it(self):
+        """An addWatch and its reply, and with them no operation that no profile has."""
+        frames = [request(1, 106, PATH + b"\0\0\0\1"), request(2, NAMED.number, CREATE), reply(1, 0, bytes(4)), reply(2)]
+        for words, head, wanted in ((["--profile", "3.7"], zkr.Head(), frames[::2]), ([], zkr.Head(), []),
+                                    (["--profile", "3.5"], zkr.Head(), []),
+                                    ([], zkr.Head("zkr2", profile=37), frames[::2]),
+                                    (["--profile", "3.5"], zkr.Head("zkr2", profile=37), [])):
+            found, _ = self.skip(recording(frames, head), *words)
+            self.assertEqual(sides(found), sides(recording(wanted, head)))
+
     def test_the_second_format_keeps_its_head_and_times(self):
         head = zkr.Head("zkr2", 100, 200, 3, 35)
         found, _ = self.skip(recording([request(1, NAMED.number), reply(1), request(2, 3)], head))
@@ -154,7 +164,8 @@ class Zkskip(ToolCase):
         left_out = {"refused_go_auth_under_an_ordinary_xid": (1, 1), "refused_java_ttl_node": (2, 2),
                     "refused_kazoo_create2": (35, 35), "java_create2": (5, 5),
                     "kazoo_create2_and_others": (11, 11), "curator_service": (17, 17),
-                    "java_containers_and_ttl": (8, 8)}
+                    "java_containers_and_ttl": (8, 8), "java_add_watch": (11, 11), "java_ephemerals": (10, 10),
+                    "java_reconfig": (8, 8), "curator_watch": (3, 3)}
         for capture in CAPTURES:
             data = capture.read_bytes()
             found, lines = self.skip(data)

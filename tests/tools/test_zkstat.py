@@ -271,7 +271,7 @@ class Zkstat(ToolCase):
                              ('C 1 setData path="/#6" blob=#6 version=1', 23),
                              ('C 1 setData path="/#6" blob=#AB version=1', 30), ("C -4 auth kind=0 scheme=~ auth=#6g", 26),
                              ('C 1 setData path="/a" blob=#61,62 version=1', 31),
-                             ('C 1 createTTL path="/a"', 14), ("C 1 event", 10), ("C 1 check", 10),
+                             ("C 1 whoAmI", 11), ("C 1 event", 10), ("C 1 check", 10),
                              (r'C 1 setACL path="/a" acl=[1:"\ff":"a"] version=1', 29)):
             for words in (["zkstat.py"], ["zkstat.py", "--path", "/"], ["zkjson.py", "--slower", "5"],
                           ["zkreport.py", "--text"]):

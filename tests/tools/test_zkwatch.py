@@ -1,4 +1,5 @@
-"""Tests of zkwatch: what goes through it, and what it prints of it, with the program or with a script in its place."""
+"""Tests of zkwatch: what goes through it, and what it prints of it, with a script in place of the program, and with the
+program, each way."""
 
 import pathlib
 import re
@@ -12,7 +13,8 @@ import time
 import unittest.mock
 
 from .proxied import STAND_IN, stand_in
-from .support import PROGRAM, TOOLS, TOP, ToolCase, pieces, receive, sides, zkr
+from .support import PROGRAM, TOOLS, TOP, WayCase, pieces, receive, sides, zkr
+from .test_columns import ColumnsCase
 from ..unknown_operations import NAMED
 from tools.zkdump_tools import shows
 
@@ -60,6 +62,11 @@ ENDINGS = (
     (f"C 0000000e 00000001 {DIGITS} 00000002 2f61 ffffffff  S 00000014 00000001 0000000000000005 00000000 00000000",
      [f"left out: C frame=1 xid=1 {NAME}, 14 bytes",
       ". refused side=C frame=2 offset=71 place=0 reason=LengthRange"]),
+    # what no release has, which is called by its number, and its reply; under the xid of pings it is refused
+    ("C 00000008 00000001 00001092 00000008 fffffffe 00001092  S 00000010 00000001 0000000000000005 00000000",
+     ["left out: C frame=1 xid=1 4242, 8 bytes",
+      "refused: side=C frame=2 offset=73 place=4 reason=UnknownOp, 12 bytes passed over",
+      "left out: S frame=1 xid=1 zxid=5 not seen asked, 16 bytes", ". whole unanswered=0"]),
     # without a body, and a reply to it that is cut; without a reply, between two exists in one piece
     (f"C 00000008 00000001 {DIGITS}  S 00000014 00000001 0000",
      [f"left out: C frame=1 xid=1 {NAME}, 8 bytes", ". cut side=S frame=1 got=10"]),
@@ -103,7 +110,9 @@ class Echo(threading.Thread):
                 client.sendall(heard)
 
 
-class Zkwatch(ToolCase):
+class WatchCase(WayCase):
+    """A test that begins to watch."""
+
     def setUp(self):
         super().setUp()
         self.stand_in = stand_in(self.folder)
@@ -132,6 +141,10 @@ class Zkwatch(ToolCase):
     def stopped(self, watcher):
         watcher.send_signal(signal.SIGINT)
         return self.lines(watcher)
+
+
+class Zkwatch(WatchCase):
+    """With the script."""
 
     def test_a_half_closed_connection_is_answered(self):
         watcher, address = self.watch(f"127.0.0.1:{self.echo(slow=True).port}", "--once")
@@ -234,9 +247,38 @@ class Zkwatch(ToolCase):
         self.assertEqual(watcher.stderr.read(), "zkwatch.py: standard output: Broken pipe; lines are lost, and the "
                          "connections go on\n")
 
-    def test_the_program_itself(self):
+    def test_what_is_left_out_keeps_its_place(self):
+        """Also where there is room for lines again just after its line had to wait."""
+        told, is_full = [], iter([False, True, *[False] * 9])
+        watch = unittest.mock.Mock(command=["cat"], profile="3.4", head=zkr.Head(), due={}, delayed=set())
+        watch.say_of, watch.lines.is_full = lambda _, line, at: told.append((line, at)), lambda: next(is_full)
+        show = shows.Show(watch, 1)
+        self.addCleanup(show.lister.process.communicate)
+        show.lines.extend([b"C 1 ping", b"S 1 ping"])
+        show.given.extend(shows.Given(zkr.frames.Frame(side, 1, b"", at), line, latency) for side, at, line, latency in (
+            (zkr.CLIENT, 1, None, None), (zkr.CLIENT, 2, "left out", None), (zkr.SERVER, 3, None, 2)))
+        show.read()
+        show.read()
+        self.assertEqual(told, [("C 1 ping", 1), ("left out", 2), ("S 1 ping ms=2", 3)])
+
+    def test_words(self):
+        program = ["--zkdump", str(self.stand_in)]
+        for words in ([*program], [*program, "0"], [*program, "0", "2181"], [*program, "x", "a:1"],
+                      [*program, "0", "a:1", "more"],
+                      ["--zkdump", "/no/such/program", "0", "localhost:1"], [*program, "--nonsense", "0", "a:1"]):
+            self.assert_bad_words("zkwatch.py", *words)
+        self.assertTrue(pathlib.Path(TOOLS / "zkwatch.py").stat().st_mode & 0o100)
+
+
+class Proved(WatchCase):
+    """With the program."""
+
+    def setUp(self):
+        super().setUp()
         if not PROGRAM.exists():
             self.skipTest("the program zkdump is not built")
+
+    def test_the_program_itself(self):
         player = subprocess.Popen([sys.executable, TOOLS / "zkplay.py", "0", RUN], stdout=subprocess.PIPE, text=True)
         self.addCleanup(player.wait)
         self.addCleanup(player.stdout.close)
@@ -264,8 +306,6 @@ class Zkwatch(ToolCase):
 
     def test_lines_after_a_long_one(self):
         """One of 1.2 million characters leaves no room for others until it is read, and none is lost."""
-        if not PROGRAM.exists():
-            self.skipTest("the program zkdump is not built")
         zeros = "00" * 600_000
         said = [(zkr.CLIENT, bytes.fromhex(HELLO)), (zkr.SERVER, bytes.fromhex(WELCOME)),
                 (zkr.CLIENT, bytes.fromhex(f"000927d6 00000001 00000005 00000002 2f61 000927c0 {zeros} ffffffff"
@@ -280,8 +320,6 @@ class Zkwatch(ToolCase):
 
     def test_lines_of_what_is_left_out_wait_for_their_reader(self):
         """As those of messages do: more than the printer holds, whose reader comes late."""
-        if not PROGRAM.exists():
-            self.skipTest("the program zkdump is not built")
         numbers = range(1, 30_001)
         asked = b"".join(struct.pack(">iii", 8, number, NAMED.number) for number in numbers)
         told = self.watched([(zkr.CLIENT, bytes.fromhex(HELLO)), (zkr.SERVER, bytes.fromhex(WELCOME)),
@@ -289,24 +327,8 @@ class Zkwatch(ToolCase):
         self.assertEqual(told[2:], [*(f"left out: C frame={n} xid={n} {NAME}, 8 bytes" for n in numbers),
                                     f". whole unanswered={len(numbers)}"])
 
-    def test_what_is_left_out_keeps_its_place(self):
-        """Also where there is room for lines again just after its line had to wait."""
-        told, is_full = [], iter([False, True, *[False] * 9])
-        watch = unittest.mock.Mock(command=["cat"], profile="3.4", head=zkr.Head(), due={}, delayed=set())
-        watch.say_of, watch.lines.is_full = lambda _, line, at: told.append((line, at)), lambda: next(is_full)
-        show = shows.Show(watch, 1)
-        self.addCleanup(show.lister.process.communicate)
-        show.lines.extend([b"C 1 ping", b"S 1 ping"])
-        show.given.extend(shows.Given(zkr.frames.Frame(side, 1, b"", at), line, latency) for side, at, line, latency in (
-            (zkr.CLIENT, 1, None, None), (zkr.CLIENT, 2, "left out", None), (zkr.SERVER, 3, None, 2)))
-        show.read()
-        show.read()
-        self.assertEqual(told, [("C 1 ping", 1), ("left out", 2), ("S 1 ping ms=2", 3)])
-
     def test_what_the_release_lacks_is_left_out(self):
         """Each recording that 3.4 refuses for that is listed to its end."""
-        if not PROGRAM.exists():
-            self.skipTest("the program zkdump is not built")
         for path in (TOP / "captures" / f"{name}.zkr" for name in (*NEWER, "refused_kazoo_create2")):
             listing = path.with_suffix(".show").read_text().splitlines()
             if path.stem in NEWER:
@@ -327,18 +349,12 @@ class Zkwatch(ToolCase):
                 for frame in cutter.take(piece)}
 
     def test_the_last_line_has_the_numbers_of_the_bytes_as_they_came(self):
-        if not PROGRAM.exists():
-            self.skipTest("the program zkdump is not built")
         for digits, told in ENDINGS:
             said = [(side.encode(), bytes.fromhex(data))
                     for side, data in re.findall(r"([CS]) ([^CS]*)", f"C {HELLO} S {WELCOME} {digits}")]
             with self.subTest(told[-1]):
                 self.assertEqual(self.watched(said)[2:], told)
 
-    def test_words(self):
-        program = ["--zkdump", str(self.stand_in)]
-        for words in ([*program], [*program, "0"], [*program, "0", "2181"], [*program, "x", "a:1"],
-                      [*program, "0", "a:1", "more"],
-                      ["--zkdump", "/no/such/program", "0", "localhost:1"], [*program, "--nonsense", "0", "a:1"]):
-            self.assert_bad_words("zkwatch.py", *words)
-        self.assertTrue(pathlib.Path(TOOLS / "zkwatch.py").stat().st_mode & 0o100)
+
+class ProvedFast(ColumnsCase, Proved):
+    """The same through zkcolumns."""

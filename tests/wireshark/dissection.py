@@ -26,7 +26,6 @@ from tools.zkdump_tools import resync
 from . import expectations, installed_plugin, marked_bytes
 from .. import left_out, unknown_operations
 from ..stored_listings import listings_of
-from ..tools.reckoned import Reckoned
 from .connections import WHOLE, Connections, listings, objects_of, refusals_of
 from .installed_plugin import SOURCES, TOP, capture_of, joined, mutated, pieces_of, wire, zkr
 from .shown_messages import Shown
@@ -35,7 +34,6 @@ from .unusual_captures import Odd
 PACKAGES = ("tshark", "wireshark-dev", "gcc", "pkg-config", "cmake")
 MUTANTS_A_RUN = 250
 PLUGIN = "the plugin for Wireshark"         # in CHECKS of left_out.py
-LATER = ("addWatch", "createContainer", "createTTL")    # operations in recordings that no profile has
 
 
 class Tests(Connections, Odd, Shown):
@@ -301,13 +299,8 @@ class Tests(Connections, Odd, Shown):
 
 
 def decoded(path):
-    """How many messages of a recording are decoded: those of its listing. Where this ends at an operation that no profile
-    has, all messages but the requests for such operations and their replies."""
-    listing = listings_of(path)[-1][1].read_text()
-    if not listing.endswith("reason=UnknownOp\n"):
-        return listing.count("\n") - 1
-    reckoned = Reckoned(path.read_bytes())
-    return reckoned.messages - sum(reckoned.operations[name].asked + reckoned.operations[name].answered for name in LATER)
+    """How many messages of a recording are decoded: those of its listing."""
+    return listings_of(path)[-1][1].read_text().count("\n") - 1
 
 
 def main():

@@ -33,10 +33,13 @@ SAME = {"xid": ("xid", str), "zxid": ("zxid", hexadecimal), "version": ("version
         "watch": ("watch", bit), "timeout": ("timeout", str), "kind": ("event.kind", str),
         "state": ("event.state", str), "session": ("session", hexadecimal), "scheme": ("scheme", str),
         "blob": ("data", octets), "auth": ("auth", octets), "passwd": ("passwd", octets), "ro": ("read_only", bit),
-        "path": ("path", str), "err": ("err", str)}
+        "path": ("path", str), "err": ("err", str), "ttl": ("ttl", str), "mode": ("watch.mode", str),
+        "count": ("count", str), "code": ("code", str), "joining": ("joining", str), "leaving": ("leaving", str),
+        "members": ("members", str), "config": ("config", str)}
 OTHERWISE = {("C", "connect", "version"): "protocol_version", ("S", "connect", "version"): "protocol_version",
              ("C", "connect", "zxid"): "last_zxid", ("C", "setWatches", "zxid"): "relative_zxid",
-             ("C", "auth", "kind"): "auth.type", ("S", "fail", "err"): "part.err"}
+             ("C", "auth", "kind"): "auth.type", ("C", "checkWatches", "kind"): "watch.type",
+             ("C", "removeWatches", "kind"): "watch.type", ("S", "fail", "err"): "part.err"}
 ENTRY = {"perms": "acl.perms", "scheme": "scheme", "id": "acl.id"}
 LISTS = {"names": ("children", "child"), "dataWatches": ("data_watches", "watched"),
          "existWatches": ("exist_watches", "watched"), "childWatches": ("child_watches", "watched")}

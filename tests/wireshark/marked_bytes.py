@@ -17,7 +17,8 @@ NUMBERS = {number: name for name, number in fields.KINDS.items()}
 STAT = {name for name, _ in fields.STAT}
 # By name of the library's, that of the plugin's field, where it is another.
 OTHERWISE = {"perms": "acl.perms", "id": "acl.id", "type": "auth.type", "state": "event.state", "zxid": "relative_zxid",
-             "last_zxid_seen": "last_zxid", "time_out": "timeout", "session_id": "session", "err": "part.err"}
+             "last_zxid_seen": "last_zxid", "time_out": "timeout", "session_id": "session", "err": "part.err",
+             "mode": "watch.mode"}
 HEADS = {"request": (("xid", 4), ("op", 4)), "reply": (("xid", 4), ("zxid", 8), ("err", 4)),
          "event": (("xid", 4), ("zxid", 8), ("err", 4))}
 # What is shown below a number: its bits.
@@ -54,6 +55,8 @@ def plugins(field, before, kind):
         name = f"stat.{name}"
     elif name == "type" and kind == "event":
         name = "event.kind"
+    elif name == "type" and place > 8:
+        name = "watch.type"
     elif sort == "text" and name == "children":
         name = "child"
     elif sort == "text" and name.endswith("_watches"):

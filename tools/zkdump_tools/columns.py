@@ -1,14 +1,13 @@
 """Reads recordings as columns, which the program zkcolumns writes (zkcolumns/columns.c): a record for each message.
 
 It is the fast form of listing.Listing, which reads the lines of `zkdump show`, and says the same. Where the program
-isn't there, the plain form is used. The environment variable ZKCOLUMNS names the program, or is empty for none.
+isn't there, the plain form is used (program.py).
 """
 
 import collections
 import importlib
 import json
 import os
-import pathlib
 import struct
 import subprocess
 
@@ -16,8 +15,6 @@ from . import errors, facts, forms, listing, operations, passages, program, zkr
 
 numpy = None        # loaded where something is counted: it takes longer than most listings, and 15 MB
 
-HERE = pathlib.Path(__file__).resolve().parent
-PLACES = (HERE / "zkcolumns" / "out" / "zkcolumns", HERE.parents[3] / "lib" / "zkdump" / "zkcolumns")
 HEAD, PATCH = struct.Struct("=IIIIQQQQddqq"), struct.Struct("=QII")
 NAMES, MESSAGES, END = range(3)
 NOT_READ = 4                    # the status of a recording whose trouble the plain form reports
@@ -42,19 +39,10 @@ WORTH_A_LINE = 1 << 23          # the size of a recording of which a line says w
 said = False
 
 
-def found_program():
-    """The path of the program, or None."""
-    if (named := os.environ.get("ZKCOLUMNS")) is not None:
-        return named or None
-    return next((str(path) for path in PLACES if os.access(path, os.X_OK)), None)
-
-
 def lacks(words, counted):
     """What is missing for columns, or None; where they are `counted`, that is numpy too."""
-    if words.zkdump != program.found():
-        return "--zkdump names another program"
-    if not found_program():
-        return "zkcolumns is not built or installed"
+    if lacking := program.lacks_columns(words.zkdump):
+        return lacking
     return "Python's numpy is not installed" if counted and not has_numpy() else None
 
 
@@ -149,7 +137,7 @@ class Columns(listing.Listing):
     def __init__(self, path, words, known, progress, options):
         super().__init__(path, (), None, progress, True, known)
         self.file, self.waiting, self.usual = path, [], (self.connection.known, self.connection.session)
-        self.program = subprocess.Popen([found_program(), *passages.Bounds.of(words).options(), *NAMES_OPTIONS,
+        self.program = subprocess.Popen([program.found_columns(), *passages.Bounds.of(words).options(), *NAMES_OPTIONS,
                                          *options, path], stdout=subprocess.PIPE, stderr=subprocess.PIPE)
         try:
             import fcntl

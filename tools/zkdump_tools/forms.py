@@ -189,8 +189,9 @@ class List:
 
 
 DATA = "(?:~|#[0-9a-f]*)"
+PLAIN = Kind(NUMBER, str)
 KINDS = {
-    "number": Kind(NUMBER, str), "hexadecimal": Kind(NUMBER, hexadecimal), "bit": Kind("[01]", BITS.get),
+    "number": PLAIN, "long": PLAIN, "hexadecimal": Kind(NUMBER, hexadecimal), "bit": Kind("[01]", BITS.get),
     "readonly": Kind("[01-]", BITS.get), "stat": Kind(r"\([\d,-]+\)", stat),
     "err": Kind(rf"{NUMBER}(?:/[A-Za-z]+)?", code("err")), "kind": Kind(rf"{NUMBER}(?:/[A-Za-z]+)?", code("kind")),
     "text": Kind(TEXT, text, pieces_of_text), "data": Kind(DATA, data, pieces_of_data),
@@ -210,7 +211,7 @@ class Form:
         self.match = re.compile(pattern, re.ASCII).match
         self.form = "".join(f"{name}%s" for _, name, _ in self.fields)
         self.made = [(number, kind.json) for number, (*_, kind) in enumerate(self.fields)
-                     if kind is not KINDS["number"]]
+                     if kind is not PLAIN]
 
     def json(self, line, at):
         """The fields at this place of the line, as JSON, and the place after them; a ValueError where they aren't

@@ -1,6 +1,8 @@
-"""Where the program zkdump is, for the tools that run it."""
+"""Where the programs zkdump and zkcolumns are, for the tools that run them. The environment variable ZKCOLUMNS names
+zkcolumns, or is empty for none."""
 
 import argparse
+import os
 import pathlib
 import shutil
 import subprocess
@@ -9,13 +11,30 @@ OWN = ("share", "zkdump", "tools")     # where installed tools are, below the pr
 TOOLS = pathlib.Path(__file__).resolve().parents[1]
 
 
+def beside(installed, built):
+    """The path of what was installed with these tools, below their prefix, or of what was built with them."""
+    return TOOLS.parents[len(OWN) - 1] / installed if TOOLS.parts[-len(OWN):] == OWN else TOOLS.parent / built
+
+
 def found():
     """The program that was installed or built with these tools, or else the name of the one on the PATH."""
-    if TOOLS.parts[-len(OWN):] == OWN:
-        path = TOOLS.parents[len(OWN) - 1] / "bin" / "zkdump"
-    else:
-        path = TOOLS.parent / "crates" / "zkdump" / "out" / "zkdump"
+    path = beside("bin/zkdump", "crates/zkdump/out/zkdump")
     return str(path) if path.exists() else "zkdump"
+
+
+def found_columns():
+    """The path of zkcolumns, or None."""
+    if (named := os.environ.get("ZKCOLUMNS")) is not None:
+        return named or None
+    path = beside("lib/zkdump/zkcolumns", "tools/zkdump_tools/zkcolumns/out/zkcolumns")
+    return str(path) if os.access(path, os.X_OK) else None
+
+
+def lacks_columns(zkdump):
+    """Why zkcolumns can't be used in place of this program zkdump, or None."""
+    if zkdump != found():
+        return "--zkdump names another program"
+    return None if found_columns() else "zkcolumns is not built or installed"
 
 
 def version():
@@ -43,22 +62,26 @@ def need(parser, path):
         parser.error(f"there is no program {path}: build or install zkdump, or name it with --zkdump PATH")
 
 
+def trouble_of(*command):
+    """Why this command, which lists a recording, doesn't run here; nothing if it lists one of no pieces."""
+    try:
+        with subprocess.Popen(command, stdin=subprocess.PIPE, stdout=subprocess.PIPE,
+                              stderr=subprocess.DEVNULL) as listing:
+            try:
+                listing.stdin.write(b"ZKR1")
+                listing.stdin.close()
+            except BrokenPipeError:
+                pass
+            line = listing.stdout.read(len(b". whole"))
+            if line:
+                listing.kill()
+        return "" if line == b". whole" else f"it writes no listing, and its status is {listing.returncode}"
+    except OSError as error:
+        return error.strerror
+
+
 def prove_runs(parser, path):
     """Ends the tool with an error if there is no program at this path, or it can't read a recording of no pieces."""
     need(parser, path)
-    try:
-        with subprocess.Popen([path, "show"], stdin=subprocess.PIPE, stdout=subprocess.PIPE,
-                              stderr=subprocess.DEVNULL) as show:
-            try:
-                show.stdin.write(b"ZKR1")
-                show.stdin.close()
-            except BrokenPipeError:
-                pass
-            line = show.stdout.read(len(b". whole"))
-            if line:
-                show.kill()
-        trouble = "" if line == b". whole" else f"it writes no listing, and its status is {show.returncode}"
-    except OSError as error:
-        trouble = error.strerror
-    if trouble:
+    if trouble := trouble_of(path, "show"):
         parser.error(f"{path} is not a zkdump that runs here: {trouble}; name another with --zkdump PATH")

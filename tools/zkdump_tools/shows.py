@@ -1,12 +1,13 @@
-"""What zkwatch shows of each connection: the lines of a `zkdump show` of its own, with their times, and how long replies
-took.
+"""What zkwatch shows of each connection: the lines of a process of its own (lister.py), with their times, and how long
+replies took.
 
-For authors of proxies: what `show` has not read is held up to a bound; then that connection is no longer read. `show` ends
-at a refusal. Where the refused frame has an end, another one goes on after it, as the library's passages do
-(zk_through_resume, docs/LIBRARY.md): both sides begin anew, and replies to earlier requests are left out.
+For authors of proxies: what the process has not read is held up to a bound; then that connection is no longer read. Where a
+refused frame has an end, the reading goes on after it, as the library's passages do (zk_through_resume, docs/LIBRARY.md):
+both sides begin anew, and replies to earlier requests are left out.
 """
 
 import collections
+import functools
 import re
 import time
 from typing import NamedTuple, Optional
@@ -22,7 +23,17 @@ REFUSAL = re.compile(r"\. refused (side=[CS] frame=\d+ offset=\d+ place=\d+ reas
 ENDLESS = ("LengthRange", "StreamEnd")      # the refusals of a frame that has no end
 
 
-class Late(zkskip.Turns):
+class Turns(zkskip.Turns):
+    """Decides which frames stay, as zkskip does; but operations that no release has are left out, too, as a passage of the
+    library leaves them out."""
+
+    def lacking(self, payload):
+        xid, operation = passages.REQUEST.unpack_from(payload)
+        stays = operation in self.operations or xid in (passages.EVENT_XID, *passages.NEVER_OUT)
+        return super().lacking(payload) or (None if stays else passages.name_of(operation))
+
+
+class Late(Turns):
     """Decides which frames stay of a connection that is seen late, as the library does (zk_through_join): a reply to a
     request that wasn't seen is known by its xid, until a reply is to one that was. It is left out."""
 
@@ -44,41 +55,41 @@ class Late(zkskip.Turns):
 
 
 class Given(NamedTuple):
-    """A frame that `show` was given, or that is left out and has this line; and how long it took, if it is a reply. A
-    connect message that was made up after a refusal is no frame."""
+    """A frame that the process was given, or that is left out and has this line; and how long it took, if it is a reply. A
+    message that was made up after a refusal is no frame."""
     frame: Optional[frames.Frame] = None
     line: Optional[str] = None
     latency: Optional[float] = None
 
 
 class Show:
-    """What is shown of a connection: the lines of a `zkdump show`, and those of what it isn't given.
+    """What is shown of a connection: the lines of the process that reads it, and those of what it isn't given.
 
-    Its pieces wait in `coming`, and as frames in `frames`, until `show` takes them; `given` has those that were taken and
-    have no line yet, `room` at most. After a refusal these go back, for another `show`, which begins with a made-up connect
-    pair, and is given few at first: the next refusal may be near. `count` and `size` say how many frames and bytes of each
-    side have had their lines. `now` is the time of the last piece. Where `last_words` are given, they are its last line.
+    Its pieces wait in `coming`, and as frames in `frames`, until the process takes them; `given` has those that were taken
+    and have no line yet, `room` at most. After a refusal these go back, to be given anew, few at first: the next refusal may
+    be near. `count` and `size` say how many frames and bytes of each side have had their lines. `now` is the time of the
+    last piece. Where `last_words` are given, they are its last line.
     """
 
     def __init__(self, watch, number):
         self.watch, self.number, self.cutter = watch, number, zkr.Cutter(watch.head)
         self.coming, self.frames, self.given, self.lines = (collections.deque() for _ in range(4))
-        self.turns, self.behind, self.last = zkskip.Turns(zkskip.OF_PROFILE[watch.profile]), 0, b""
+        self.turns, self.behind, self.last = Turns(zkskip.OF_PROFILE[watch.profile]), 0, b""
         self.count, self.size = dict.fromkeys(zkr.OTHER, 0), dict.fromkeys(zkr.OTHER, 0)
         self.room, self.now, self.last_words, self.unread, self.is_over, self.has_rest = \
             MOST_GIVEN, None, None, "", False, False
-        self.begin()
+        self.begin(functools.partial(lister.begun, watch, self))
 
-    def begin(self):
-        """Begins a process `show`."""
+    def begin(self, begun):
+        """Has a process read, which this call returns."""
         try:
-            self.lister = lister.Lister(self.watch, self)
+            self.lister = begun()
         except OSError as error:
             self.unread = f"{self.watch.command[0]}: {error.strerror}"
             self.end_reading()
 
     def piece(self, side, data, milliseconds=None):
-        """Takes a piece. What stays of it is written to `show`, as far as that is taken; the rest waits. It came at this
+        """Takes a piece. What stays of it is given to be read, as far as that is taken; the rest waits. It came at this
         time, or else just now."""
         self.now = time.time() * 1000 if milliseconds is None else milliseconds
         if self.lister and not self.unread:
@@ -123,7 +134,7 @@ class Show:
         return bytes(self.cutter.held[frame.side]) if frame.payload is None else frame.whole()
 
     def give(self, frame):
-        """Gives `show` a frame, or leaves it out."""
+        """Gives a frame to be read, or leaves it out."""
         asked, lacks = (None, None) if frame.payload is None else self.turns.turn(frame)
         latency = None if asked is None else frame.milliseconds - asked
         self.given.append(Given(frame, zkskip.line_of(frame, lacks) if lacks else None, latency))
@@ -133,7 +144,7 @@ class Show:
             self.lister.give(frame.side, self.bytes_of(frame))
 
     def write(self):
-        """Gives `show` what waits, as far as it is taken."""
+        """Gives what waits to be read, as far as it is taken. After the last frame has its line, that is all."""
         if not self.lister or self.lister.stdin.closed:
             return
         is_all = False
@@ -142,8 +153,13 @@ class Show:
                 self.give(frame)
             else:
                 is_all = True
-        self.lister.write(is_all and self.is_over)
+        self.lister.write(is_all and self.is_over and not self.awaits_line())
         (self.watch.delayed.add if self.waits() else self.watch.delayed.discard)(self)
+
+    def awaits_line(self):
+        """Whether a whole frame has no line yet, after which there may be more to give."""
+        frame = self.given[0].frame if self.given else None
+        return bool(self.given) and not (frame and frame.payload is None)
 
     def is_due(self):
         """Whether the next line is that of a frame that is left out."""
@@ -232,17 +248,16 @@ class Show:
                       lambda found: f"{found[1]}={numbers[found[1]](int(found[2]))}", ending)
 
     def go_on(self):
-        """Begins another `show` after a refused frame, as of a connection that is seen late."""
+        """Reads on after a refused frame, as of a connection that is seen late."""
         self.note(self.given.popleft().frame)
         self.frames.extendleft(given.frame for given in reversed(self.given))
         self.given.clear()
         self.lines.clear()
-        self.lister.leave()
         self.turns, self.room = Late(self.turns.operations), FEW_GIVEN
-        self.begin()
+        self.begin(self.lister.anew)
         if self.lister:
-            for side in zkr.OTHER:
-                self.lister.give(side, zkr.MADE_UP[side])
+            for side, frame in self.lister.made_up.items():
+                self.lister.give(side, frame)
                 self.given.append(Given())
 
     def over(self, last_words=None):
@@ -260,7 +275,7 @@ class Show:
         self.watch.seen(self)
 
     def kill(self):
-        """Ends `show` at once."""
+        """Ends the process at once."""
         self.forget()
         if self.lister:
             self.lister.kill()
@@ -273,9 +288,9 @@ class Show:
         self.watch.delayed.discard(self)
 
     def reaped(self, status):
-        """Takes the status of `show`, which has written all its lines."""
+        """Takes the status of the process, which has written all its lines."""
         if not self.unread and (status not in (0, 1) or not self.last.startswith(b".")):
-            self.unread = f"zkdump show has ended with status {status}"
+            self.unread = f"{self.lister.name} has ended with status {status}"
         self.end_reading()
 
     def end_reading(self):
@@ -303,7 +318,7 @@ class Watching:
 
     def __init__(self, words, *more):
         super().__init__(*more)
-        self.command = [words.zkdump, "show", "--profile", words.profile, "--limit", str(words.limit)]
+        self.command = lister.command(words)
         self.head = zkr.Head(client_limit=words.limit, server_limit=words.limit)
         self.profile, self.shows, self.delayed, self.has_refused = words.profile, set(), set(), False
 

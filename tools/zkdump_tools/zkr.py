@@ -3,7 +3,7 @@
 A recording of the first format is the bytes ZKR1 and then pieces: a byte for the side (C or S), four bytes for the
 number of bytes, and the bytes (docs/FORMATS.md, section 12). One of the second format has after its head ZKR2 four
 ints: the greatest payload of the client's frames and of the server's, how many requests may wait, and the profile
-(34 or 35). Its pieces have eight bytes between the side and the number of bytes: milliseconds since 1970.
+(34, 35 or 37). Its pieces have eight bytes between the side and the number of bytes: milliseconds since 1970.
 
 The times of a recording's pieces may also be in a file beside it, RECORDING.times: a line for each piece, its
 milliseconds since 1970 in decimal, with a fraction. All times in this module are such numbers of milliseconds.

@@ -78,6 +78,10 @@ class Turns:
         """Whether this is a connect message, which has no xid."""
         return frame.number == 0
 
+    def lacking(self, payload):
+        """Why a request is left out, or None."""
+        return lacking(payload, self.operations)
+
     def turn(self, frame):
         """Of a frame: when its request came, if it is a reply, and why it is left out; None for either."""
         is_connect = self.is_connect(frame)
@@ -85,7 +89,7 @@ class Turns:
             return None, None
         xid = None if is_connect else int_at(frame.payload, 0)
         if frame.side == zkr.CLIENT:
-            lacks = None if is_connect else lacking(frame.payload, self.operations)
+            lacks = None if is_connect else self.lacking(frame.payload)
             self.waiting[xid].append((frame.milliseconds, lacks))
             self.requests += bool(lacks)
             return None, lacks

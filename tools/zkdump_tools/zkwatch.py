@@ -4,17 +4,18 @@
     zkwatch.py [--zkdump PATH] [--profile RELEASE] [--limit N] [--port N] --capture FILE
 
 As a proxy it listens on PORT (0 is any free one; the first line of standard output has it) and passes every connection
-on to the server. Each has a `zkdump show` of its own, which gets every frame before it is passed on; so a request is
-read before its reply can come. The lines of all are printed with the time at which the message passed and the
-connection's number; a reply's ends with how long it took, ms=1.25. Requests that the release lacks are left out with
-their replies, as zkskip leaves them out: each has a line `left out`, in its place, and the numbers of the last line are
-those of the bytes as they came. Where a message is refused, its line says how many bytes are passed over, and what
-follows is read as of a connection that is seen late: replies to earlier requests are left out. Where a frame's length is
-refused, or a conversation can't be read any longer, a line reports that, and its bytes are still passed on. Ctrl-C or
-SIGTERM ends it. The status is 1 if anything was refused.
+on to the server. Each has a process of its own, zkcolumns or else `zkdump show`, which gets every frame before it is
+passed on; so a request is read before its reply can come. The lines of all are printed with the time at which the
+message passed and the connection's number; a reply's ends with how long it took, ms=1.25. Requests that the release lacks
+are left out with their replies, as zkskip leaves them out, and those of operations that no release has: each has a line
+`left out`, in its place, and the numbers of the last line are those of the bytes as they came. Where a message is
+refused, its line says how many bytes are passed over, and what follows is read as of a connection that is seen late:
+replies to earlier requests are left out. Where a frame's length is refused, or a conversation can't be read any longer,
+a line reports that, and its bytes are still passed on. Ctrl-C or SIGTERM ends it. The status is 1 if anything was
+refused.
 
-No connection waits for `show`, or for the reader of the lines, and none ends with that reader: a connection of which
-64 MB wait to be read is no longer watched.
+No connection waits for its process, or for the reader of the lines, and none ends with that reader: a connection of
+which 64 MB wait to be read is no longer watched.
 
 With --capture it reads a capture of tcpdump or Wireshark, as it comes and as pcap2zkr --late does; - is standard input:
 
@@ -34,7 +35,7 @@ from . import addresses, program, proxy, running, shows, zkr
 class Watch(shows.Watching, proxy.Proxy):
     """Everything that is watched through a proxy."""
 
-    descriptors = 8         # the pipes of a `show`, with those that are open only while it begins
+    descriptors = 8         # the pipes of a process, with those that are open only while it begins
     what_follows = "what follows is passed on, and not read"
 
     def __init__(self, server, words):

@@ -5,7 +5,7 @@ use crate::streams::Streams;
 use anyhow::{Result, ensure};
 use std::alloc::Global;
 use zk_fields::{Field, client_fields, server_fields};
-use zk_talk::{Limits, MessageOf, Side, Speaker, Talk};
+use zk_talk::{Limits, MessageOf, Side, Speaker, Taken, Talk};
 
 /// The fields that a message is read into, as many as fit.
 const ROOM: usize = 64;
@@ -66,6 +66,15 @@ pub(crate) fn dissect(
     look_at_all(&mut talk, streams, digest)
 }
 
+/// Says the message that was taken.
+fn say_taken(speaker: &mut Speaker, taken: &Taken, said: &mut Vec<u8>) -> Result<()> {
+    match &taken.message {
+        Some(message) => speaker.say(message, said)?,
+        None => anyhow::bail!("a frame isn't whole"),
+    }
+    Ok(())
+}
+
 /// Takes a frame's message, and says it anew.
 fn pass_on(
     talk: &mut Talk,
@@ -75,11 +84,7 @@ fn pass_on(
     said: &mut Vec<u8>,
 ) -> Result<()> {
     let taken = talk.take(side, frame)?;
-    match taken.message {
-        Some(message) => speaker.say(&message, said)?,
-        None => anyhow::bail!("a frame isn't whole"),
-    }
-    Ok(())
+    say_taken(speaker, &taken, said)
 }
 
 /// Takes all messages of a conversation, and says them anew.

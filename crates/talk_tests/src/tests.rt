@@ -8,6 +8,7 @@ mod frames;
 mod growth;
 mod library;
 mod lines;
+mod passage_offers;
 mod resume;
 mod speaker;
 mod through;

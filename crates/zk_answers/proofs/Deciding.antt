@@ -113,7 +113,7 @@ texts_covered = vector_covered ustring text_covered
 nothing_covered : (items : List Item) → Unfolds End items → Unit {0} × ([] ≡ items)
 nothing_covered items u = (tt, sym u)
 
-ruleset records = (text_covered, stat_covered, nothing_covered, data_body_covered, acl_body_covered, children_body_covered, create_body_covered, texts_covered, tt)
+ruleset records = (text_covered, int_covered, stat_covered, nothing_covered, data_body_covered, acl_body_covered, children_body_covered, create_body_covered, texts_covered, tt)
 
 result_covers : (op : PartOp) (items : List Item) → Unfolds (result_layout op) items → (x : Result op) × (result_items op x ≡ items)
 result_covers parts.Create = text_covered

@@ -1,6 +1,6 @@
 -- What each operation's reply is made of: the one table.
 use Rattle.std.specs.Prelude.{List, []}
-use Rattle.zk_jute.specs.{Item.Item, Wired.Wired, Wired.ustring, Wired.vector}
+use Rattle.zk_jute.specs.{Item.Item, Wired.Wired, Wired.int, Wired.ustring, Wired.vector}
 use Rattle.zk_records.specs.declared.op.Op.{Op}
 use Rattle.zk_records.specs.declared.op.Op.TheVariants as ops
 use Rattle.zk_records.specs.Records.{stat, data_body, acl_body, children_body, create_body}
@@ -30,6 +30,14 @@ row_of ops.Create2 = holds (λ x. body.Create2 x.path x.stat) create_body
 row_of ops.Auth = bare body.Auth
 row_of ops.SetWatches = bare body.SetWatches
 row_of ops.CloseSession = bare body.CloseSession
+row_of ops.Reconfig = holds (λ x. body.Reconfig x.blob x.stat) data_body
+row_of ops.CheckWatches = bare body.CheckWatches
+row_of ops.RemoveWatches = bare body.RemoveWatches
+row_of ops.CreateContainer = holds (λ x. body.CreateContainer x.path x.stat) create_body
+row_of ops.CreateTtl = holds (λ x. body.CreateTtl x.path x.stat) create_body
+row_of ops.GetEphemerals = holds body.GetEphemerals (vector ustring)
+row_of ops.GetAllChildrenNumber = holds body.GetAllChildrenNumber int
+row_of ops.AddWatch = holds body.AddWatch int
 
 -- ---- what follows from a row
 
@@ -66,6 +74,14 @@ by_op P f (body.Create2 p s) = f ops.Create2 (record { path = p; stat = s })
 by_op P f body.Auth = f ops.Auth tt
 by_op P f body.SetWatches = f ops.SetWatches tt
 by_op P f body.CloseSession = f ops.CloseSession tt
+by_op P f (body.Reconfig b s) = f ops.Reconfig (record { blob = b; stat = s })
+by_op P f body.CheckWatches = f ops.CheckWatches tt
+by_op P f body.RemoveWatches = f ops.RemoveWatches tt
+by_op P f (body.CreateContainer p s) = f ops.CreateContainer (record { path = p; stat = s })
+by_op P f (body.CreateTtl p s) = f ops.CreateTtl (record { path = p; stat = s })
+by_op P f (body.GetEphemerals n) = f ops.GetEphemerals n
+by_op P f (body.GetAllChildrenNumber n) = f ops.GetAllChildrenNumber n
+by_op P f (body.AddWatch n) = f ops.AddWatch n
 
 -- ---- a body's operation, and its items
 
@@ -86,6 +102,14 @@ op_of_body (body.Create2 path s) = ops.Create2
 op_of_body body.Auth = ops.Auth
 op_of_body body.SetWatches = ops.SetWatches
 op_of_body body.CloseSession = ops.CloseSession
+op_of_body (body.Reconfig blob s) = ops.Reconfig
+op_of_body body.CheckWatches = ops.CheckWatches
+op_of_body body.RemoveWatches = ops.RemoveWatches
+op_of_body (body.CreateContainer path s) = ops.CreateContainer
+op_of_body (body.CreateTtl path s) = ops.CreateTtl
+op_of_body (body.GetEphemerals names) = ops.GetEphemerals
+op_of_body (body.GetAllChildrenNumber count) = ops.GetAllChildrenNumber
+op_of_body (body.AddWatch code) = ops.AddWatch
 
 abbrev pub body_items : Body → List Item
 body_items = by_op (λ _. List Item) (λ op x. items_in (row_of op) x)

@@ -35,26 +35,6 @@ pub fn borrow_connected<'a>(payload: &'a [u8]) -> Result<ServerRef<'a>, ItemFaul
     connected_in(payload)
 }
 
-/// The reply to `form`, borrowed, with the header `head`, which was read from the payload. Decides as `borrow_reply` does,
-/// and reads the header no second time.
-pub fn borrow_reply_under<'a, F: Asked>(
-    form: &F,
-    head: &ReplyHeader,
-    payload: &'a [u8],
-) -> Result<ServerRef<'a>, ItemFault>
-    requires head { (rest : List ℕ) × IsHead payload.now head.now rest }
-    requires reply { head.now.xid ≢ negsuc 0 }
-    // What is read has the form that the request fixes, and is the payload's one value.
-    ensures found { IfOk result (λ s. IsReplyTo (F.operation form.now) (F.part_ops form.now) s × IsSent s × (payload.now ≡ sent.payload s)) }
-    // What has the form is read.
-    ensures only { (s : held.ServerFrame) → IsReplyTo (F.operation form.now) (F.part_ops form.now) s → IsSent s → payload.now ≡ sent.payload s → result ≡ Ok s }
-    // Else the first case that applies is reported.
-    ensures fault { IfErr result (IsSurelyTold (IsReplyFault (F.operation form.now) (F.part_ops form.now) payload.now)) }
-{
-    judge_reply::<F, ItemFault>(form, head, payload)?;
-    Ok(known_reply::<JUDGED>(form.op(), payload))
-}
-
 /// A reply to the request `form`, borrowed. Decides as `read_reply` does, allocates nothing, and never returns `NoMemory`.
 /// Its header, if it is whole, has another xid than -1.
 pub fn borrow_reply<'a, F: Asked>(form: &F, payload: &'a [u8]) -> Result<ServerRef<'a>, ItemFault>
@@ -67,26 +47,8 @@ pub fn borrow_reply<'a, F: Asked>(form: &F, payload: &'a [u8]) -> Result<ServerR
     ensures fault { IfErr result (IsSurelyTold (IsReplyFault (F.operation form.now) (F.part_ops form.now) payload.now)) }
 {
     let (head, _) = read_ref::<ReplyHeader>(payload, 0)?;
-    borrow_reply_under(form, &head, payload)
-}
-
-/// An event, borrowed, with the header `head`, which was read from the payload. Decides as `borrow_event` does, and reads
-/// the header no second time.
-pub fn borrow_event_under<'a>(
-    head: &ReplyHeader,
-    payload: &'a [u8],
-) -> Result<ServerRef<'a>, ItemFault>
-    requires head { (rest : List ℕ) × IsHead payload.now head.now rest }
-    requires event { head.now.xid ≡ negsuc 0 }
-    // What is read has the form, and is the payload's one value.
-    ensures found { IfOk result (λ s. IsEvent s × IsSent s × (payload.now ≡ sent.payload s)) }
-    // What has the form is read.
-    ensures only { (s : held.ServerFrame) → IsEvent s → IsSent s → payload.now ≡ sent.payload s → result ≡ Ok s }
-    // Else the first case that applies is reported.
-    ensures fault { IfErr result (IsSurelyTold (IsEventFault payload.now)) }
-{
-    judge_event::<ItemFault>(head, payload)?;
-    Ok(event_ref(payload))
+    judge_reply::<F, ItemFault>(form, &head, payload)?;
+    Ok(known_reply::<JUDGED>(form.op(), payload))
 }
 
 /// An event, borrowed. Decides as `read_event` does, allocates nothing, and never returns `NoMemory`. Its header, if it
@@ -101,5 +63,6 @@ pub fn borrow_event<'a>(payload: &'a [u8]) -> Result<ServerRef<'a>, ItemFault>
     ensures fault { IfErr result (IsSurelyTold (IsEventFault payload.now)) }
 {
     let (head, _) = read_ref::<ReplyHeader>(payload, 0)?;
-    borrow_event_under(&head, payload)
+    judge_event::<ItemFault>(&head, payload)?;
+    Ok(event_ref(payload))
 }

@@ -86,6 +86,14 @@ pub enum BodyOf<T, B, L, A, M> {
     Auth,
     SetWatches,
     CloseSession,
+    Reconfig { blob: B, stat: Stat },
+    CheckWatches,
+    RemoveWatches,
+    CreateContainer { path: T, stat: Stat },
+    CreateTtl { path: T, stat: Stat },
+    GetEphemerals { names: L },
+    GetAllChildrenNumber { count: i32 },
+    AddWatch { code: i32 },
 }
 
 /// An owned `Body`.
@@ -159,12 +167,17 @@ macro_rules! body_rows {
             $($with)+:
             Create | Sync: path PATH text,
             Exists | SetData | SetAcl: stat NONE stat,
-            GetChildren: names CHILDREN texts;
+            GetChildren | GetEphemerals: names CHILDREN texts,
+            GetAllChildrenNumber: count COUNT int,
+            AddWatch: code CODE int;
             GetData: blob DATA blob DataBodyRef,
             GetAcl: acl ACL rights AclBodyRef,
             GetChildren2: names CHILDREN texts ChildrenBodyRef,
-            Create2: path PATH text CreateBodyRef;
-            Delete | Ping | Auth | SetWatches | CloseSession
+            Create2: path PATH text CreateBodyRef,
+            Reconfig: blob DATA blob DataBodyRef,
+            CreateContainer: path PATH text CreateBodyRef,
+            CreateTtl: path PATH text CreateBodyRef;
+            Delete | Ping | Auth | SetWatches | CloseSession | CheckWatches | RemoveWatches
         )
     };
 }

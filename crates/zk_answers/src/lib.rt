@@ -49,9 +49,7 @@ mod scan;
 mod write;
 
 pub use asked_form::{Form, form_of};
-pub use borrow::{
-    borrow_connected, borrow_event, borrow_event_under, borrow_reply, borrow_reply_under,
-};
+pub use borrow::{borrow_connected, borrow_event, borrow_reply};
 pub use done_list::DoneList;
 pub use frame::{
     Body, BodyOf, BodyRef, Failure, Outcome, OutcomeOf, OutcomeRef, PartDone, PartDoneOf,

@@ -1,12 +1,13 @@
 -- What is so or is not: numbers, operations, headers, and whether a request may have an xid.
-use Rattle.std.proofs.Common.{◌≡◌, ◌⊎◌, inl, inr, List, [], ◌∷◌, Bool, true, false, refl, ap}
-use Rattle.std.specs.Prelude.{ℤ}
+use Rattle.std.proofs.Common.{◌≡◌, ◌≤◌, ℕ, arith, ◌⊎◌, inl, inr, List, [], ◌∷◌, Bool, true, false, refl, ap}
+use Rattle.std.specs.Prelude.{ℤ, nat_le}
+use Rattle.std.proofs.{lemmas.Bool.cases_Bool, lemmas.Bool.Decides.nat_tests}
 use Rattle.std.specs.List.{All}
 use Rattle.std.proofs.{lemmas.List.Elements.All-nil, lemmas.List.Elements.All-cons, Math.IntN.ℤ_discrete}
 use Rattle.zk_records.specs.{declared.op.Op.Op, declared.header.MultiHeader.MultiHeader, declared.profile.Profile.Profile}
 use Rattle.zk_records.specs.declared.op.Op.TheVariants as ops
 use Rattle.zk_records.specs.declared.profile.Profile.TheVariants as profiles
-use Rattle.zk_records.specs.Codes.{op_row, op_number, all_ops, IsSince, HasOp, IsNoOp, all_parts}
+use Rattle.zk_records.specs.Codes.{op_row, op_number, all_ops, profile_number, IsSince, HasOp, IsNoOp, all_parts}
 use Rattle.zk_records.proofs.Numbers.{each_op, each_part, op_number_apart}
 use Rattle.zk_asks.specs.{Codes.event_xid, Codes.ping_xid, Codes.auth_xid, Codes.watches_xid, Codes.IsAllowed, Parts.part_header, Parts.end_header, Parts.MayStand}
 
@@ -57,10 +58,12 @@ among {X} P decide (x ∷ xs) = elim (decide x) [
   | inr n ↦ elim (among P decide xs) [ inl q ↦ inl q | inr none ↦ inr (All-cons (λ x. P x → ⊥) x xs n none) ]
 ]
 
+at_most_decided : (a b : ℕ) → Decided (a ≤ b)
+at_most_decided a b = elim (cases_Bool (nat_le a b)) [ inl is ↦ inl (grind (arith, nat_tests)) | inr not ↦ inr (λ e. grind (arith, nat_tests)) ]
+
 since_decided : (first profile : Profile) → Decided (IsSince first profile)
 since_decided profiles.V34 profile = inl tt
-since_decided profiles.V35 profiles.V34 = inr (λ e. absurd cc)
-since_decided profiles.V35 profiles.V35 = inl refl
+since_decided first profile = at_most_decided (profile_number first) (profile_number profile)
 
 -- the operation of a number
 pub number_decided : (profile : Profile) (number : ℤ) → ((op : Op) × HasOp profile op × (number ≡ op_number op)) ⊎ IsNoOp profile number

@@ -11,7 +11,7 @@ use Rattle.zk_records.specs.{Records.connect_request, Records.request_header, Re
 use Rattle.zk_records.specs.declared.op.Op.TheVariants as ops
 use Rattle.zk_records.specs.declared.op.PartOp.TheVariants as parts
 use Rattle.zk_records.specs.{declared.profile.Profile.Profile, Codes.op_number, Codes.HasOp}
-use Rattle.zk_records.proofs.Covered.{connect_request_covered, request_header_covered, multi_header_covered, create_ask_covered, delete_ask_covered, watch_ask_covered, set_data_ask_covered, path_ask_covered, set_acl_ask_covered, auth_ask_covered, set_watches_ask_covered, check_ask_covered}
+use Rattle.zk_records.proofs.Covered.{connect_request_covered, request_header_covered, multi_header_covered, create_ask_covered, delete_ask_covered, watch_ask_covered, create_ttl_ask_covered, watches_ask_covered, add_watch_ask_covered, reconfig_ask_covered, set_data_ask_covered, path_ask_covered, set_acl_ask_covered, auth_ask_covered, set_watches_ask_covered, check_ask_covered}
 use Rattle.zk_asks.specs.{Held.Ask, Held.Part, Held.ClientFrame, Codes.IsAllowed, Forms.header_items, Forms.HasHeader}
 use Rattle.zk_asks.specs.declared.frame.ClientFrameOf.TheVariants as frame
 use Rattle.zk_asks.specs.Parts.{part_row, part_layout, part_header, end_header, marked, op_of_part, record_of, part_items, multi_items}
@@ -64,7 +64,7 @@ Covered (holds make w) = Covers w
 Covered (bare a) = Unit {0}
 Covered (multi make) = Unit {0}
 
-ruleset records = (create_ask_covered, delete_ask_covered, watch_ask_covered, set_data_ask_covered, path_ask_covered, set_acl_ask_covered, auth_ask_covered, set_watches_ask_covered, check_ask_covered, tt)
+ruleset records = (create_ask_covered, delete_ask_covered, watch_ask_covered, create_ttl_ask_covered, watches_ask_covered, add_watch_ask_covered, reconfig_ask_covered, set_data_ask_covered, path_ask_covered, set_acl_ask_covered, auth_ask_covered, set_watches_ask_covered, check_ask_covered, tt)
 
 covered : (op : Op) → Covered (row_of op)
 covered ops.Create = create_ask_covered

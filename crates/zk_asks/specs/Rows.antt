@@ -1,7 +1,7 @@
 -- What each operation's request is made of: the one table.
 use Rattle.std.specs.Prelude.{List, []}
 use Rattle.zk_jute.specs.{Item.Item, Layout.Layout, Layout.End, Wired.Wired}
-use Rattle.zk_records.specs.Records.{create_ask, delete_ask, watch_ask, set_data_ask, path_ask, set_acl_ask, auth_ask, set_watches_ask}
+use Rattle.zk_records.specs.Records.{add_watch_ask, watches_ask, create_ttl_ask, reconfig_ask, create_ask, delete_ask, watch_ask, set_data_ask, path_ask, set_acl_ask, auth_ask, set_watches_ask}
 use Rattle.zk_records.specs.declared.op.Op.{Op}
 use Rattle.zk_records.specs.declared.op.Op.TheVariants as ops
 use Rattle.zk_asks.specs.{declared.frame.AskOf.AskOf, Held.Part, Held.Ask, Parts.multi_items}
@@ -30,6 +30,14 @@ row_of ops.Create2 = holds ask.Create2 create_ask
 row_of ops.Auth = holds ask.Auth auth_ask
 row_of ops.SetWatches = holds ask.SetWatches set_watches_ask
 row_of ops.CloseSession = bare ask.CloseSession
+row_of ops.Reconfig = holds ask.Reconfig reconfig_ask
+row_of ops.CheckWatches = holds ask.CheckWatches watches_ask
+row_of ops.RemoveWatches = holds ask.RemoveWatches watches_ask
+row_of ops.CreateContainer = holds ask.CreateContainer create_ask
+row_of ops.CreateTtl = holds ask.CreateTtl create_ttl_ask
+row_of ops.GetEphemerals = holds ask.GetEphemerals path_ask
+row_of ops.GetAllChildrenNumber = holds ask.GetAllChildrenNumber path_ask
+row_of ops.AddWatch = holds ask.AddWatch add_watch_ask
 
 -- ---- what follows from a row
 
@@ -76,6 +84,14 @@ by_op P f (ask.Create2 a) = f ops.Create2 a
 by_op P f (ask.Auth a) = f ops.Auth a
 by_op P f (ask.SetWatches a) = f ops.SetWatches a
 by_op P f ask.CloseSession = f ops.CloseSession tt
+by_op P f (ask.Reconfig a) = f ops.Reconfig a
+by_op P f (ask.CheckWatches a) = f ops.CheckWatches a
+by_op P f (ask.RemoveWatches a) = f ops.RemoveWatches a
+by_op P f (ask.CreateContainer a) = f ops.CreateContainer a
+by_op P f (ask.CreateTtl a) = f ops.CreateTtl a
+by_op P f (ask.GetEphemerals a) = f ops.GetEphemerals a
+by_op P f (ask.GetAllChildrenNumber a) = f ops.GetAllChildrenNumber a
+by_op P f (ask.AddWatch a) = f ops.AddWatch a
 
 -- ---- an ask's operation, and its items
 
@@ -96,6 +112,14 @@ op_of_ask (ask.Create2 x) = ops.Create2
 op_of_ask (ask.Auth x) = ops.Auth
 op_of_ask (ask.SetWatches x) = ops.SetWatches
 op_of_ask ask.CloseSession = ops.CloseSession
+op_of_ask (ask.Reconfig x) = ops.Reconfig
+op_of_ask (ask.CheckWatches x) = ops.CheckWatches
+op_of_ask (ask.RemoveWatches x) = ops.RemoveWatches
+op_of_ask (ask.CreateContainer x) = ops.CreateContainer
+op_of_ask (ask.CreateTtl x) = ops.CreateTtl
+op_of_ask (ask.GetEphemerals x) = ops.GetEphemerals
+op_of_ask (ask.GetAllChildrenNumber x) = ops.GetAllChildrenNumber
+op_of_ask (ask.AddWatch x) = ops.AddWatch
 
 abbrev pub body_items : Ask → List Item
 body_items = by_op (λ _. List Item) (λ op x. items_in (row_of op) x)

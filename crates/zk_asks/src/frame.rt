@@ -5,8 +5,9 @@ ghost use Rattle.zk_asks.specs.{Parts.op_of_part, Rows.op_of_ask, Frames.parts_o
 use crate::part_list::PartList;
 use zk_jute::{Blob, BlobRef, Items, List, Text, TextList, TextRef};
 use zk_records::{
-    Acl, AclList, AuthAskOf, CheckAskOf, ConnectRequestOf, CreateAskOf, DeleteAskOf, Op, PartOp,
-    PathAskOf, SetAclAskOf, SetDataAskOf, SetWatchesAskOf, WatchAskOf,
+    Acl, AclList, AddWatchAskOf, AuthAskOf, CheckAskOf, ConnectRequestOf, CreateAskOf,
+    CreateTtlAskOf, DeleteAskOf, Op, PartOp, PathAskOf, ReconfigAskOf, SetAclAskOf, SetDataAskOf,
+    SetWatchesAskOf, WatchAskOf, WatchesAskOf,
 };
 
 /// `part_rows!(row, with)` is `row!(with: Create: CreateAsk CreateAskRef, ..)` with the operations that a part may have, by
@@ -74,6 +75,14 @@ pub enum AskOf<T, B, L, A, M> {
     Auth(AuthAskOf<T, B>),
     SetWatches(SetWatchesAskOf<L>),
     CloseSession,
+    Reconfig(ReconfigAskOf<T>),
+    CheckWatches(WatchesAskOf<T>),
+    RemoveWatches(WatchesAskOf<T>),
+    CreateContainer(CreateAskOf<T, B, A>),
+    CreateTtl(CreateTtlAskOf<T, B, A>),
+    GetEphemerals(PathAskOf<T>),
+    GetAllChildrenNumber(PathAskOf<T>),
+    AddWatch(AddWatchAskOf<T>),
 }
 
 /// An owned `Ask`.
@@ -89,14 +98,18 @@ macro_rules! ask_rows {
     ($row:ident, $($with:tt)+) => {
         $row!(
             $($with)+:
-            Create | Create2: CreateAsk CreateAskRef,
+            Create | Create2 | CreateContainer: CreateAsk CreateAskRef,
+            CreateTtl: CreateTtlAsk CreateTtlAskRef,
             Delete: DeleteAsk DeleteAskRef,
             Exists | GetData | GetChildren | GetChildren2: WatchAsk WatchAskRef,
             SetData: SetDataAsk SetDataAskRef,
-            GetAcl | Sync: PathAsk PathAskRef,
+            GetAcl | Sync | GetEphemerals | GetAllChildrenNumber: PathAsk PathAskRef,
             SetAcl: SetAclAsk SetAclAskRef,
             Auth: AuthAsk AuthAskRef,
-            SetWatches: SetWatchesAsk SetWatchesAskRef;
+            SetWatches: SetWatchesAsk SetWatchesAskRef,
+            CheckWatches | RemoveWatches: WatchesAsk WatchesAskRef,
+            AddWatch: AddWatchAsk AddWatchAskRef,
+            Reconfig: ReconfigAsk ReconfigAskRef;
             Ping | CloseSession
         )
     };

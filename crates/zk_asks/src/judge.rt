@@ -9,8 +9,9 @@ use crate::part_list::multi_end;
 use crate::request::MultiRef;
 use zk_jute::{Ends, Reason, Sequence, Verdict, read_ref};
 use zk_records::{
-    AuthAskRef, CreateAskRef, DeleteAskRef, Op, PathAskRef, Profile, RequestHeader, SetAclAskRef,
-    SetDataAskRef, SetWatchesAskRef, WatchAskRef, op_of,
+    AddWatchAskRef, AuthAskRef, CreateAskRef, CreateTtlAskRef, DeleteAskRef, Op, PathAskRef,
+    Profile, ReconfigAskRef, RequestHeader, SetAclAskRef, SetDataAskRef, SetWatchesAskRef,
+    WatchAskRef, WatchesAskRef, op_of,
 };
 
 /// The bytes of a request's header.

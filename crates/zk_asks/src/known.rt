@@ -11,8 +11,9 @@ use crate::judge::{HEADER, Outline};
 use crate::multi::known_multi;
 use zk_jute::{Sequence, known_at, known_flagged};
 use zk_records::{
-    AuthAskRef, CreateAskRef, DeleteAskRef, Op, PathAskRef, Profile, RequestHeader, SetAclAskRef,
-    SetDataAskRef, SetWatchesAskRef, WatchAskRef, op_of,
+    AddWatchAskRef, AuthAskRef, CreateAskRef, CreateTtlAskRef, DeleteAskRef, NEWEST, Op,
+    PathAskRef, ReconfigAskRef, RequestHeader, SetAclAskRef, SetDataAskRef, SetWatchesAskRef,
+    WatchAskRef, WatchesAskRef, op_of,
 };
 
 /// The callers of `body_there`: each has an instance of its own, which is inlined, since a call would cost a view.
@@ -47,7 +48,7 @@ fn known_ask<'a, const FOR: u8>(payload: &'a [u8]) -> ClientRef<'a>
     ensures { (f : ClientFrame) → IsLater f → HaveBytes (frames.frame_items f) → payload.now ≡ frames.payload f → result ≡ f }
 {
     let (header, place) = known_at::<RequestHeader>(payload, 0);
-    let op = op_of(Profile::V35, header.kind).unwrap();
+    let op = op_of(NEWEST, header.kind).unwrap();
     let ask = body_there::<FOR>(payload, place, op);
     ClientFrameOf::Ask {
         xid: header.xid,

@@ -1,5 +1,5 @@
 mod Boxed
-mod Copied
+mod Encoded
 mod Cutting
 pub mod Handles
 mod Keeping

@@ -3,8 +3,8 @@ use Rattle.std.proofs.Common.{◌≡◌, ℕ, ◌+◌, ◌<◌, ℤ, List, [], �
 use Rattle.std.proofs.lemmas.List.{map-append, get_or-map, length-map, take_more}
 use Rattle.zk_records.specs.{Codes.part_number, Codes.IsNoOp, declared.op.PartOp.PartOp, declared.op.Op.Op}
 use Rattle.zk_records.specs.declared.op.PartOp.TheVariants.{Create, Delete, SetData, Check}
-use Rattle.zk_records.specs.declared.profile.Profile.TheVariants as profiles
-use Rattle.zk_records.proofs.Numbers.{newer_has, op_number_apart}
+use Rattle.zk_records.specs.declared.profile.TheConstants.{NEWEST}
+use Rattle.zk_records.proofs.Numbers.{newest_has, op_number_apart}
 use Rattle.zk_c.specs.Asked.{part_of, parts_of, AreParts, AreAsked, WhereAsked}
 
 pub one_more : (numbers : List ℤ) (i : ℕ) (d : ℤ) (parts : List PartOp) (op : PartOp) → i < length numbers → AreParts (take i numbers) parts → get_or numbers i d ≡ part_number op
@@ -39,8 +39,8 @@ where_asked {number = number} {numbers = numbers} {op = op} {parts = parts} Hold
     subst (λ (p : Op × List PartOp). Holds p.0 p.1) (λ i. (one.0 i, one.1 i)) holds
 
 -- what was asked by a number is of an operation
-pub of_one : {A : Type 0} {number same : ℤ} {numbers : List ℤ} {op : Op} {parts : List PartOp} → same ≡ number → AreAsked same numbers op parts → IsNoOp profiles.V35 number → A
-of_one {op = op} is asked none = absurd (none op (newer_has op) (sym is ∙ asked.is))
+pub of_one : {A : Type 0} {number same : ℤ} {numbers : List ℤ} {op : Op} {parts : List PartOp} → same ≡ number → AreAsked same numbers op parts → IsNoOp NEWEST number → A
+of_one {op = op} is asked none = absurd (none op (newest_has op) (sym is ∙ asked.is))
 
 pub as_many : (numbers : List ℤ) (parts : List PartOp) → AreParts numbers parts → length numbers ≡ length parts
 as_many numbers parts are = ap length are ∙ length-map parts part_number

@@ -2,8 +2,6 @@
 use Rattle.std.proofs.Common.{◌≡◌, ℕ, ℤ, ◌-◌, ◌<◌, List, length, refl, sym, ap, subst, ◌∙◌, arith, inl, inr}
 use Rattle.std.proofs.lemmas.Bool.Decides.{nat_tests}
 use Rattle.zk_talk.specs.Held.{Message}
-use Rattle.zk_records.specs.{declared.profile.Profile.Profile, Codes.profile_number}
-use Rattle.zk_records.specs.declared.profile.Profile.TheVariants.{V34, V35}
 use Rattle.zk_fields.specs.{declared.field.Field.Field, Frames.AreWritten, declared.payload_fields.Opened.Opened}
 use Rattle.zk_c.specs.{declared.read_answer.ReadAnswer.ReadAnswer, Answer.message_head, Judged.IsOfForm}
 use Rattle.std.specs.Prelude.{pos, true, nat_lt, Option, Result, Ok, Err}
@@ -44,14 +42,6 @@ pub read_err : {A : Type 0} (message : A → Message) {Form Sent : A → Type 0}
     ((y : A) → Form y → Sent y → payload ≡ payload_of y → ◌≡◌ {A = Result A ItemFault} (Err fault) (Ok y)) → IsSurelyTold IsFault fault → IsOpened opened → TellsRefused opened payload fault before after answer →
     Reads message (IsOfForm Form Sent payload_of payload) IsFault IsOpened payload before after answer
 read_err message only told is_opened tells = record { only = λ y is. let e = only y is.form is.sent is.is in absurd (cc); found = inr (refused_as told is_opened tells) }
-
--- ---- which profile
-
-pub profile_apart : (p q : Profile) → profile_number p ≡ profile_number q → p ≡ q
-profile_apart V34 V34 e = refl
-profile_apart V34 V35 e = absurd (omega (arith, e))
-profile_apart V35 V34 e = absurd (omega (arith, e))
-profile_apart V35 V35 e = refl
 
 pub tells_refused : (o : Option Opened) (payload : List ℕ) (fault : ItemFault) (before after : List Field) (count : ℕ) (head answer : ReadAnswer) → AreWritten (fields_before o payload fault.place) before after count → head ≡ head_of o payload → answer ≡ refused_read head fault count
     → TellsRefused o payload fault before after answer

@@ -34,7 +34,7 @@ Renews IsRenewed = Changes (λ n. n) (λ x status after. (status ≡ 0) × IsSom
 
 -- how making a value ends, of limits of these numbers
 pub record IsMaking {A : Type 0} (client server waiting profile : ℕ) (before : Option A) (status : ℕ) : Type 0 where
-  -- a handle that holds a value keeps it
+  -- a handle that has a value has one still
   pub in_use : IsSome before → status ≡ 66
   -- limits out of their ranges are refused as that, and those in them only if memory is refused
   pub limits : before ≡ None → AreNoLimits client server waiting profile → status ≡ 67

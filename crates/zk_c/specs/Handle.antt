@@ -1,11 +1,11 @@
--- What the talk behind a handle does.
+-- What a handle's talk does.
 use Rattle.std.specs.Prelude.{◌≡◌, ◌≢◌, ℕ, ◌<◌, ◌+◌, Bool, true, false, List, [], ◌++◌, length, drop, Option, Some, None, Result, Ok, Err, IfOk, IfErr, OnErr, IsSomeAnd, MatchBool}
 use Rattle.zk_jute.specs.declared.fault.Reason.TheVariants.{NoMemory}
 use Rattle.zk_talk.specs.{declared.message.Side.Side, declared.message.Fault.Fault, declared.talk.Stepped.Stepped, declared.message.Ending.Ending, declared.message.Ending.TheVariants.Refused, declared.limits.Limits.Limits, Held.Message}
 use Rattle.zk_talk.specs.declared.message.Side.TheVariants.{Client, Server}
 use Rattle.zk_talk.specs.{History.History, Conversation.Conversation, Conversation.number_waiting, Conversation.load, Fault.rest_on, Ending.IsEnding, Numbers.NewestAnswers, Said.payload_of}
 use Rattle.zk_talk.specs.Stands.{TalkState, Stands, Refuses, WhereItStands, WhereItRefuses, held_on, kept_on, frames_on}
-use Rattle.zk_talk.specs.{Taking.StepsOn, Taking.PassesOn, Taking.IsRefused, Taking.given_up, Offered.IsOneFrame, Offered.IsNotOneFrame, Offered.WouldRefuse, Viewed.Shows, Viewed.Leaves, Viewed.other_side, Ranges.AreLimits}
+use Rattle.zk_talk.specs.{Taking.StepsOn, Taking.PassesOn, Taking.IsRefused, Taking.dropped, Offered.IsOneFrame, Offered.IsNotOneFrame, Offered.WouldRefuse, Viewed.Shows, Viewed.Leaves, Viewed.other_side, Ranges.AreLimits}
 use Rattle.zk_c.specs.{declared.answer.StepAnswer.StepAnswer, Answer.step_answer, Answer.offer_answer, Answer.no_message, Answer.message_answer, Answer.no_line, declared.answer.MessageAnswer.MessageAnswer, declared.answer.LineAnswer.LineAnswer}
 use Rattle.zk_records.specs.{declared.profile.Profile.Profile, Codes.profile_number}
 use Rattle.zk_c.specs.{declared.answer.WaitingAnswer.WaitingAnswer, declared.answer.HeldAnswer.HeldAnswer, declared.read_answer.ReadAnswer.ReadAnswer, Read.no_read, Read.TellsMessage}
@@ -14,50 +14,50 @@ use Rattle.zk_lines.specs.{Lines.line, Endings.ending_text}
 
 -- what both `Talk::step` and `Talk::pass` promise; the bytes that were used did what `Goes` says
 pub record IsAdvanced (Goes : ℕ → Bool → Type 0) (old : TalkState) (side : Side) (piece : List ℕ)
-    (outcome : Result Stepped Fault) (new : TalkState) : Type 0 where
+    (result : Result Stepped Fault) (new : TalkState) : Type 0 where
   pub limits : new.limits ≡ old.limits
-  pub ok : IfOk outcome (λ s. Goes s.used s.whole)
-  pub exact : IfOk outcome (λ s. s.whole ≡ false → s.used ≡ length piece)
+  pub ok : IfOk result (λ s. Goes s.used s.whole)
+  pub exact : IfOk result (λ s. s.whole ≡ false → s.used ≡ length piece)
   pub other : Leaves (other_side side) old new
-  pub err : IfErr outcome (λ e. (e.reason ≢ NoMemory) × IsRefused old side piece e new)
-  pub kept : (f : Fault) → old.fault ≡ Some f → (outcome ≡ Err f) × (new ≡ given_up side old)
+  pub err : IfErr result (λ e. (e.reason ≢ NoMemory) × IsRefused old side piece e new)
+  pub kept : (f : Fault) → old.fault ≡ Some f → (result ≡ Err f) × (new ≡ dropped side old)
 
 -- what `Talk::step` promises
-pub record IsStep (old : TalkState) (side : Side) (piece : List ℕ) (outcome : Result Stepped Fault) (new : TalkState) : Type 0 where
-  pub advanced : IsAdvanced (λ used whole. StepsOn old side piece used whole new) old side piece outcome new
-  pub none : OnErr outcome (kept_on side new ≡ [])
+pub record IsStep (old : TalkState) (side : Side) (piece : List ℕ) (result : Result Stepped Fault) (new : TalkState) : Type 0 where
+  pub advanced : IsAdvanced (λ used whole. StepsOn old side piece used whole new) old side piece result new
+  pub none : OnErr result (kept_on side new ≡ [])
 
 -- what `Talk::pass` promises
-pub record IsPass (old : TalkState) (side : Side) (piece : List ℕ) (outcome : Result Stepped Fault) (new : TalkState) : Type 0 where
-  pub advanced : IsAdvanced (λ used whole. PassesOn old side piece used whole new) old side piece outcome new
-  pub given_up : kept_on side new ≡ []
+pub record IsPass (old : TalkState) (side : Side) (piece : List ℕ) (result : Result Stepped Fault) (new : TalkState) : Type 0 where
+  pub advanced : IsAdvanced (λ used whole. PassesOn old side piece used whole new) old side piece result new
+  pub dropped : kept_on side new ≡ []
 
 -- what `Talk::offer` promises
-pub record IsOffer (old : TalkState) (side : Side) (frame : List ℕ) (outcome : Result Bool Fault) (new : TalkState) : Type 0 where
+pub record IsOffer (old : TalkState) (side : Side) (frame : List ℕ) (result : Result Bool Fault) (new : TalkState) : Type 0 where
   pub limits : new.limits ≡ old.limits
-  pub taken : IfOk outcome (λ took. took ≡ true → StepsOn old side frame (length frame) true new)
-  pub one : IfOk outcome (λ took. MatchBool took (IsOneFrame old side frame) (IsNotOneFrame old side frame))
-  pub only : IsNotOneFrame old side frame → old.fault ≡ None → outcome ≡ Ok false
-  pub same : outcome ≢ Ok true → new ≡ old
+  pub taken : IfOk result (λ took. took ≡ true → StepsOn old side frame (length frame) true new)
+  pub one : IfOk result (λ took. MatchBool took (IsOneFrame old side frame) (IsNotOneFrame old side frame))
+  pub only : IsNotOneFrame old side frame → old.fault ≡ None → result ≡ Ok false
+  pub same : result ≢ Ok true → new ≡ old
   pub other : Leaves (other_side side) old new
-  pub err : IfErr outcome (λ e. (e.reason ≢ NoMemory) × WouldRefuse old side frame e)
-  pub kept : (f : Fault) → old.fault ≡ Some f → outcome ≡ Err f
+  pub err : IfErr result (λ e. (e.reason ≢ NoMemory) × WouldRefuse old side frame e)
+  pub kept : (f : Fault) → old.fault ≡ Some f → result ≡ Err f
 
 -- a call that takes a piece of a side
 abbrev pub Call : Type 1
 Call = TalkState → Side → List ℕ → Result Stepped Fault → TalkState → Type 0
 
--- the answer is that of an outcome, of which this holds with the value that is left
+-- the answer is that of a result, of which this holds with the value that is left
 pub record IsAnswerOf {A R X : Type 0} (answer_of : R → X) (Is : R → A → Type 0) (answer : X) (new : A) : Type 0 where
-  pub outcome : R
-  pub told : answer ≡ answer_of outcome
-  pub is : Is outcome new
+  pub result : R
+  pub told : answer ≡ answer_of result
+  pub is : Is result new
 
--- the answer is that of such a call of the talk, which goes on behind the handle
+-- the answer is that of such a call of the talk, which the handle goes on with
 abbrev pub Tells : Call → TalkState → Side → List ℕ → StepAnswer → Option TalkState → Type 0
 Tells Is old side piece answer after = IsSomeAnd after (IsAnswerOf step_answer (Is old side piece) answer)
 
--- the answer is that of an offer to the talk, which goes on behind the handle
+-- the answer is that of an offer to the talk, which the handle goes on with
 abbrev pub TellsOffer : TalkState → Side → List ℕ → StepAnswer → Option TalkState → Type 0
 TellsOffer old side frame answer after = IsSomeAnd after (IsAnswerOf (offer_answer (length frame)) (IsOffer old side frame) answer)
 
@@ -72,7 +72,7 @@ pub record AreNumbers (c s w p : ℕ) (limits : Limits) : Type 0 where
 abbrev pub AreNoLimits : ℕ → ℕ → ℕ → ℕ → Type 0
 AreNoLimits client server waiting profile = (p : Profile) → profile ≡ profile_number p → AreLimits client server waiting → ⊥
 
--- a value whose limits are these numbers is behind the handle, and has begun
+-- the handle has a value whose limits are these numbers, and which has begun
 abbrev pub IsMadeOf : {A : Type 0} → (A → Limits) → (A → Type 0) → ℕ → ℕ → ℕ → ℕ → Option A → Type 0
 IsMadeOf limits_of Begun client server waiting profile after =
     IsSomeAnd after (λ value. AreNumbers client server waiting profile (limits_of value) × Begun value)
@@ -87,7 +87,7 @@ pub record HasBegun (talk : TalkState) : Type 0 where
   pub stands : Stands talk [] []
   pub none : (talk.client_kept ≡ []) × (talk.server_kept ≡ [])
 
--- a talk of these limits is behind the handle, and nothing has come
+-- the handle has a talk of these limits, and nothing has come
 abbrev pub IsNew : ℕ → ℕ → ℕ → ℕ → Option TalkState → Type 0
 IsNew = IsMadeOf (λ (t : TalkState). t.limits) HasBegun
 

@@ -8,7 +8,7 @@ pub mod Judged
 pub mod Read
 pub mod Cut
 pub mod Listing
-pub mod Voice
+pub mod HeldSpeaker
 pub mod Saying
 pub mod Passage
 pub mod Passing

@@ -1,9 +1,9 @@
--- What the passage behind a handle does.
+-- What a handle's passage does.
 use Rattle.std.specs.Prelude.{◌≡◌, ℕ, pos, Bool, true, false, List, [], Option, Some, Result, Ok, Err, IfOk, IfErr, OnErr, IsSomeAnd}
 use Rattle.zk_talk.specs.{declared.message.Side.Side, declared.message.Fault.Fault, declared.message.Ending.Ending, declared.message.Ending.TheVariants.Refused, History.History, Held.Message, Stands.kept_on, Viewed.Shows, Viewed.other_side}
-use Rattle.zk_through.specs.{declared.through.Passed.Passed, declared.through.Went.Went, Came.Came, Resumed.IsLate}
-use Rattle.zk_through.specs.declared.through.Went.TheVariants as went
-use Rattle.zk_through.specs.Runs.{Runs, WentOn, IsRefused, IsNeverFull, LeavesSide, KeepsWaiting, KeepsNone, IsEndOf, KeepsNothing, given_up, silenced, stream_on}
+use Rattle.zk_through.specs.{declared.through.Passed.Passed, declared.through.StepOutcome.StepOutcome, Came.Came, Resumed.IsLate}
+use Rattle.zk_through.specs.declared.through.StepOutcome.TheVariants as outcome
+use Rattle.zk_through.specs.Runs.{Runs, HasOutcome, IsRefused, IsNeverFull, LeavesSide, KeepsWaiting, KeepsNone, IsEndOf, KeepsNothing, dropped, silenced, stream_on}
 use Rattle.zk_fields.specs.declared.field.Field.{Field}
 use Rattle.zk_c.specs.{declared.answer.MessageAnswer.MessageAnswer, declared.answer.LineAnswer.LineAnswer, declared.passed.PassedAnswer.PassedAnswer, declared.read_answer.ReadAnswer.ReadAnswer, Numbers.reason_number}
 use Rattle.zk_c.specs.Answer.{no_fault, fault_numbers, no_message, message_answer, no_line}
@@ -19,46 +19,46 @@ no_passed status = record { used = 0; status = status; went = 0; xid = pos 0; op
 abbrev pub step_of : ℕ → ℕ → PassedAnswer
 step_of used number = record (no_passed 0) { used = used; went = number }
 
-abbrev pub went_answer : ℕ → Went → PassedAnswer
-went_answer used went.Within = step_of used 0
-went_answer used went.Message = step_of used 1
-went_answer used (went.Asked turn) = record (step_of used 2) { xid = turn.xid; operation = turn.number; frame = turn.frame }
-went_answer used (went.Answered turn) = record (step_of used 3) { xid = turn.xid; operation = turn.number; frame = turn.frame }
-went_answer used (went.Unseen xid zxid err) = record (step_of used 5) { xid = xid; zxid = zxid; err = err }
-went_answer used went.Full = step_of used 4
+abbrev pub outcome_answer : ℕ → StepOutcome → PassedAnswer
+outcome_answer used outcome.Within = step_of used 0
+outcome_answer used outcome.Message = step_of used 1
+outcome_answer used (outcome.Asked turn) = record (step_of used 2) { xid = turn.xid; operation = turn.number; frame = turn.frame }
+outcome_answer used (outcome.Answered turn) = record (step_of used 3) { xid = turn.xid; operation = turn.number; frame = turn.frame }
+outcome_answer used (outcome.Unseen xid zxid err) = record (step_of used 5) { xid = xid; zxid = zxid; err = err }
+outcome_answer used outcome.Full = step_of used 4
 
 abbrev pub passed_answer : Result Passed Fault → PassedAnswer
-passed_answer (Ok s) = went_answer s.used s.went
+passed_answer (Ok s) = outcome_answer s.used s.outcome
 passed_answer (Err f) = record (no_passed (reason_number f.reason)) { fault = fault_numbers f }
 
 -- whether the side's newest whole frame is a message, after this
-abbrev pub newest : Went → Bool → Bool
-newest went.Within was = was
-newest went.Message was = true
-newest (went.Asked turn) was = false
-newest (went.Answered turn) was = false
-newest (went.Unseen xid zxid err) was = false
-newest went.Full was = was
+abbrev pub newest : StepOutcome → Bool → Bool
+newest outcome.Within was = was
+newest outcome.Message was = true
+newest (outcome.Asked turn) was = false
+newest (outcome.Answered turn) was = false
+newest (outcome.Unseen xid zxid err) was = false
+newest outcome.Full was = was
 
 abbrev pub newest_after : Result Passed Fault → Bool → Bool
-newest_after (Ok s) was = newest s.went was
+newest_after (Ok s) was = newest s.outcome was
 newest_after (Err f) was = was
 
 -- what `Through::step` promises, and which frame is the side's newest
-pub record IsPassing (old : PassageState) (side : Side) (piece : List ℕ) (outcome : Result Passed Fault) (new : PassageState) : Type 0 where
+pub record IsPassing (old : PassageState) (side : Side) (piece : List ℕ) (result : Result Passed Fault) (new : PassageState) : Type 0 where
   pub limits : new.through.talk.limits ≡ old.through.talk.limits
   pub late : new.through.late ≡ old.through.late
-  pub ok : IfOk outcome (λ s. WentOn old.through side piece s.used s.went new.through)
-  pub err : IfErr outcome (λ e. IsRefused old.through side piece e new.through)
-  pub room : IfErr outcome (λ e. IsNeverFull old.through e)
-  pub waits : OnErr outcome (KeepsWaiting old.through new.through)
+  pub ok : IfOk result (λ s. HasOutcome old.through side piece s.used s.outcome new.through)
+  pub err : IfErr result (λ e. IsRefused old.through side piece e new.through)
+  pub room : IfErr result (λ e. IsNeverFull old.through e)
+  pub waits : OnErr result (KeepsWaiting old.through new.through)
   pub other : LeavesSide (other_side side) old.through new.through
-  pub none : OnErr outcome (KeepsNone side old.through new.through)
-  pub kept : (f : Fault) → old.through.fault ≡ Some f → (outcome ≡ Err f) × (new.through ≡ silenced side (given_up side old.through))
-  pub newest : newest_on side new ≡ newest_after outcome (newest_on side old)
+  pub none : OnErr result (KeepsNone side old.through new.through)
+  pub kept : (f : Fault) → old.through.fault ≡ Some f → (result ≡ Err f) × (new.through ≡ silenced side (dropped side old.through))
+  pub newest : newest_on side new ≡ newest_after result (newest_on side old)
   pub others : newest_on (other_side side) new ≡ newest_on (other_side side) old
 
--- the answer is that of such a step of the passage, which goes on behind the handle
+-- the answer is that of such a step of the passage, which the handle goes on with
 abbrev pub TellsStep : PassageState → Side → List ℕ → PassedAnswer → Option PassageState → Type 0
 TellsStep old side piece answer after = IsSomeAnd after (IsAnswerOf passed_answer (IsPassing old side piece) answer)
 
@@ -78,7 +78,7 @@ abbrev pub Begins : Bool → PassageState → Type 0
 Begins false p = HasBegun p
 Begins true p = HasJoined p
 
--- a passage of these limits is behind the handle, and has begun so
+-- the handle has a passage of these limits, which has begun so
 abbrev pub IsMade : Bool → ℕ → ℕ → ℕ → ℕ → Option PassageState → Type 0
 IsMade late = IsMadeOf (λ (p : PassageState). p.through.talk.limits) (Begins late)
 

@@ -1,4 +1,4 @@
--- What the speaker behind a handle does.
+-- What a handle's speaker does.
 use Rattle.std.specs.Prelude.{◌≡◌, ◌≢◌, ℕ, ◌⊎◌, List, [], ◌∷◌, ◌++◌, length, Option, IsSomeAnd}
 use Rattle.zk_frames.specs.Framing.{frame}
 use Rattle.zk_items.specs.{declared.fault.LineFault.LineFault, declared.fault.LineReason.LineReason}
@@ -8,7 +8,7 @@ use Rattle.zk_talk.specs.declared.say.SayFault.TheVariants.{NotFirst, Unasked, X
 use Rattle.zk_talk.specs.declared.payload.PayloadFault.TheVariants.{Item, Say}
 use Rattle.zk_talk.specs.SaidPayload.{SaysPayload, RefusesPayload, StandsPayload, CannotSay}
 use Rattle.zk_lines.specs.Lines.{line, Fits}
-use Rattle.zk_c.specs.{declared.say_result.SayAnswer.SayAnswer, declared.payload.PayloadAnswer.PayloadAnswer, Numbers.reason_number, Judged.payload_answer, Voice.VoiceState, Handle.IsMadeOf, Handle.BeginsAnew}
+use Rattle.zk_c.specs.{declared.say_result.SayAnswer.SayAnswer, declared.payload.PayloadAnswer.PayloadAnswer, Numbers.reason_number, Judged.payload_answer, HeldSpeaker.HeldSpeakerState, Handle.IsMadeOf, Handle.BeginsAnew}
 
 abbrev pub say_number : SayFault → ℕ
 say_number NotFirst = 81
@@ -33,7 +33,7 @@ abbrev pub say_answer : ℕ → ℕ → ℕ → SayAnswer
 say_answer status length column = record { status = status; length = length; column = column }
 
 -- the frame is dropped
-abbrev pub silent : VoiceState → VoiceState
+abbrev pub silent : HeldSpeakerState → HeldSpeakerState
 silent v = record v { frame = [] }
 
 -- why the message isn't said: memory was refused, for one that may be said; or the case that refuses what may not be said
@@ -43,7 +43,7 @@ pub record IsRefusal (s : SpeakerState) (m : Message) (e : SayFault) : Type 0 wh
   pub exact : e ≢ NoMemory → (before : List Message) → Says s before → MaySay s.limits before m → ⊥
 
 -- what a call does with the text of a line
-pub data TellsSay (old : VoiceState) (text : List ℕ) (new : VoiceState) (answer : SayAnswer) : Type 0 where
+pub data TellsSay (old : HeldSpeakerState) (text : List ℕ) (new : HeldSpeakerState) (answer : SayAnswer) : Type 0 where
   -- the line is this message's, which may be said after those that were said, and was said
   said : (m : Message) → Fits m → text ≡ line m → new.speaker.limits ≡ old.speaker.limits →
       new.frame ≡ frame (payload_of m) → answer ≡ say_answer 0 (length new.frame) 0 →
@@ -68,7 +68,7 @@ pub record IsPayloadRefused (s : SpeakerState) (side : Side) (p : List ℕ) (e :
   pub exact : e ≢ Say NoMemory → CannotSay s side p
 
 -- what a call does with a payload of the side
-pub data TellsPayload (old : VoiceState) (side : Side) (p : List ℕ) (new : VoiceState) (answer : PayloadAnswer) : Type 0 where
+pub data TellsPayload (old : HeldSpeakerState) (side : Side) (p : List ℕ) (new : HeldSpeakerState) (answer : PayloadAnswer) : Type 0 where
   -- it is a message's, which may be said after those that were said, and was said
   payload_said : new.speaker.limits ≡ old.speaker.limits → new.frame ≡ frame p → answer ≡ payload_answer 0 0 →
       SaysPayload old.speaker side p new.speaker → TellsPayload old side p new answer
@@ -76,23 +76,23 @@ pub data TellsPayload (old : VoiceState) (side : Side) (p : List ℕ) (new : Voi
   payload_refused : (e : PayloadFault) → new ≡ silent old → answer ≡ refused_payload e →
       IsPayloadRefused old.speaker side p e → TellsPayload old side p new answer
 
--- the speaker behind the handle says the payload
-abbrev pub SaysBytes : VoiceState → Side → List ℕ → PayloadAnswer → Option VoiceState → Type 0
-SaysBytes old side p answer after = IsSomeAnd after (λ voice. TellsPayload old side p voice answer)
+-- the handle's speaker says the payload
+abbrev pub SaysBytes : HeldSpeakerState → Side → List ℕ → PayloadAnswer → Option HeldSpeakerState → Type 0
+SaysBytes old side p answer after = IsSomeAnd after (λ speaker. TellsPayload old side p speaker answer)
 
--- the speaker behind the handle says the line
-abbrev pub SaysLine : VoiceState → List ℕ → SayAnswer → Option VoiceState → Type 0
-SaysLine old text answer after = IsSomeAnd after (λ voice. TellsSay old text voice answer)
+-- the handle's speaker says the line
+abbrev pub SaysLine : HeldSpeakerState → List ℕ → SayAnswer → Option HeldSpeakerState → Type 0
+SaysLine old text answer after = IsSomeAnd after (λ speaker. TellsSay old text speaker answer)
 
 -- nothing was said, and there is no frame
-pub record HasBegun (v : VoiceState) : Type 0 where
+pub record HasBegun (v : HeldSpeakerState) : Type 0 where
   pub says : Says v.speaker []
   pub frame : v.frame ≡ []
 
 -- the speaker has begun anew, with the same limits
-abbrev pub IsRenewed : VoiceState → VoiceState → Type 0
-IsRenewed = BeginsAnew (λ (v : VoiceState). v.speaker.limits) HasBegun
+abbrev pub IsRenewed : HeldSpeakerState → HeldSpeakerState → Type 0
+IsRenewed = BeginsAnew (λ (v : HeldSpeakerState). v.speaker.limits) HasBegun
 
--- a speaker of these limits is behind the handle, and nothing was said
-abbrev pub IsSilent : ℕ → ℕ → ℕ → ℕ → Option VoiceState → Type 0
-IsSilent = IsMadeOf (λ (v : VoiceState). v.speaker.limits) HasBegun
+-- the handle has a speaker of these limits, and nothing was said
+abbrev pub IsSilent : ℕ → ℕ → ℕ → ℕ → Option HeldSpeakerState → Type 0
+IsSilent = IsMadeOf (λ (v : HeldSpeakerState). v.speaker.limits) HasBegun

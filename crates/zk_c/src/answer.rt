@@ -181,10 +181,10 @@ impl StepAnswer {
     }
 
     /// The result of a step, in numbers.
-    pub fn of(outcome: Result<Stepped, Fault>) -> StepAnswer
-        ensures { result ≡ step_answer outcome }
+    pub fn of(step: Result<Stepped, Fault>) -> StepAnswer
+        ensures { result ≡ step_answer step }
     {
-        match outcome {
+        match step {
             Ok(stepped) => {
                 StepAnswer {
                     used: stepped.used,
@@ -207,10 +207,10 @@ impl StepAnswer {
 
 impl StepAnswer {
     /// The result of the offer of `length` bytes, in numbers.
-    pub fn of_offer(outcome: Result<bool, Fault>, length: usize) -> StepAnswer
-        ensures { result ≡ offer_answer length outcome }
+    pub fn of_offer(offer: Result<bool, Fault>, length: usize) -> StepAnswer
+        ensures { result ≡ offer_answer length offer }
     {
-        match outcome {
+        match offer {
             Ok(false) => StepAnswer::none(RANGE),
             Ok(true) => StepAnswer::of(Ok(Stepped {
                 used: length,

@@ -6,7 +6,7 @@ ghost use Rattle.zk_records.specs.declared.op.PartOp.{PartOp};
 ghost use Rattle.zk_c.specs.Asked.{parts_of, AreParts, AreAsked, AreNoneAsked};
 
 use zk_asks::Asked;
-use zk_records::{Op, PartOp, Profile, op_of, part_of};
+use zk_records::{NEWEST, Op, PartOp, op_of, part_of};
 
 /// An operation, and the numbers of its parts' operations; nothing is allocated.
 #[derive(Drop)]
@@ -53,7 +53,7 @@ impl<'a> Numbered<'a> {
     pub fn of(number: i32, numbers: &'a [i32]) -> Option<Self>
         ensures { MatchOption result (AreNoneAsked number numbers.now) (λ a. AreAsked number numbers.now a.op (parts_of a.numbers.now)) }
     {
-        let op = op_of(Profile::V35, number)?;
+        let op = op_of(NEWEST, number)?;
         if !are_few(numbers) {
             return None;
         }

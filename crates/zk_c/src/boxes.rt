@@ -1,13 +1,13 @@
-//! `TalkBox`, `PassageBox`, `VoiceBox`: the pointers of a boxed conversation, passage and speaker, as C keeps them.
+//! `TalkBox`, `PassageBox`, `SpeakerBox`: the pointers of a boxed conversation, passage and speaker, as a handle has them.
 ghost use Rattle.std.specs.Prelude.{◌≡◌, Option, Some, None, IsSome};
 ghost use Rattle.std.specs.Coded.{coded_option};
 ghost use Rattle.zk_talk.specs.Stands.{TalkState};
-ghost use Rattle.zk_c.specs.{Owned.owned, Passage.PassageState, Voice.VoiceState, contracts.conversation.Conversation.the_row as talk_row, contracts.passage.Passage.the_row as passage_row, contracts.speaker_and_frame.Voice.the_row as voice_row};
+ghost use Rattle.zk_c.specs.{Owned.owned, Passage.PassageState, HeldSpeaker.HeldSpeakerState, contracts.conversation.Conversation.the_row as talk_row, contracts.passage.Passage.the_row as passage_row, contracts.held_speaker.HeldSpeaker.the_row as speaker_row};
 
 use crate::conversation::Conversation;
+use crate::held_speaker::HeldSpeaker;
 use crate::passage::Passage;
 use crate::raw_box::Loose;
-use crate::speaker_and_frame::Voice;
 use std::alloc::Global;
 use std::marker::Model;
 
@@ -102,42 +102,42 @@ impl PassageBox {
 /// A pointer to a speaker, or to nothing.
 #[repr(C)]
 #[derive(Drop)]
-pub struct VoiceBox {
+pub struct SpeakerBox {
     at: *mut u8,
     /// The speaker that the pointer owns.
-    pub ghost value: { Option VoiceState } by { coded_option voice_row.coded },
+    pub ghost value: { Option HeldSpeakerState } by { coded_option speaker_row.coded },
 }
 
-impl Model for VoiceBox {
-    ghost also_owns = { λ b. owned voice_row b.at b.value };
+impl Model for SpeakerBox {
+    ghost also_owns = { λ b. owned speaker_row b.at b.value };
 }
 
-impl VoiceBox {
+impl SpeakerBox {
     /// A pointer to nothing.
-    pub fn none() -> VoiceBox
+    pub fn none() -> SpeakerBox
         ensures { result.value ≡ None }
     {
-        VoiceBox {
+        SpeakerBox {
             at: std::ptr::null_mut(),
         }
     }
 
     /// The pointer of a box.
-    pub fn of(loose: Loose<Voice, Global>) -> VoiceBox
+    pub fn of(loose: Loose<HeldSpeaker, Global>) -> SpeakerBox
         ensures { result.value ≡ Some loose.value }
     {
         let Loose { at, alloc: _ } = loose;
-        VoiceBox { at: at as *mut u8 }
+        SpeakerBox { at: at as *mut u8 }
     }
 
     /// The box of the pointer.
-    pub fn into_loose(self, alloc: Global) -> Loose<Voice, Global>
+    pub fn into_loose(self, alloc: Global) -> Loose<HeldSpeaker, Global>
         requires { IsSome self.value }
         ensures { self.value ≡ Some result.value }
     {
-        let VoiceBox { at } = self;
+        let SpeakerBox { at } = self;
         Loose {
-            at: at as *mut Voice,
+            at: at as *mut HeldSpeaker,
             alloc,
         }
     }

@@ -1,4 +1,4 @@
-//! `with_value!`, `fill!`, `take_out!`, `put_in!`: the body of a call over the handle that C keeps, of whichever type.
+//! `with_value!`, `fill!`, `take_out!`, `put_in!`: the body of a call over a handle, of whichever type.
 
 /// Takes the box out of `$self`, a `$handle` with a `$pointer`, and leaves nothing. If it holds none, the call returns `None`.
 macro_rules! take_out {

@@ -1,4 +1,4 @@
-//! What C calls: a conversation that is read as it comes, or said, of which C keeps a handle.
+//! What C calls: a conversation that is read as it comes, or said, of which C has a handle.
 //!
 //! `zk_talk_new`, `zk_talk_step` and their like wrap a `Talk` (`zk_talk`), `zk_speaker_new` and `zk_speaker_say` a
 //! `Speaker`, `zk_through_new` a `Through` (`zk_through`); each is in a box that a handle owns, which is all zeros
@@ -29,7 +29,7 @@
 //! pointer leads to (`proofs/Boxed.antt`), which each box's proofs name. Each call takes the box out, works on it as
 //! safe code does, and puts it back (`with_value!`).
 //!
-//! **Each type has its own box and handle** (`TalkBox`, `PassageBox`, `VoiceBox`). A function that C calls takes no
+//! **Each type has its own box and handle** (`TalkBox`, `PassageBox`, `SpeakerBox`). A function that C calls takes no
 //! struct with type arguments, nor one that has such a field: the compiler refuses both (`unsupported-generic-in-c`,
 //! `cell-in-c`). The gate refuses an impl that a macro writes, so macros write bodies alone.
 //!
@@ -49,6 +49,7 @@ mod boxes;
 mod conversation;
 mod handle;
 mod head;
+mod held_speaker;
 mod listing;
 mod number;
 mod passage;
@@ -60,7 +61,6 @@ mod read;
 mod read_answer;
 mod say_result;
 mod speaker;
-mod speaker_and_frame;
 mod talk;
 mod through;
 mod version;

@@ -12,7 +12,7 @@ use std::alloc::{AllocError, Global};
 use std::marker::Model;
 use zk_fields::Field;
 use zk_talk::{Ending, Fault, Limits, Side};
-use zk_through::{Passed, Through, Went};
+use zk_through::{Passed, StepOutcome, Through};
 
 /// A conversation, of which what its profile lacks is left out.
 #[derive(Drop)]
@@ -33,14 +33,14 @@ impl Model for Passage {
     ghost view = { λ p. record { through = p.through; client = p.client; server = p.server } };
 }
 
-/// Whether the side's newest whole frame is a message after a step that went so, if `was` says whether it was before.
-fn newest(went: Went, was: bool) -> bool
-    ensures { result ≡ newest went was }
+/// Whether the side's newest whole frame is a message after a step of this outcome, if `was` says whether it was before.
+fn newest(outcome: StepOutcome, was: bool) -> bool
+    ensures { result ≡ newest outcome was }
 {
-    match went {
-        Went::Within | Went::Full => was,
-        Went::Message => true,
-        Went::Asked(_) | Went::Answered(_) | Went::Unseen { .. } => false,
+    match outcome {
+        StepOutcome::Within | StepOutcome::Full => was,
+        StepOutcome::Message => true,
+        StepOutcome::Asked(_) | StepOutcome::Answered(_) | StepOutcome::Unseen { .. } => false,
     }
 }
 
@@ -92,8 +92,8 @@ impl Passage {
             Err(fault) => return Err(fault),
         };
         match side {
-            Side::Client => self.client = newest(passed.went, self.client),
-            Side::Server => self.server = newest(passed.went, self.server),
+            Side::Client => self.client = newest(passed.outcome, self.client),
+            Side::Server => self.server = newest(passed.outcome, self.server),
         }
         Ok(passed)
     }
@@ -117,9 +117,9 @@ impl Passage {
     pub fn pass(&mut self, side: Side, piece: &[u8]) -> Result<Passed, Fault>
         ensures { IsPass self.old side piece.now result self.new }
     {
-        let outcome = self.advance::<false>(side, piece);
+        let passed = self.advance::<false>(side, piece);
         self.through.let_go(side);
-        outcome
+        passed
     }
 
     /// Takes the side's whole frame if it may come next; else nothing changes.
@@ -138,8 +138,8 @@ impl Passage {
             return Ok(None);
         };
         match side {
-            Side::Client => self.client = newest(passed.went, self.client),
-            Side::Server => self.server = newest(passed.went, self.server),
+            Side::Client => self.client = newest(passed.outcome, self.client),
+            Side::Server => self.server = newest(passed.outcome, self.server),
         }
         Ok(Some(passed))
     }

@@ -1,11 +1,11 @@
 //! `PassedAnswer`: what a step of a passage returns to C.
 ghost use Rattle.std.specs.Prelude.{◌≡◌, pos};
-ghost use Rattle.zk_c.specs.{Passing.no_passed, Passing.went_answer, Passing.passed_answer, PassingOn.offered_answer, PassingOn.resumed_answer};
+ghost use Rattle.zk_c.specs.{Passing.no_passed, Passing.outcome_answer, Passing.passed_answer, PassingOn.offered_answer, PassingOn.resumed_answer};
 
 use crate::answer::{FaultNumbers, StepAnswer, fault_numbers, no_fault};
 use crate::number::{RANGE, WELL, reason_number};
 use zk_talk::{Fault, Stepped};
-use zk_through::{Passed, Went};
+use zk_through::{Passed, StepOutcome};
 
 /// What a step used of a piece, and what became of it.
 #[repr(C)]
@@ -35,19 +35,19 @@ pub struct PassedAnswer {
 /// The number of bytes that were used, and what became of them, in numbers.
 #[cold]
 #[inline(never)]
-fn went_answer(used: usize, went: Went) -> PassedAnswer
-    ensures { result ≡ went_answer used went }
+fn outcome_answer(used: usize, outcome: StepOutcome) -> PassedAnswer
+    ensures { result ≡ outcome_answer used outcome }
 {
-    let (number, xid, operation, frame) = match went {
-        Went::Within => (0, 0, 0, 0),
-        Went::Message => (1, 0, 0, 0),
-        Went::Asked(turn) => (2, turn.xid, turn.number, turn.frame),
-        Went::Answered(turn) => (3, turn.xid, turn.number, turn.frame),
-        Went::Full => (4, 0, 0, 0),
-        Went::Unseen { xid, .. } => (5, xid, 0, 0),
+    let (number, xid, operation, frame) = match outcome {
+        StepOutcome::Within => (0, 0, 0, 0),
+        StepOutcome::Message => (1, 0, 0, 0),
+        StepOutcome::Asked(turn) => (2, turn.xid, turn.number, turn.frame),
+        StepOutcome::Answered(turn) => (3, turn.xid, turn.number, turn.frame),
+        StepOutcome::Full => (4, 0, 0, 0),
+        StepOutcome::Unseen { xid, .. } => (5, xid, 0, 0),
     };
-    let (zxid, err) = match went {
-        Went::Unseen { zxid, err, .. } => (zxid, err),
+    let (zxid, err) = match outcome {
+        StepOutcome::Unseen { zxid, err, .. } => (zxid, err),
         _ => (0, 0),
     };
     PassedAnswer {
@@ -62,21 +62,21 @@ fn went_answer(used: usize, went: Went) -> PassedAnswer
     }
 }
 
-/// The same, quick for a message and within a frame.
-fn step_answer(used: usize, went: Went) -> PassedAnswer
-    ensures { result ≡ went_answer used went }
+/// The same, fast for a message and within a frame.
+fn step_answer(used: usize, outcome: StepOutcome) -> PassedAnswer
+    ensures { result ≡ outcome_answer used outcome }
 {
-    match went {
-        Went::Within => PassedAnswer {
+    match outcome {
+        StepOutcome::Within => PassedAnswer {
             used,
             ..PassedAnswer::none(WELL)
         },
-        Went::Message => PassedAnswer {
+        StepOutcome::Message => PassedAnswer {
             used,
             went: 1,
             ..PassedAnswer::none(WELL)
         },
-        _ => went_answer(used, went),
+        _ => outcome_answer(used, outcome),
     }
 }
 
@@ -99,11 +99,11 @@ impl PassedAnswer {
     }
 
     /// The result of a step, in numbers.
-    pub fn of(outcome: Result<Passed, Fault>) -> PassedAnswer
-        ensures { result ≡ passed_answer outcome }
+    pub fn of(step: Result<Passed, Fault>) -> PassedAnswer
+        ensures { result ≡ passed_answer step }
     {
-        match outcome {
-            Ok(passed) => step_answer(passed.used, passed.went),
+        match step {
+            Ok(passed) => step_answer(passed.used, passed.outcome),
             Err(fault) => {
                 PassedAnswer {
                     fault: fault_numbers(fault),
@@ -116,10 +116,10 @@ impl PassedAnswer {
 
 impl PassedAnswer {
     /// The result of an offer, in numbers.
-    pub fn of_offer(outcome: Result<Option<Passed>, Fault>) -> PassedAnswer
-        ensures { result ≡ offered_answer outcome }
+    pub fn of_offer(offer: Result<Option<Passed>, Fault>) -> PassedAnswer
+        ensures { result ≡ offered_answer offer }
     {
-        match outcome {
+        match offer {
             Ok(None) => PassedAnswer::none(RANGE),
             Ok(Some(passed)) => PassedAnswer::of(Ok(passed)),
             Err(fault) => PassedAnswer::of(Err(fault)),
@@ -128,10 +128,10 @@ impl PassedAnswer {
 }
 
 /// How many bytes of the refused piece a passage that goes on after a refused frame has used, in numbers.
-pub fn resumed_answer(outcome: Result<usize, Fault>) -> StepAnswer
-    ensures { result ≡ resumed_answer outcome }
+pub fn resumed_answer(resumed: Result<usize, Fault>) -> StepAnswer
+    ensures { result ≡ resumed_answer resumed }
 {
-    match outcome {
+    match resumed {
         Ok(used) => StepAnswer::of(Ok(Stepped { used, whole: false })),
         Err(fault) => StepAnswer::of(Err(fault)),
     }

@@ -3,7 +3,6 @@
 
 ghost use Rattle.std.specs.Prelude.{◌≡◌, ◌≤◌, ◌^◌, length};
 ghost use Rattle.zk_records.specs.declared.profile.Profile.{Profile};
-ghost use Rattle.zk_records.specs.declared.profile.Profile.TheVariants as profiles;
 ghost use Rattle.zk_records.specs.Codes.{profile_number, IsNoOp};
 ghost use Rattle.zk_answers.specs.Held.{ServerFrame};
 ghost use Rattle.zk_talk.specs.declared.message.MessageOf.TheVariants.{Server as FromServer};
@@ -18,7 +17,7 @@ use crate::read_answer::{ReadAnswer, int_there, read_client, read_fault, read_se
 use zk_answers::{borrow_connected, borrow_event, borrow_reply};
 use zk_asks::{borrow_ask, borrow_first};
 use zk_fields::{Field, Opened};
-use zk_records::{Profile, op_of};
+use zk_records::{NEWEST, Profile, op_of};
 
 /// Writes the fields of the message that `$read` finds in the payload, by `$tell`; or, of a payload that is read as `$opened`,
 /// those before its fault. The call returns `RANGE` for a length of 4 GiB or more, and `MISFIT` if `$other` says so.
@@ -88,10 +87,10 @@ pub extern "C" fn zk_read_connected(payload: &[u8], room: &mut [Field]) -> ReadA
 fn unasked(operation: i32, payload: &[u8]) -> ReadAnswer
     ensures range { IsOp operation → result ≡ no_read 67 }
     ensures long { 2 ^ 32 ≤ length payload.now → result ≡ no_read 67 }
-    ensures event { IsNoOp profiles.V35 operation → HasPlaces payload.now → HasHead IsOfEvent payload.now → result ≡ no_read 82 }
-    ensures unknown { IsNoOp profiles.V35 operation → HasPlaces payload.now → HasNoHead IsOfEvent payload.now → IsUnknown payload.now result }
+    ensures event { IsNoOp NEWEST operation → HasPlaces payload.now → HasHead IsOfEvent payload.now → result ≡ no_read 82 }
+    ensures unknown { IsNoOp NEWEST operation → HasPlaces payload.now → HasNoHead IsOfEvent payload.now → IsUnknown payload.now result }
 {
-    if let Some(_op) = op_of(Profile::V35, operation) {
+    if let Some(_op) = op_of(NEWEST, operation) {
         return ReadAnswer::none(RANGE);
     }
     if payload.len() > u32::MAX as usize {
@@ -116,9 +115,9 @@ pub extern "C" fn zk_read_reply(
     ensures long { 2 ^ 32 ≤ length payload.now → TellsNone 67 room.old room.new result }
     // A header with the xid of events is another message's.
     ensures event { WhereAsked operation parts.now (λ op ops. HasPlaces payload.now → HasHead IsOfEvent payload.now → TellsNone 82 room.old room.new result) }
-    ensures other { IsNoOp profiles.V35 operation → HasPlaces payload.now → HasHead IsOfEvent payload.now → TellsNone 82 room.old room.new result }
+    ensures other { IsNoOp NEWEST operation → HasPlaces payload.now → HasHead IsOfEvent payload.now → TellsNone 82 room.old room.new result }
     // Where no operation has the number, the header is read, and the place of the body is that of UnknownOp.
-    ensures unknown { IsNoOp profiles.V35 operation → HasPlaces payload.now → HasNoHead IsOfEvent payload.now → TellsUnknown payload.now room.old room.new result }
+    ensures unknown { IsNoOp NEWEST operation → HasPlaces payload.now → HasNoHead IsOfEvent payload.now → TellsUnknown payload.now room.old room.new result }
     // If it is a reply to what was asked, its fields are written; it is one, or the first case that applies is returned.
     ensures reads { WhereReply operation parts.now payload.now (λ op ops. ReadsReply op ops payload.now room.old room.new result) }
 {

@@ -6,40 +6,40 @@ ghost use Rattle.zk_c.specs.{Numbers.side_of, Answer.no_line, Handle.TellsText, 
 ghost use Rattle.zk_c.specs.Saying.{say_answer, SaysLine, SaysBytes, IsSilent, IsRenewed};
 
 use crate::answer::LineAnswer;
-use crate::boxes::VoiceBox;
+use crate::boxes::SpeakerBox;
 use crate::handle::{fill, put_in, take_out, with_value};
+use crate::held_speaker::HeldSpeaker;
 use crate::number::{EMPTY, WELL};
 use crate::payload::PayloadAnswer;
 use crate::say_result::SayAnswer;
-use crate::speaker_and_frame::Voice;
 use crate::talk::limits_of;
 use std::alloc::Global;
 
-/// A speaker that C keeps, or none: all bytes 0.
+/// The handle of a speaker, or of none: all bytes 0.
 // It has no `Drop`, so that what it holds isn't lost unnoticed.
 #[repr(C)]
 pub struct SpeakerHandle {
     /// The pointer.
-    pub held: VoiceBox,
+    pub held: SpeakerBox,
     live: bool,
     ghost tied: { live ≡ is_some held.value },
 }
 
 impl SpeakerHandle {
     /// Takes the speaker out.
-    fn take(&mut self, alloc: Global) -> Option<Box<Voice, Global>>
+    fn take(&mut self, alloc: Global) -> Option<Box<HeldSpeaker, Global>>
         ensures speaker { MatchOption result (self.old.held.value ≡ None) (λ b. self.old.held.value ≡ Some b.value) }
         ensures left { self.new.held.value ≡ None }
     {
-        take_out!(self, alloc, SpeakerHandle, VoiceBox)
+        take_out!(self, alloc, SpeakerHandle, SpeakerBox)
     }
 
     /// Puts a speaker in, where there is none.
-    fn put(&mut self, speaker: Box<Voice, Global>)
+    fn put(&mut self, speaker: Box<HeldSpeaker, Global>)
         requires { self.old.held.value ≡ None }
         ensures { self.new.held.value ≡ Some speaker.value }
     {
-        put_in!(self, speaker, SpeakerHandle, VoiceBox);
+        put_in!(self, speaker, SpeakerHandle, SpeakerBox);
     }
 }
 
@@ -60,17 +60,17 @@ pub extern "C" fn zk_speaker_new(
     ensures same { result ≢ 0 → handle.new ≡ handle.old }
 {
     fill!(handle, alloc, limits_of(client, server, waiting, profile)
-        => |limits| Voice::new(alloc, limits))
+        => |limits| HeldSpeaker::new(alloc, limits))
 }
 
 /// Begins the speaker anew with the same limits. Returns the status: `WELL`, or `EMPTY` if the handle holds none.
 #[unsafe(no_mangle)]
 pub extern "C" fn zk_speaker_renew(alloc: Global, handle: &mut SpeakerHandle) -> u32
-    // The speaker has said nothing, and the handle keeps it.
+    // The handle's speaker has said nothing.
     ensures renew { Renews IsRenewed handle.old.held.value handle.new.held.value result }
 {
-    with_value!(handle, alloc, EMPTY => |voice| {
-        voice.renew();
+    with_value!(handle, alloc, EMPTY => |speaker| {
+        speaker.renew();
         WELL
     })
 }
@@ -82,10 +82,10 @@ pub extern "C" fn zk_speaker_say(
     handle: &mut SpeakerHandle,
     line: &[u8],
 ) -> SayAnswer
-    // The speaker says the line, and the handle keeps it.
+    // The handle's speaker says the line.
     ensures say { Changes (λ n. say_answer n 0 0) (λ v. SaysLine v line.now) handle.old.held.value handle.new.held.value result }
 {
-    with_value!(handle, alloc, SayAnswer::none(EMPTY) => |voice| voice.say(line))
+    with_value!(handle, alloc, SayAnswer::none(EMPTY) => |speaker| speaker.say(line))
 }
 
 /// Says the message of the side whose payload the bytes are; its frame is kept until the next message is said.
@@ -96,12 +96,12 @@ pub extern "C" fn zk_speaker_say_payload(
     side: u32,
     payload: &[u8],
 ) -> PayloadAnswer
-    // The speaker says the payload, and the handle keeps it.
+    // The handle's speaker says the payload.
     ensures say { TakesOn (λ n. payload_answer n 0) SaysBytes side payload.now handle.old.held.value handle.new.held.value result }
     // A number that is no side's changes nothing.
     ensures range { side_of side ≡ None → handle.new ≡ handle.old }
 {
-    with_value!(handle, alloc, side, PayloadAnswer => |voice| voice.say_payload(side, payload))
+    with_value!(handle, alloc, side, PayloadAnswer => |speaker| speaker.say_payload(side, payload))
 }
 
 /// Writes the frame that was said last, if there is room for it.
@@ -118,7 +118,7 @@ pub extern "C" fn zk_speaker_frame(
     // The speaker stays as it is.
     ensures same { handle.new.held.value ≡ handle.old.held.value }
 {
-    with_value!(handle, alloc, LineAnswer::none(EMPTY) => |voice| voice.frame(out))
+    with_value!(handle, alloc, LineAnswer::none(EMPTY) => |speaker| speaker.frame(out))
 }
 
 /// Frees the speaker and its memory; with no speaker nothing is done.

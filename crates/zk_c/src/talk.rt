@@ -21,7 +21,7 @@ use zk_fields::Field;
 use zk_records::Profile;
 use zk_talk::Limits;
 
-/// A talk that C keeps, or none: all bytes 0.
+/// The handle of a talk, or of none: all bytes 0.
 // It has no `Drop`, so that what it holds isn't lost unnoticed.
 #[repr(C)]
 pub struct TalkHandle {
@@ -84,7 +84,7 @@ pub extern "C" fn zk_talk_new(
 /// Begins the talk anew with the same limits. Returns the status: `WELL`, or `EMPTY` if the handle holds none.
 #[unsafe(no_mangle)]
 pub extern "C" fn zk_talk_renew(alloc: Global, handle: &mut TalkHandle) -> u32
-    // The talk has come through the empty history, and the handle keeps it.
+    // The handle's talk has come through the empty history.
     ensures renew { Renews IsRenewed handle.old.held.value handle.new.held.value result }
 {
     with_value!(handle, alloc, EMPTY => |talk| {
@@ -102,7 +102,7 @@ pub extern "C" fn zk_talk_step(
     side: u32,
     piece: &[u8],
 ) -> StepAnswer
-    // The talk makes the step, and the handle keeps it.
+    // The handle's talk makes the step.
     ensures step { TakesOn no_step (Tells IsStep) side piece.now handle.old.held.value handle.new.held.value result }
     // A number that is no side's changes nothing.
     ensures range { side_of side ≡ None → handle.new ≡ handle.old }
@@ -118,7 +118,7 @@ pub extern "C" fn zk_talk_pass(
     side: u32,
     piece: &[u8],
 ) -> StepAnswer
-    // The talk passes over the bytes, and the handle keeps it.
+    // The handle's talk passes over the bytes.
     ensures pass { TakesOn no_step (Tells IsPass) side piece.now handle.old.held.value handle.new.held.value result }
     // A number that is no side's changes nothing.
     ensures range { side_of side ≡ None → handle.new ≡ handle.old }
@@ -134,7 +134,7 @@ pub extern "C" fn zk_talk_offer(
     side: u32,
     frame: &[u8],
 ) -> StepAnswer
-    // The talk judges the frame, and the handle keeps it.
+    // The handle's talk judges the frame.
     ensures offer { TakesOn no_step TellsOffer side frame.now handle.old.held.value handle.new.held.value result }
     // A number that is no side's changes nothing.
     ensures range { side_of side ≡ None → handle.new ≡ handle.old }

@@ -22,7 +22,7 @@ use crate::talk::limits_of;
 use std::alloc::Global;
 use zk_fields::Field;
 
-/// A passage that C keeps, or none: all bytes 0.
+/// The handle of a passage, or of none: all bytes 0.
 // It has no `Drop`, so that what it holds isn't lost unnoticed.
 #[repr(C)]
 pub struct ThroughHandle {
@@ -94,7 +94,7 @@ pub extern "C" fn zk_through_join(
 /// Begins the passage anew with the same limits. Returns the status: `WELL`, or `EMPTY` if the handle holds none.
 #[unsafe(no_mangle)]
 pub extern "C" fn zk_through_renew(alloc: Global, handle: &mut ThroughHandle) -> u32
-    // Nothing has come, and the handle keeps it.
+    // Of the handle's passage nothing has come.
     ensures renew { Renews IsRenewed handle.old.held.value handle.new.held.value result }
 {
     with_value!(handle, alloc, EMPTY => |passage| {
@@ -111,7 +111,7 @@ pub extern "C" fn zk_through_step(
     side: u32,
     piece: &[u8],
 ) -> PassedAnswer
-    // The passage makes the step, and the handle keeps it.
+    // The handle's passage makes the step.
     ensures step { TakesOn no_passed TellsStep side piece.now handle.old.held.value handle.new.held.value result }
     // A number that is no side's changes nothing.
     ensures range { side_of side ≡ None → handle.new ≡ handle.old }
@@ -127,7 +127,7 @@ pub extern "C" fn zk_through_pass(
     side: u32,
     piece: &[u8],
 ) -> PassedAnswer
-    // The passage makes the step and keeps nothing of it, and the handle keeps the passage.
+    // The handle's passage makes the step, and keeps nothing of it.
     ensures pass { TakesOn no_passed TellsPass side piece.now handle.old.held.value handle.new.held.value result }
     // A number that is no side's changes nothing.
     ensures range { side_of side ≡ None → handle.new ≡ handle.old }
@@ -143,7 +143,7 @@ pub extern "C" fn zk_through_offer(
     side: u32,
     frame: &[u8],
 ) -> PassedAnswer
-    // The passage judges the frame, and the handle keeps it.
+    // The handle's passage judges the frame.
     ensures offer { TakesOn no_passed TellsOffer side frame.now handle.old.held.value handle.new.held.value result }
     // A number that is no side's changes nothing.
     ensures range { side_of side ≡ None → handle.new ≡ handle.old }
@@ -154,7 +154,7 @@ pub extern "C" fn zk_through_offer(
 /// Goes on after the frame that was refused, as a connection that is seen late.
 #[unsafe(no_mangle)]
 pub extern "C" fn zk_through_resume(alloc: Global, handle: &mut ThroughHandle) -> StepAnswer
-    // The passage goes on, or its fault stays, and the handle keeps it.
+    // The handle's passage goes on, or its fault stays.
     ensures resume { Changes no_step TellsResumed handle.old.held.value handle.new.held.value result }
 {
     with_value!(handle, alloc, StepAnswer::none(EMPTY) => |passage| resumed_answer(passage.resume()))

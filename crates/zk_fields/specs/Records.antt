@@ -2,7 +2,7 @@
 use Rattle.std.specs.Prelude.{ℤ, Bool}
 use Rattle.zk_jute.specs.Held.{Text, Vector}
 use Rattle.zk_records.specs.declared.stat.Stat.{Stat}
-use Rattle.zk_records.specs.Held.{Id, Acl, ConnectRequest, ConnectResponse, WatcherEvent, CreateAsk, DeleteAsk, SetDataAsk, SetAclAsk, CheckAsk, WatchAsk, PathAsk, AuthAsk, SetWatchesAsk, DataBody, AclBody, ChildrenBody, CreateBody}
+use Rattle.zk_records.specs.Held.{Id, Acl, ConnectRequest, ConnectResponse, WatcherEvent, CreateTtlAsk, WatchesAsk, AddWatchAsk, ReconfigAsk, CreateAsk, DeleteAsk, SetDataAsk, SetAclAsk, CheckAsk, WatchAsk, PathAsk, AuthAsk, SetWatchesAsk, DataBody, AclBody, ChildrenBody, CreateBody}
 use Rattle.zk_fields.specs.declared.name.TheConstants as names
 use Rattle.zk_fields.specs.Named.{Named, an_int, a_long, a_boolean, a_text, a_blob, many, ◌of◌, ◌and◌}
 
@@ -109,6 +109,31 @@ set_watches_ask =
     texts of (names.EXIST_WATCHES, λ r. r.exist_watches) and
     texts of (names.CHILD_WATCHES, λ r. r.child_watches)
 
+abbrev pub create_ttl_ask : Named CreateTtlAsk
+create_ttl_ask =
+    a_text of (names.PATH, λ r. r.path) and
+    a_blob of (names.DATA, λ r. r.blob) and
+    rights of (names.ACL, λ r. r.acl) and
+    an_int of (names.FLAGS, λ r. r.flags) and
+    a_long of (names.TTL, λ r. r.ttl)
+
+abbrev pub watches_ask : Named WatchesAsk
+watches_ask =
+    a_text of (names.PATH, λ r. r.path) and
+    an_int of (names.TYPE, λ r. r.kind)
+
+abbrev pub add_watch_ask : Named AddWatchAsk
+add_watch_ask =
+    a_text of (names.PATH, λ r. r.path) and
+    an_int of (names.MODE, λ r. r.mode)
+
+abbrev pub reconfig_ask : Named ReconfigAsk
+reconfig_ask =
+    a_text of (names.JOINING, λ r. r.joining) and
+    a_text of (names.LEAVING, λ r. r.leaving) and
+    a_text of (names.MEMBERS, λ r. r.members) and
+    a_long of (names.CONFIG, λ r. r.config)
+
 abbrev pub data_body : Named DataBody
 data_body =
     a_blob of (names.DATA, λ r. r.blob) and
@@ -139,6 +164,12 @@ children = texts of (names.CHILDREN, λ n. n)
 
 abbrev pub err : Named ℤ
 err = an_int of (names.ERR, λ e. e)
+
+abbrev pub count : Named ℤ
+count = an_int of (names.COUNT, λ n. n)
+
+abbrev pub code : Named ℤ
+code = an_int of (names.CODE, λ e. e)
 
 abbrev pub read_only : Named Bool
 read_only = a_boolean of (names.READ_ONLY, λ b. b)

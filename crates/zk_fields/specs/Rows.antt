@@ -9,7 +9,7 @@ use Rattle.zk_asks.specs.Rows as asked
 use Rattle.zk_answers.specs.Held.{Body}
 use Rattle.zk_answers.specs.Rows as answered
 use Rattle.zk_fields.specs.{Fields.Entry, Named.Shape, Named.Named, Named.nothing, Heads.OfHead, Heads.headed_part, Heads.headed_result, Heads.part_entries, Heads.done_entries}
-use Rattle.zk_fields.specs.Records.{stat, create_ask, delete_ask, set_data_ask, set_acl_ask, watch_ask, path_ask, auth_ask, set_watches_ask, data_body, acl_body, children_body, create_body, path, children}
+use Rattle.zk_fields.specs.Records.{stat, create_ask, delete_ask, set_data_ask, set_acl_ask, watch_ask, path_ask, auth_ask, set_watches_ask, create_ttl_ask, watches_ask, add_watch_ask, reconfig_ask, data_body, acl_body, children_body, create_body, path, children, count, code}
 
 -- the fields of a value, or those of each part or result of a multi
 pub data Row (X : Type 0) : Type 0 where
@@ -34,6 +34,14 @@ rows ops.Create2 = (fields create_ask, fields create_body)
 rows ops.Auth = (fields auth_ask, fields nothing)
 rows ops.SetWatches = (fields set_watches_ask, fields nothing)
 rows ops.CloseSession = (fields nothing, fields nothing)
+rows ops.Reconfig = (fields reconfig_ask, fields data_body)
+rows ops.CheckWatches = (fields watches_ask, fields nothing)
+rows ops.RemoveWatches = (fields watches_ask, fields nothing)
+rows ops.CreateContainer = (fields create_ask, fields create_body)
+rows ops.CreateTtl = (fields create_ttl_ask, fields create_body)
+rows ops.GetEphemerals = (fields path_ask, fields children)
+rows ops.GetAllChildrenNumber = (fields path_ask, fields count)
+rows ops.AddWatch = (fields add_watch_ask, fields code)
 
 -- ---- what follows from a row
 

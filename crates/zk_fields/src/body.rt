@@ -5,7 +5,7 @@ ghost use Rattle.zk_fields.specs.{Room.Takes, Heads.result_entries, Heads.done_e
 
 use crate::ask::{plain_head, show_head};
 use crate::field::{At, Field};
-use crate::name::{ACL, CHILDREN, DATA, ERR, NONE, PATH};
+use crate::name::{ACL, CHILDREN, CODE, COUNT, DATA, ERR, NONE, PATH};
 use crate::show::Show;
 use zk_answers::{BodyOf, BodyRef, PartDoneOf, PartDoneRef, body_rows};
 use zk_records::{MultiHeader, PartOp, part_number};

@@ -70,3 +70,19 @@ pub const PASSWD: u16 = 32;
 pub const READ_ONLY: u16 = 33;
 
 pub const ERR: u16 = 34;
+
+pub const TTL: u16 = 35;
+
+pub const MODE: u16 = 36;
+
+pub const COUNT: u16 = 37;
+
+pub const JOINING: u16 = 38;
+
+pub const LEAVING: u16 = 39;
+
+pub const MEMBERS: u16 = 40;
+
+pub const CONFIG: u16 = 41;
+
+pub const CODE: u16 = 42;

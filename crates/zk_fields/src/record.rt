@@ -1,13 +1,13 @@
 //! The fields of records: each with its name, in order.
-ghost use Rattle.zk_fields.specs.Records.{id, acl, stat, connect_request, connect_response, watcher_event, create_ask, delete_ask, set_data_ask, set_acl_ask, check_ask, watch_ask, path_ask, auth_ask, set_watches_ask};
+ghost use Rattle.zk_fields.specs.Records.{id, acl, stat, connect_request, connect_response, watcher_event, create_ask, delete_ask, set_data_ask, set_acl_ask, check_ask, watch_ask, path_ask, auth_ask, set_watches_ask, create_ttl_ask, watches_ask, add_watch_ask, reconfig_ask};
 
 use crate::field::{At, Field};
 use crate::name::*;
 use crate::show::{Named, Show};
 use zk_records::{
-    AclRef, AuthAskRef, CheckAskRef, ConnectRequestRef, ConnectResponseRef, CreateAskRef,
-    DeleteAskRef, IdRef, PathAskRef, SetAclAskRef, SetDataAskRef, SetWatchesAskRef, Stat,
-    WatchAskRef, WatcherEventRef, fields_of,
+    AclRef, AddWatchAskRef, AuthAskRef, CheckAskRef, ConnectRequestRef, ConnectResponseRef,
+    CreateAskRef, CreateTtlAskRef, DeleteAskRef, IdRef, PathAskRef, ReconfigAskRef, SetAclAskRef,
+    SetDataAskRef, SetWatchesAskRef, Stat, WatchAskRef, WatcherEventRef, WatchesAskRef, fields_of,
 };
 
 /// `fields_of!(R, named, record)` is the fields of the record, each under its name, as nested pairs.
@@ -135,5 +135,37 @@ impl<'a> Show for SetWatchesAskRef<'a> {
 
     fn show(&self, name: u16, room: &mut [Field], at: At) -> At {
         fields_of!(SetWatchesAsk, named, self).show(name, room, at)
+    }
+}
+
+impl<'a> Show for CreateTtlAskRef<'a> {
+    ghost entries = { create_ttl_ask.entries };
+
+    fn show(&self, name: u16, room: &mut [Field], at: At) -> At {
+        fields_of!(CreateTtlAsk, named, self).show(name, room, at)
+    }
+}
+
+impl<'a> Show for WatchesAskRef<'a> {
+    ghost entries = { watches_ask.entries };
+
+    fn show(&self, name: u16, room: &mut [Field], at: At) -> At {
+        fields_of!(WatchesAsk, named, self).show(name, room, at)
+    }
+}
+
+impl<'a> Show for AddWatchAskRef<'a> {
+    ghost entries = { add_watch_ask.entries };
+
+    fn show(&self, name: u16, room: &mut [Field], at: At) -> At {
+        fields_of!(AddWatchAsk, named, self).show(name, room, at)
+    }
+}
+
+impl<'a> Show for ReconfigAskRef<'a> {
+    ghost entries = { reconfig_ask.entries };
+
+    fn show(&self, name: u16, room: &mut [Field], at: At) -> At {
+        fields_of!(ReconfigAsk, named, self).show(name, room, at)
     }
 }

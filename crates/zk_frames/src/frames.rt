@@ -1,6 +1,6 @@
 //! `Frames`: the newest frame of one direction, taken piece by piece.
 ghost use Rattle.std.specs.Prelude.{◌≡◌, ◌≤◌, ◌+◌, ◌-◌, ℕ, List, [], ◌++◌, ◌↔◌, length, take, drop, IfOk, IfErr, IfSome, IfNone, OnOk, OnErr, IsTrue, MatchBool, false, Ok, Err, vec_capacity};
-ghost use Rattle.zk_frames.specs.{declared.frames.FrameFault.TheVariants.LengthRange, Framing.frame, Advance.left_of, Advance.IsAnswer};
+ghost use Rattle.zk_frames.specs.{declared.frames.FrameFault.TheVariants.LengthRange, Framing.frame, FramePart.left_of, FramePart.IsAnswer};
 ghost use Rattle.zk_frames.specs.Framing.{IsFrame, IsBadLength, IsLessOrMore};
 ghost use Rattle.zk_frames.specs.Held.{IsWhole, IsRefused, IsHeld, IsNow, IsLeft, IsTaken, IsRefusal, GoesOnAlways, IsFront};
 
@@ -34,7 +34,7 @@ pub struct Frames {
 
 impl Model for Frames {
     ghost use Rattle.zk_frames.specs.Held.{Held};
-    ghost use Rattle.zk_frames.specs.Advance.{IsSound, HasRoom};
+    ghost use Rattle.zk_frames.specs.FramePart.{IsSound, HasRoom};
 
     ghost Value = { Held };
 
@@ -84,11 +84,11 @@ impl Frames {
         if let Standing::Refused = self.standing {
             return Err(FrameFault::LengthRange);
         }
-        give_up(self.standing, &mut self.bytes);
-        let advance = cut(self.limit, &self.bytes, piece);
-        append(&mut self.bytes, &piece[..advance.used]);
-        self.standing = advance.standing;
-        answer(advance.standing, advance.used)
+        drop_whole(self.standing, &mut self.bytes);
+        let part = cut(self.limit, &self.bytes, piece);
+        append(&mut self.bytes, &piece[..part.used]);
+        self.standing = part.standing;
+        answer(part.standing, part.used)
     }
 
     /// The number of bytes of the whole frame at the front of `piece`, its length included, if no byte is held; `None`:
@@ -230,7 +230,7 @@ fn append(bytes: &mut Vec<u8>, more: &[u8])
 }
 
 /// Drops a frame that is whole.
-fn give_up(standing: Standing, bytes: &mut Vec<u8>)
+fn drop_whole(standing: Standing, bytes: &mut Vec<u8>)
     ensures left { bytes.new.items ≡ left_of standing bytes.old.items }
     ensures room { vec_capacity bytes.new ≡ vec_capacity bytes.old }
 {

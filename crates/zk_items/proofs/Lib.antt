@@ -13,4 +13,4 @@ pub mod Texts
 pub mod Blobs
 pub mod Joined
 pub mod Codes
-pub mod Copies
+pub mod Encoding

@@ -4,5 +4,5 @@ pub mod Many
 pub mod Leaf
 pub mod Odd
 pub mod Codes
-pub mod Copied
+pub mod Encoded
 pub mod Reasons

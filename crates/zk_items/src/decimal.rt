@@ -1,4 +1,4 @@
-//! Numbers told from their digits alone, in one pass.
+//! Numbers found by their digits alone, in one pass.
 ghost use Rattle.std.specs.Prelude.{◌≡◌, ◌≤◌, ◌<◌, length, take, drop, slice_index, IfSome, Some, false, ◌^◌, pos, neg_ℤ};
 ghost use Rattle.std.specs.{List.prefix_len, Fmt.decimal, Str.Parse.AllDigits, Str.Parse.digits_value};
 ghost use Rattle.zk_items.specs.Leaf.{in_number, num_at};

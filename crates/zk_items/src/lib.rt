@@ -1,7 +1,7 @@
 //! The items of a line: numbers, texts, blobs, bits, and numbers with names, written and read back exactly.
 //!
-//! A `Reader` goes over a line from left to right: `Reader::int`, `bit` and their like read the next item, `copy_text`
-//! and `copy_blob` append its bytes, as they are in a payload; each returns the `LineFault` of its column. The
+//! A `Reader` goes over a line from left to right: `Reader::int`, `bit` and their like read the next item, `encode_text`
+//! and `encode_blob` append its bytes, as they are in a payload; each returns the `LineFault` of its column. The
 //! functions `put_*` append an item to a vector, and leave what the vector began with. Each value has one spelling, and
 //! only that is read: no leading zero, no upper-case digit, no escape for a byte that needs none. `item_laws` says so
 //! for each item.
@@ -15,7 +15,7 @@
 //! let mut line = Reader::new(b"7 \"/a\"");
 //! assert!(rt; line.int()? == 7);
 //! line.literal(b" ")?;
-//! line.copy_text(&mut text)?;
+//! line.encode_text(&mut text)?;
 //! assert!(rt; text.as_slice() == b"\0\0\0\x02/a".as_slice()); // as it is in a payload
 //! ```
 //!
@@ -36,8 +36,8 @@
 mod append;
 mod class;
 mod code;
-mod copy;
 mod decimal;
+mod encode;
 mod escape;
 mod fault;
 mod laws;
@@ -53,7 +53,7 @@ mod write_hex;
 pub use code::{
     put_error_code, put_event_code, read_error_code, read_event_code, read_failure_code,
 };
-pub use copy::set_count;
+pub use encode::set_count;
 pub use fault::{LineFault, LineReason, line_reason_name};
 pub use laws::item_laws;
 pub use reader::Reader;

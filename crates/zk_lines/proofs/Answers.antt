@@ -49,6 +49,12 @@ stat_row = row_of_fields stat_field
 names_row : IsRow (field words.Names (list_of text)) (wired.vector wired.ustring).items
 names_row = row_of_fields (field_of words.Names texts_item)
 
+count_row : IsRow (field words.Count int) wired.int.items
+count_row = row_of_fields (field_of words.Count int_item)
+
+code_row : IsRow (field words.Code int) wired.int.items
+code_row = row_of_fields (field_of words.Code int_item)
+
 failed_row : IsRow (field words.Err error_code) wired.int.items
 failed_row = row_of_fields (field_of words.Err error_is)
 
@@ -95,7 +101,7 @@ multi_is = table_series done_table done_names done_items (marked end_header) res
 
 -- ---- replies
 
-ruleset body_records = (path_row, stat_row, names_row, content_is, acls_is, created_is, children_is, multi_is, nothing_is)
+ruleset body_records = (path_row, stat_row, names_row, count_row, code_row, content_is, acls_is, created_is, children_is, multi_is, nothing_is)
 
 -- what each operation gives has the laws
 body_rows : (k : Op) → IsRowOf answers.line_of answers.body_written op_of_body body_items k

@@ -11,27 +11,27 @@ use Rattle.zk_records.specs.declared.op.PartOp.TheVariants as parts
 use Rattle.zk_jute.proofs.Layouts.{have_both, bytes_both}
 use Rattle.zk_items.specs.Form.{Read, Fails, ◌>>=◌, word_at}
 use Rattle.zk_items.specs.declared.fault.LineFault.{LineFault}
-use Rattle.zk_items.specs.{Leaf.in_name, Leaf.in_range, Copied.Copied}
+use Rattle.zk_items.specs.{Leaf.in_name, Leaf.in_range, Encoded.Encoded}
 use Rattle.zk_lines.specs.{Named.named_at, Words.field_at, Words.word_of, declared.word.Word.Word}
 
 -- a value that was read, and its bytes, which were appended
-abbrev pub value_copied : {X : Type 0} {at : List ℕ → Read X} {items : X → List Item} {line rest old new : List ℕ} (value : X) → at line ≡ Some (value, rest) → HaveBytes (items value) → new ≡ old ++ bytes_of (items value)
-    → Copied at items line rest old new
-value_copied value read have appended = record { value = value; read = read; have = have; appended = appended }
+abbrev pub value_encoded : {X : Type 0} {at : List ℕ → Read X} {items : X → List Item} {line rest old new : List ℕ} (value : X) → at line ≡ Some (value, rest) → HaveBytes (items value) → new ≡ old ++ bytes_of (items value)
+    → Encoded at items line rest old new
+value_encoded value read have appended = record { value = value; read = read; have = have; appended = appended }
 
 -- a value that was read, of which nothing was appended
-abbrev pub read_alone : {X : Type 0} {at : List ℕ → Read X} {line rest : List ℕ} (old : List ℕ) (value : X) → at line ≡ Some (value, rest) → Copied at (λ _. []) line rest old old
+abbrev pub read_alone : {X : Type 0} {at : List ℕ → Read X} {line rest : List ℕ} (old : List ℕ) (value : X) → at line ≡ Some (value, rest) → Encoded at (λ _. []) line rest old old
 read_alone old value read = record { value = value; read = read; have = tt; appended = sym (append-nil old) }
 
 -- a word in front
-abbrev pub field_copied : {X : Type 0} {at : List ℕ → Read X} {items : X → List Item} {line mid rest old new : List ℕ} (word : Word) → word_at (word_of word) line ≡ Some mid → Copied at items mid rest old new
-    → Copied (field_at word at) items line rest old new
-field_copied {at} word w c = record { value = c.value; read = ap (λ (o : Option (List ℕ)). o >>= at) w ∙ c.read; have = c.have; appended = c.appended }
+abbrev pub field_encoded : {X : Type 0} {at : List ℕ → Read X} {items : X → List Item} {line mid rest old new : List ℕ} (word : Word) → word_at (word_of word) line ≡ Some mid → Encoded at items mid rest old new
+    → Encoded (field_at word at) items line rest old new
+field_encoded {at} word w c = record { value = c.value; read = ap (λ (o : Option (List ℕ)). o >>= at) w ∙ c.read; have = c.have; appended = c.appended }
 
 -- one value behind another
 infixr 20 ◌then◌
-abbrev pub ◌then◌ : {X Y : Type 0} {f : List ℕ → Read X} {g : List ℕ → Read Y} {v : X → List Item} {w : Y → List Item} {a b c o p q : List ℕ} → Copied f v a b o p → Copied g w b c p q
-    → Copied {X = X × Y} (λ l. f l >>= λ x. g x.1 >>= λ y. Some ((x.0, y.0), y.1)) (λ z. v z.0 ++ w z.1) a c o q
+abbrev pub ◌then◌ : {X Y : Type 0} {f : List ℕ → Read X} {g : List ℕ → Read Y} {v : X → List Item} {w : Y → List Item} {a b c o p q : List ℕ} → Encoded f v a b o p → Encoded g w b c p q
+    → Encoded {X = X × Y} (λ l. f l >>= λ x. g x.1 >>= λ y. Some ((x.0, y.0), y.1)) (λ z. v z.0 ++ w z.1) a c o q
 ◌then◌ {X} {Y} {g} {v} {w} {o} c d = record {
   value = (c.value, d.value);
   read = ap (λ (r : Read X). r >>= λ x. g x.1 >>= λ y. Some ((x.0, y.0), y.1)) c.read ∙ ap (λ (r : Read Y). r >>= λ y. Some ((c.value, y.0), y.1)) d.read;
@@ -41,7 +41,7 @@ abbrev pub ◌then◌ : {X Y : Type 0} {f : List ℕ → Read X} {g : List ℕ �
 
 -- what is made of a value
 abbrev pub made : {X Y : Type 0} {g : List ℕ → Read Y} {v : Y → List Item} {line rest old new : List ℕ} (items : X → List Item) (k : Y × List ℕ → Read X)
-    → ((y : Y) (l : List ℕ) → (x : X) × (k (y, l) ≡ Some (x, l)) × (items x ≡ v y)) → Copied g v line rest old new → Copied (λ l. g l >>= k) items line rest old new
+    → ((y : Y) (l : List ℕ) → (x : X) × (k (y, l) ≡ Some (x, l)) × (items x ≡ v y)) → Encoded g v line rest old new → Encoded (λ l. g l >>= k) items line rest old new
 made {Y} {rest} {old} items k make c =
     let m = make c.value rest in
     record {
@@ -52,7 +52,7 @@ made {Y} {rest} {old} items k make c =
     }
 
 -- the same bytes as other items
-abbrev pub retold : {X : Type 0} {at : List ℕ → Read X} {v : X → List Item} {line rest old new : List ℕ} (items : X → List Item) (c : Copied at v line rest old new) → items c.value ≡ v c.value → Copied at items line rest old new
+abbrev pub retold : {X : Type 0} {at : List ℕ → Read X} {v : X → List Item} {line rest old new : List ℕ} (items : X → List Item) (c : Encoded at v line rest old new) → items c.value ≡ v c.value → Encoded at items line rest old new
 retold {old} items c same = record {
   value = c.value;
   read = c.read;
@@ -61,8 +61,8 @@ retold {old} items c same = record {
 }
 
 -- items in front of a value's, which are known beforehand
-abbrev pub headed : {X : Type 0} {at : List ℕ → Read X} {v : X → List Item} {line rest old mid new : List ℕ} (head : List Item) → HaveBytes head → mid ≡ old ++ bytes_of head → Copied at v line rest mid new
-    → Copied at (λ x. head ++ v x) line rest old new
+abbrev pub headed : {X : Type 0} {at : List ℕ → Read X} {v : X → List Item} {line rest old mid new : List ℕ} (head : List Item) → HaveBytes head → mid ≡ old ++ bytes_of head → Encoded at v line rest mid new
+    → Encoded at (λ x. head ++ v x) line rest old new
 headed {v} {old} head have first c = record {
   value = c.value;
   read = c.read;
@@ -71,9 +71,9 @@ headed {v} {old} head have first c = record {
 }
 
 -- a name in front
-abbrev pub named_copied : {K X : Type 0} {items : X → List Item} {line name mid rest old new : List ℕ} (key_at : List ℕ → Option K) (body_at : K → List ℕ → Read X) (k : K)
-    → name ≡ take (prefix_len in_name line) line → mid ≡ drop (prefix_len in_name line) line → key_at name ≡ Some k → Copied (body_at k) items mid rest old new → Copied (named_at key_at body_at) items line rest old new
-named_copied {K} {line} key_at body_at k name mid key c = record {
+abbrev pub named_encoded : {K X : Type 0} {items : X → List Item} {line name mid rest old new : List ℕ} (key_at : List ℕ → Option K) (body_at : K → List ℕ → Read X) (k : K)
+    → name ≡ take (prefix_len in_name line) line → mid ≡ drop (prefix_len in_name line) line → key_at name ≡ Some k → Encoded (body_at k) items mid rest old new → Encoded (named_at key_at body_at) items line rest old new
+named_encoded {K} {line} key_at body_at k name mid key c = record {
   value = c.value;
   read = ap (λ (o : Option K). o >>= λ k. body_at k (drop (prefix_len in_name line) line)) (ap key_at (sym name) ∙ key) ∙ ap (body_at k) (sym mid) ∙ c.read;
   have = c.have;

@@ -51,6 +51,20 @@ set_watches_is =
 check_is : IsRow asks.check records.check_ask.items
 check_is = row_of_record _ _ (path_field with version_field) _ _ (λ _. refl) (λ _. refl)
 
+create_ttl_is : IsRow asks.create_ttl records.create_ttl_ask.items
+create_ttl_is =
+    row_of_record _ _ (path_field with field_of words.Blob blob_item with field_of words.Acl acls_item with field_of words.Flags int_item with field_of words.Ttl long_item) _ _ (λ _. refl) (λ _. refl)
+
+watches_is : IsRow asks.watches records.watches_ask.items
+watches_is = row_of_record _ _ (path_field with field_of words.Kind int_item) _ _ (λ _. refl) (λ _. refl)
+
+add_watch_is : IsRow asks.add_watch records.add_watch_ask.items
+add_watch_is = row_of_record _ _ (path_field with field_of words.Mode int_item) _ _ (λ _. refl) (λ _. refl)
+
+reconfig_is : IsRow asks.reconfig records.reconfig_ask.items
+reconfig_is =
+    row_of_record _ _ (field_of words.Joining text_item with field_of words.Leaving text_item with field_of words.Members text_item with field_of words.Config long_item) _ _ (λ _. refl) (λ _. refl)
+
 -- ---- parts of a multi
 
 part_found : (k : PartOp) → IsFound part_name all_parts k
@@ -84,7 +98,7 @@ pub op_names : IsNames op_name asks.op_named
 unfolding asks.op_named
 op_names = names_of op_name all_ops op_found
 
-ruleset ask_records = (create_is, delete_is, watch_is, set_data_is, path_is, set_acl_is, auth_is, set_watches_is, multi_is, nothing_is)
+ruleset ask_records = (create_ttl_is, watches_is, add_watch_is, reconfig_is, create_is, delete_is, watch_is, set_data_is, path_is, set_acl_is, auth_is, set_watches_is, multi_is, nothing_is)
 
 -- each request's record has the laws
 ask_rows : (k : Op) → IsRowOf asks.line_of asks.ask_written op_of_ask body_items k

@@ -7,8 +7,8 @@ use Rattle.zk_jute.specs.{Item.Item, Item.bytes_of, Item.HaveBytes, Item.int_byt
 use Rattle.zk_jute.specs.declared.value.Nullable.TheVariants as nullable
 use Rattle.zk_jute.proofs.Layouts.{have_both, bytes_both}
 use Rattle.zk_items.specs.Form.{Read, ◌>>=◌, Keeps, read_map, word_at}
-use Rattle.zk_items.specs.{Many.many_at, Many.with_first, Many.with_front, Copied.Copied}
-use Rattle.zk_items.proofs.{Copies.room_filled, Kept.keeps_more, Many.no_front, Many.step_some, Many.step_end, Many.step_none}
+use Rattle.zk_items.specs.{Many.many_at, Many.with_first, Many.with_front, Encoded.Encoded}
+use Rattle.zk_items.proofs.{Encoding.room_filled, Kept.keeps_more, Many.no_front, Many.step_some, Many.step_end, Many.step_none}
 use Rattle.zk_lines.specs.Series.{element_at, series_at, full_at, list_at, if_passed}
 
 -- ---- the loop
@@ -38,7 +38,7 @@ module _ {X : Type 0} (at : List ℕ → Read (Option X)) (items : X → List It
   flat_more (y ∷ xs) x = ap (λ (l : List Item). items y ++ l) (flat_more xs x) ∙ sym (append_assoc (items y) (flat_map items xs) (items x))
 
   pub one_more : (from line mid rest old new last : List ℕ) (turns turn : ℕ) {f : List ℕ → Read X} → turn < turns → Begun at items from line old new turns turn
-      → (c : Copied f items mid rest new last) → at line ≡ Some (Some c.value, rest) → Begun at items from rest old last turns (turn + 1)
+      → (c : Encoded f items mid rest new last) → at line ≡ Some (Some c.value, rest) → Begun at items from rest old last turns (turn + 1)
   one_more from line mid rest old new last turns turn less b c e =
       let x = c.value in
       let xs = b.values in
@@ -56,7 +56,7 @@ module _ {X : Type 0} (at : List ℕ → Read (Option X)) (items : X → List It
       ap (λ (n : ℕ). many_at at n from) long ∙ sym b.read ∙ step_none at b.values (turns - turn) (turns - (turn + 1)) line (omega arith) e
 
   pub all_read : (from line rest old new : List ℕ) (turns turn : ℕ) → turn < turns → length from ≡ turns → Begun at items from line old new turns turn → at line ≡ Some (None, rest)
-      → (c : Copied (λ bytes. many_at at (length bytes) bytes) (flat_map items) from rest old new) × (turn + 1 ≡ length c.value + 1)
+      → (c : Encoded (λ bytes. many_at at (length bytes) bytes) (flat_map items) from rest old new) × (turn + 1 ≡ length c.value + 1)
   all_read from line rest old new turns turn less long b e = (
     record {
       value = b.values;
@@ -101,14 +101,14 @@ module _ {X : Type 0} (sep close : ℕ) (at : List ℕ → Read X) where
       ap (λ (o : Option (List ℕ)). if_passed {A = List X × List ℕ} o (λ rest. Some ([], rest)) (at line >>= λ q. with_first q.0 (many_at (element_at sep close at) (length q.1) q.1))) other
       ∙ ap (λ (r : Read X). r >>= λ q. with_first q.0 (many_at (element_at sep close at) (length q.1) q.1)) read
 
-  pub series_cut : {items : X → List Item} {line mid old first : List ℕ} → word_at (close ∷ []) line ≡ None → (c : Copied at items line mid old first) → many_at (element_at sep close at) (length mid) mid ≡ None → series_at sep close at line ≡ None
+  pub series_cut : {items : X → List Item} {line mid old first : List ℕ} → word_at (close ∷ []) line ≡ None → (c : Encoded at items line mid old first) → many_at (element_at sep close at) (length mid) mid ≡ None → series_at sep close at line ≡ None
   unfolding series_at
   series_cut {line} other c none =
       ap (λ (o : Option (List ℕ)). if_passed {A = List X × List ℕ} o (λ rest. Some ([], rest)) (at line >>= λ q. with_first q.0 (many_at (element_at sep close at) (length q.1) q.1))) other
       ∙ ap (λ (r : Read X). r >>= λ q. with_first q.0 (many_at (element_at sep close at) (length q.1) q.1)) c.read ∙ ap (with_first c.value) none
 
   pub series_empty : (items : X → List Item) (line rest old : List ℕ) → word_at (close ∷ []) line ≡ Some rest
-      → (c : Copied (series_at sep close at) (flat_map items) line rest old old) × (0 ≡ length c.value)
+      → (c : Encoded (series_at sep close at) (flat_map items) line rest old old) × (0 ≡ length c.value)
   unfolding series_at
   series_empty items line rest old word = (
     record {
@@ -120,9 +120,9 @@ module _ {X : Type 0} (sep close : ℕ) (at : List ℕ → Read X) where
     refl,
   )
 
-  pub series_more : (items : X → List Item) (line mid rest old first new : List ℕ) (n : ℕ) → word_at (close ∷ []) line ≡ None → Copied at items line mid old first
-      → (d : Copied (λ bytes. many_at (element_at sep close at) (length bytes) bytes) (flat_map items) mid rest first new) × (n ≡ length d.value + 1)
-      → (c : Copied (series_at sep close at) (flat_map items) line rest old new) × (n ≡ length c.value)
+  pub series_more : (items : X → List Item) (line mid rest old first new : List ℕ) (n : ℕ) → word_at (close ∷ []) line ≡ None → Encoded at items line mid old first
+      → (d : Encoded (λ bytes. many_at (element_at sep close at) (length bytes) bytes) (flat_map items) mid rest first new) × (n ≡ length d.value + 1)
+      → (c : Encoded (series_at sep close at) (flat_map items) line rest old new) × (n ≡ length c.value)
   unfolding series_at
   series_more items line mid rest old first new n other c others =
       let d = others.0 in (
@@ -141,8 +141,8 @@ module _ {X : Type 0} (sep close : ℕ) (at : List ℕ → Read X) where
 
 module _ {X : Type 0} (at : List ℕ → Read X) (items : X → List Item) where
   -- the count is put in where its room is
-  pub counted : (line rest old room mid last new : List ℕ) (n : ℕ) → length room ≡ 4 → mid ≡ old ++ room → (c : Copied (series_at 44 93 at) (flat_map items) line rest mid last) × (n ≡ length c.value)
-      → n < 2 ^ 31 → new ≡ take (length old) last ++ (int_bytes (pos n) ++ drop (length old + 4) last) → Copied (full_at at) (list_items items) line rest old new
+  pub counted : (line rest old room mid last new : List ℕ) (n : ℕ) → length room ≡ 4 → mid ≡ old ++ room → (c : Encoded (series_at 44 93 at) (flat_map items) line rest mid last) × (n ≡ length c.value)
+      → n < 2 ^ 31 → new ≡ take (length old) last ++ (int_bytes (pos n) ++ drop (length old + 4) last) → Encoded (full_at at) (list_items items) line rest old new
   counted line rest old room mid last new n four roomy series small filled =
       let c = series.0 in
       let xs = c.value in
@@ -155,7 +155,7 @@ module _ {X : Type 0} (at : List ℕ → Read X) (items : X → List Item) where
         appended = room_filled old room content (int_bytes (pos n)) new last four (c.appended ∙ ap (λ (l : List ℕ). l ++ content) roomy) filled ∙ ap (λ (k : ℕ). old ++ (int_bytes (pos k) ++ content)) series.1;
       }
 
-  pub null_list : (line rest old new : List ℕ) → word_at (126 ∷ []) line ≡ Some rest → new ≡ old ++ (int_bytes (negsuc 0) ++ []) → Copied (list_at at) (list_items items) line rest old new
+  pub null_list : (line rest old new : List ℕ) → word_at (126 ∷ []) line ≡ Some rest → new ≡ old ++ (int_bytes (negsuc 0) ++ []) → Encoded (list_at at) (list_items items) line rest old new
   unfolding list_at
   null_list line rest old new word e = record {
     value = nullable.Null;
@@ -164,7 +164,7 @@ module _ {X : Type 0} (at : List ℕ → Read X) (items : X → List Item) where
     appended = e;
   }
 
-  pub full_list : (line mid rest old new : List ℕ) → word_at (126 ∷ []) line ≡ None → word_at (91 ∷ []) line ≡ Some mid → Copied (full_at at) (list_items items) mid rest old new → Copied (list_at at) (list_items items) line rest old new
+  pub full_list : (line mid rest old new : List ℕ) → word_at (126 ∷ []) line ≡ None → word_at (91 ∷ []) line ≡ Some mid → Encoded (full_at at) (list_items items) mid rest old new → Encoded (list_at at) (list_items items) line rest old new
   unfolding list_at
   full_list line mid rest old new other word c = record {
     value = c.value;

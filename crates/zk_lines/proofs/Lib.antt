@@ -13,9 +13,9 @@ pub mod Counted
 pub mod Asks
 pub mod Answers
 pub mod Lines
-pub mod CopiedAsks
-pub mod CopiedAnswers
-pub mod CopiedLines
+pub mod EncodedAsks
+pub mod EncodedAnswers
+pub mod EncodedLines
 pub mod LawsHeld
 pub mod LawsShown
 pub mod LawsEndings

@@ -128,6 +128,14 @@ body_line ops.Create2 = created
 body_line ops.Auth = nothing
 body_line ops.SetWatches = nothing
 body_line ops.CloseSession = nothing
+body_line ops.Reconfig = content
+body_line ops.CheckWatches = nothing
+body_line ops.RemoveWatches = nothing
+body_line ops.CreateContainer = created
+body_line ops.CreateTtl = created
+body_line ops.GetEphemerals = field words.Names (list_of text)
+body_line ops.GetAllChildrenNumber = field words.Count int
+body_line ops.AddWatch = field words.Code int
 
 -- by cases, so that an operation's row is seen where the operation is known
 abbrev pub line_of : Op → Row Body

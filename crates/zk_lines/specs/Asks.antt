@@ -1,8 +1,9 @@
 -- The lines of what a client sends.
 use Rattle.std.specs.Prelude.{ℕ, ℤ, List, Option, Bool}
-use Rattle.zk_records.specs.Held.{ConnectRequest, CreateAsk, DeleteAsk, SetDataAsk, SetAclAsk, CheckAsk, WatchAsk, PathAsk, AuthAsk, SetWatchesAsk}
+use Rattle.zk_records.specs.Held.{ConnectRequest, CreateAsk, CreateTtlAsk, WatchesAsk, AddWatchAsk, ReconfigAsk, DeleteAsk, SetDataAsk, SetAclAsk, CheckAsk, WatchAsk, PathAsk, AuthAsk, SetWatchesAsk}
 use Rattle.zk_records.specs.{declared.connect.ConnectRequestOf.ConnectRequestOf, declared.ask.CreateAskOf.CreateAskOf, declared.ask.DeleteAskOf.DeleteAskOf, declared.ask.SetDataAskOf.SetDataAskOf, declared.ask.SetAclAskOf.SetAclAskOf}
 use Rattle.zk_records.specs.{declared.ask.CheckAskOf.CheckAskOf, declared.query.WatchAskOf.WatchAskOf, declared.query.PathAskOf.PathAskOf, declared.session.AuthAskOf.AuthAskOf, declared.session.SetWatchesAskOf.SetWatchesAskOf}
+use Rattle.zk_records.specs.{declared.ask.CreateTtlAskOf.CreateTtlAskOf, declared.watches.WatchesAskOf.WatchesAskOf, declared.watches.AddWatchAskOf.AddWatchAskOf, declared.reconfig.ReconfigAskOf.ReconfigAskOf}
 use Rattle.zk_records.specs.{declared.op.Op.Op, declared.op.PartOp.PartOp, Codes.op_name, Codes.all_ops, Codes.part_name, Codes.all_parts}
 use Rattle.zk_records.specs.declared.op.Op.TheVariants as ops
 use Rattle.zk_records.specs.declared.op.PartOp.TheVariants as parts
@@ -65,6 +66,20 @@ set_watches_of l = fields (field words.Zxid long and field words.DataWatches l a
 abbrev pub check_of : {T : Type 0} → Form T → Form (CheckAskOf T)
 check_of t = fields (field words.Path t and field words.Version int) (λ a. (a.path, a.version)) made.check_ask
 
+abbrev pub create_ttl_of : {T B A : Type 0} → Form T → Form B → Form A → Form (CreateTtlAskOf T B A)
+create_ttl_of t b a = fields (field words.Path t and field words.Blob b and field words.Acl a and field words.Flags int and field words.Ttl long)
+    (λ a. (a.path, (a.blob, (a.acl, (a.flags, a.ttl))))) made.create_ttl_ask
+
+abbrev pub watches_of : {T : Type 0} → Form T → Form (WatchesAskOf T)
+watches_of t = fields (field words.Path t and field words.Kind int) (λ a. (a.path, a.kind)) made.watches_ask
+
+abbrev pub add_watch_of : {T : Type 0} → Form T → Form (AddWatchAskOf T)
+add_watch_of t = fields (field words.Path t and field words.Mode int) (λ a. (a.path, a.mode)) made.add_watch_ask
+
+abbrev pub reconfig_of : {T : Type 0} → Form T → Form (ReconfigAskOf T)
+reconfig_of t = fields (field words.Joining t and field words.Leaving t and field words.Members t and field words.Config long)
+    (λ a. (a.joining, (a.leaving, (a.members, a.config)))) made.reconfig_ask
+
 -- ---- owned records
 
 abbrev pub connect : Form (ConnectRequest × Option Bool)
@@ -96,6 +111,18 @@ set_watches = set_watches_of (list_of text)
 
 abbrev pub check : Form CheckAsk
 check = check_of text
+
+abbrev pub create_ttl : Form CreateTtlAsk
+create_ttl = create_ttl_of text blob (list_of acl)
+
+abbrev pub watches : Form WatchesAsk
+watches = watches_of text
+
+abbrev pub add_watch : Form AddWatchAsk
+add_watch = add_watch_of text
+
+abbrev pub reconfig : Form ReconfigAsk
+reconfig = reconfig_of text
 
 -- ---- parts of a multi
 
@@ -150,6 +177,14 @@ ask_line ops.Create2 = create
 ask_line ops.Auth = auth
 ask_line ops.SetWatches = set_watches
 ask_line ops.CloseSession = nothing
+ask_line ops.Reconfig = reconfig
+ask_line ops.CheckWatches = watches
+ask_line ops.RemoveWatches = watches
+ask_line ops.CreateContainer = create
+ask_line ops.CreateTtl = create_ttl
+ask_line ops.GetEphemerals = path
+ask_line ops.GetAllChildrenNumber = path
+ask_line ops.AddWatch = add_watch
 
 -- by cases, so that an operation's row is seen where the operation is known
 abbrev pub line_of : Op → Row Ask

@@ -6,5 +6,5 @@ pub mod Rows
 pub mod Asks
 pub mod Answers
 pub mod Lines
-pub mod Copied
+pub mod Encoded
 pub mod Endings

@@ -1,12 +1,12 @@
 //! The bodies of replies in a line: written and read, by operation.
 ghost use Rattle.std.specs.Prelude.{◌≡◌, ◌++◌, IfErr, OnOk};
 ghost use Rattle.zk_answers.specs.Rows.{body_items};
-ghost use Rattle.zk_items.specs.{Copied.Copied, Form.Fails, Form.Gives, Form.Keeps};
-ghost use Rattle.zk_lines.specs.Copied.{with_stat};
+ghost use Rattle.zk_items.specs.{Encoded.Encoded, Form.Fails, Form.Gives, Form.Keeps};
+ghost use Rattle.zk_lines.specs.Encoded.{with_stat};
 ghost use Rattle.zk_lines.specs.Answers as answers;
 ghost use Rattle.zk_lines.specs.Rows.{only_written, row_at};
 
-use crate::copy_item::{Copies, copy_field, copy_multi};
+use crate::encode_item::{Encode, encode_field, encode_multi};
 use crate::put::{Put, put_field};
 use crate::word::{Word, field_word};
 use std::alloc::AllocError;
@@ -31,23 +31,23 @@ macro_rules! put_body {
 }
 
 /// Reads the field after `word`, and the `Stat` after it, and appends their bytes.
-fn copy_with_stat<T: Copies>(
+fn encode_with_stat<T: Encode>(
     line: &mut Reader<'_>,
     word: Word,
     out: &mut Vec<u8>,
 ) -> Result<(), LineFault>
-    ensures copied { OnOk result (Copied (answers.with_stat word T.form).at (with_stat T.items) line.old line.new out.old.items out.new.items) }
+    ensures encoded { OnOk result (Encoded (answers.with_stat word T.form).at (with_stat T.items) line.old line.new out.old.items out.new.items) }
     ensures refused { IfErr result (λ e. Fails e ((answers.with_stat word T.form).at line.old)) }
     ensures keeps { Keeps out.old.items out.new.items }
 {
-    copy_field::<T>(line, word, out)?;
-    copy_field::<Stat>(line, Word::Stat, out)?;
+    encode_field::<T>(line, word, out)?;
+    encode_field::<Stat>(line, Word::Stat, out)?;
     Ok(())
 }
 
 /// Reads the body of a reply to `op`, and appends its bytes.
-pub fn copy_body(line: &mut Reader<'_>, op: Op, out: &mut Vec<u8>) -> Result<(), LineFault>
-    ensures copied { OnOk result (Copied (row_at (answers.line_of op)) body_items line.old line.new out.old.items out.new.items) }
+pub fn encode_body(line: &mut Reader<'_>, op: Op, out: &mut Vec<u8>) -> Result<(), LineFault>
+    ensures encoded { OnOk result (Encoded (row_at (answers.line_of op)) body_items line.old line.new out.old.items out.new.items) }
     ensures refused { IfErr result (λ e. Fails e ((row_at (answers.line_of op)) line.old)) }
     ensures keeps { Keeps out.old.items out.new.items }
 {
@@ -55,10 +55,10 @@ pub fn copy_body(line: &mut Reader<'_>, op: Op, out: &mut Vec<u8>) -> Result<(),
         ($op:ident: $($($one:ident)|+: $only:ident $name:ident $kind:ident),+;
          $($both:ident: $first:ident $first_name:ident $first_kind:ident $borrowed:ident),+; $($bare:ident)|+) => {
             match $op {
-                $($(Op::$one => copy_field::<owned!($kind)>(line, field_word!($only), out),)+)+
-                $(Op::$both => copy_with_stat::<owned!($first_kind)>(line, field_word!($first), out),)+
+                $($(Op::$one => encode_field::<owned!($kind)>(line, field_word!($only), out),)+)+
+                $(Op::$both => encode_with_stat::<owned!($first_kind)>(line, field_word!($first), out),)+
                 $(Op::$bare => Ok(()),)+
-                Op::Multi => copy_multi::<PartDone>(line, out),
+                Op::Multi => encode_multi::<PartDone>(line, out),
             }
         };
     }

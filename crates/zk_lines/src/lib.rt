@@ -34,10 +34,10 @@
 mod answer;
 mod ask;
 mod body;
-mod copy_answer;
-mod copy_ask;
-mod copy_item;
-mod copy_lines;
+mod encode_answer;
+mod encode_ask;
+mod encode_item;
+mod encode_lines;
 mod ending;
 mod laws;
 mod line;
@@ -49,7 +49,7 @@ mod record;
 mod request;
 mod word;
 
-pub use copy_lines::copy_line;
+pub use encode_lines::encode_line;
 pub use ending::ending_line;
 pub use laws::{ending_laws, line_laws};
 pub use line::{line_of, line_of_ref, put_line, put_line_ref, read_line};

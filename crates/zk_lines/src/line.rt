@@ -5,7 +5,7 @@ ghost use Rattle.zk_lines.specs.Lines as lines;
 ghost use Rattle.zk_lines.specs.{Lines.Fits, Lines.Reads, Lines.whole, Lines.message_at, Rows.only_written};
 ghost use Rattle.zk_talk.specs.Held.{Message};
 
-use crate::copy_lines::copy_line;
+use crate::encode_lines::encode_line;
 use crate::put::Put;
 use std::alloc::{AllocError, Global};
 use zk_items::LineFault;
@@ -136,6 +136,6 @@ pub fn read_line(alloc: Global, bytes: &[u8]) -> Result<Message, LineFault>
     ensures only { (m : Message) → Fits m → bytes.now ≡ lines.line m → Reads m result }
 {
     let mut payload = Vec::new(alloc);
-    let kind = copy_line(bytes, &mut payload)?;
+    let kind = encode_line(bytes, &mut payload)?;
     Ok(message_ref(kind, &payload).to_message(alloc)?)
 }

@@ -3,11 +3,11 @@ ghost use Rattle.std.specs.Prelude.{◌≡◌, ◌+◌, ◌++◌, ◌<◌, ◌�
 ghost use Rattle.zk_jute.specs.Item.{int_bytes};
 ghost use Rattle.std.specs.List.{flat_map, AllByRecursion};
 ghost use Rattle.zk_jute.specs.Values.{list_items};
-ghost use Rattle.zk_items.specs.{Copied.Copied, Form.Fails, Form.Gives, Form.GivesSeen, Form.Keeps, Many.many_at, Many.with_first};
-ghost use Rattle.zk_lines.specs.Copied.{CopiedOthers, CopiedSeries};
+ghost use Rattle.zk_items.specs.{Encoded.Encoded, Form.Fails, Form.Gives, Form.GivesSeen, Form.Keeps, Many.many_at, Many.with_first};
+ghost use Rattle.zk_lines.specs.Encoded.{EncodedOthers, EncodedSeries};
 ghost use Rattle.zk_lines.specs.Series.{element_at, series_at, full_at, list_of, multi_of, series_spell};
 
-use crate::copy_item::{Copies, append};
+use crate::encode_item::{Encode, append};
 use crate::put::Put;
 use crate::word::{Word, put_word, read_word};
 use std::alloc::{AllocError, Global};
@@ -36,12 +36,12 @@ pub const PARTS: Signs = Signs {
 };
 
 /// Reads the items after the first, and appends their bytes; returns how many there are, with the first.
-fn copy_others<T: Copies>(
+fn encode_others<T: Encode>(
     line: &mut Reader<'_>,
     signs: Signs,
     out: &mut Vec<u8>,
 ) -> Result<usize, LineFault>
-    ensures copied { IfOk result (λ n. CopiedOthers signs.between signs.behind T.form.at T.items n line.old line.new out.old.items out.new.items) }
+    ensures encoded { IfOk result (λ n. EncodedOthers signs.between signs.behind T.form.at T.items n line.old line.new out.old.items out.new.items) }
     ensures refused { IfErr result (λ e. Fails e (many_at (element_at signs.between signs.behind T.form.at) (length line.old) line.old)) }
     ensures keeps { Keeps out.old.items out.new.items }
 {
@@ -51,38 +51,38 @@ fn copy_others<T: Copies>(
             return Ok(turn + 1);
         }
         line.literal(&[signs.between])?;
-        T::copy(line, out)?;
+        T::encode(line, out)?;
     }
     Err(line.fault(LineReason::Word))
 }
 
 /// Reads items, with a sign between two and one after the last, and appends their bytes; returns how many there are.
 /// Whatever `out` began with, it begins with.
-pub fn copy_series<T: Copies>(
+pub fn encode_series<T: Encode>(
     line: &mut Reader<'_>,
     signs: Signs,
     out: &mut Vec<u8>,
 ) -> Result<usize, LineFault>
-    ensures copied { IfOk result (λ n. CopiedSeries signs.between signs.behind T.form.at T.items n line.old line.new out.old.items out.new.items) }
+    ensures encoded { IfOk result (λ n. EncodedSeries signs.between signs.behind T.form.at T.items n line.old line.new out.old.items out.new.items) }
     ensures refused { IfErr result (λ e. Fails e (series_at signs.between signs.behind T.form.at line.old)) }
     ensures keeps { Keeps out.old.items out.new.items }
 {
     if line.passes(&[signs.behind]) {
         return Ok(0);
     }
-    T::copy(line, out)?;
-    copy_others::<T>(line, signs, out)
+    T::encode(line, out)?;
+    encode_others::<T>(line, signs, out)
 }
 
 /// Reads items between brackets, after the first of these, and appends their count and their bytes.
-fn copy_counted<T: Copies>(line: &mut Reader<'_>, out: &mut Vec<u8>) -> Result<(), LineFault>
-    ensures copied { OnOk result (Copied (full_at T.form.at) (list_items T.items) line.old line.new out.old.items out.new.items) }
+fn encode_counted<T: Encode>(line: &mut Reader<'_>, out: &mut Vec<u8>) -> Result<(), LineFault>
+    ensures encoded { OnOk result (Encoded (full_at T.form.at) (list_items T.items) line.old line.new out.old.items out.new.items) }
     ensures refused { IfErr result (λ e. Fails e ((full_at T.form.at) line.old)) }
     ensures keeps { Keeps out.old.items out.new.items }
 {
     let start = out.len();
     append(out, &0_i32)?;
-    let count = copy_series::<T>(line, COMMAS, out)?;
+    let count = encode_series::<T>(line, COMMAS, out)?;
     set_count(out, start, count)?;
     Ok(())
 }
@@ -155,14 +155,14 @@ impl<T: Put> Put for List<T> {
     }
 }
 
-impl<T: Copies> Copies for List<T> {
-    fn copy(line: &mut Reader<'_>, out: &mut Vec<u8>) -> Result<(), LineFault> {
+impl<T: Encode> Encode for List<T> {
+    fn encode(line: &mut Reader<'_>, out: &mut Vec<u8>) -> Result<(), LineFault> {
         if line.passes(b"~") {
             append(out, &-1_i32)?;
             return Ok(());
         }
         line.literal(b"[")?;
-        copy_counted::<T>(line, out)
+        encode_counted::<T>(line, out)
     }
 }
 

@@ -1,12 +1,12 @@
 //! The results of a multi in a line: written and read.
 ghost use Rattle.std.specs.Prelude.{◌≡◌, ◌++◌, IfErr, OnOk};
 ghost use Rattle.zk_answers.specs.Results as results;
-ghost use Rattle.zk_items.specs.{Copied.Copied, Form.Fails, Form.Gives, Form.Keeps, Codes.error_code};
+ghost use Rattle.zk_items.specs.{Encoded.Encoded, Form.Fails, Form.Gives, Form.Keeps, Codes.error_code};
 ghost use Rattle.zk_lines.specs.{Words.word_of, declared.word.Word.TheVariants.Err, declared.multi_result.DoneName.TheVariants.Fail};
 ghost use Rattle.zk_lines.specs.Answers as answers;
 ghost use Rattle.zk_lines.specs.Rows.{row_at};
 
-use crate::copy_item::{Copies, append, append_header, copy_field};
+use crate::encode_item::{Encode, append, append_header, encode_field};
 use crate::name::{done_named, key};
 use crate::put::{Put, put_field};
 use crate::word::{Word, put_word, read_word};
@@ -121,8 +121,8 @@ impl<'a> Put for PartDoneRef<'a> {
 }
 
 /// Reads the error of a part, and appends its result.
-fn copy_failed(line: &mut Reader<'_>, out: &mut Vec<u8>) -> Result<(), LineFault>
-    ensures copied { OnOk result (Copied (row_at (answers.done_line_of Fail)) results.done_items line.old line.new out.old.items out.new.items) }
+fn encode_failed(line: &mut Reader<'_>, out: &mut Vec<u8>) -> Result<(), LineFault>
+    ensures encoded { OnOk result (Encoded (row_at (answers.done_line_of Fail)) results.done_items line.old line.new out.old.items out.new.items) }
     ensures refused { IfErr result (λ e. Fails e ((row_at (answers.done_line_of Fail)) line.old)) }
     ensures keeps { Keeps out.old.items out.new.items }
 {
@@ -134,15 +134,15 @@ fn copy_failed(line: &mut Reader<'_>, out: &mut Vec<u8>) -> Result<(), LineFault
 }
 
 /// Reads the result after the name `name`, and appends its bytes.
-fn copy_done(line: &mut Reader<'_>, name: DoneName, out: &mut Vec<u8>) -> Result<(), LineFault>
-    ensures copied { OnOk result (Copied (row_at (answers.done_line_of name)) results.done_items line.old line.new out.old.items out.new.items) }
+fn encode_done(line: &mut Reader<'_>, name: DoneName, out: &mut Vec<u8>) -> Result<(), LineFault>
+    ensures encoded { OnOk result (Encoded (row_at (answers.done_line_of name)) results.done_items line.old line.new out.old.items out.new.items) }
     ensures refused { IfErr result (λ e. Fails e ((row_at (answers.done_line_of name)) line.old)) }
     ensures keeps { Keeps out.old.items out.new.items }
 {
     match name {
         DoneName::Create => {
             append_header(out, part_number(PartOp::Create), false, 0)?;
-            copy_field::<Text>(line, Word::Path, out)
+            encode_field::<Text>(line, Word::Path, out)
         }
         DoneName::Delete => {
             append_header(out, part_number(PartOp::Delete), false, 0)?;
@@ -150,19 +150,19 @@ fn copy_done(line: &mut Reader<'_>, name: DoneName, out: &mut Vec<u8>) -> Result
         }
         DoneName::SetData => {
             append_header(out, part_number(PartOp::SetData), false, 0)?;
-            copy_field::<Stat>(line, Word::Stat, out)
+            encode_field::<Stat>(line, Word::Stat, out)
         }
         DoneName::Check => {
             append_header(out, part_number(PartOp::Check), false, 0)?;
             Ok(())
         }
-        DoneName::Fail => copy_failed(line, out),
+        DoneName::Fail => encode_failed(line, out),
     }
 }
 
-impl Copies for PartDone {
-    fn copy(line: &mut Reader<'_>, out: &mut Vec<u8>) -> Result<(), LineFault> {
+impl Encode for PartDone {
+    fn encode(line: &mut Reader<'_>, out: &mut Vec<u8>) -> Result<(), LineFault> {
         let name = key!(line, done_named);
-        copy_done(line, name, out)
+        encode_done(line, name, out)
     }
 }

@@ -3,7 +3,7 @@ ghost use Rattle.std.specs.Prelude.{◌≡◌, ◌++◌, ◌∷◌, ◌+◌, ◌
 ghost use Rattle.zk_items.specs.{Form.Form, Form.Gives, Form.Keeps, Leaf.int};
 ghost use Rattle.zk_lines.specs.Records as records;
 
-use crate::copy_item::{Copies, copy_field};
+use crate::encode_item::{Encode, encode_field};
 use crate::put::{Put, put_field};
 use crate::word::{Word, read_word};
 use std::alloc::AllocError;
@@ -33,11 +33,11 @@ impl<T: Put> Put for AclOf<IdOf<T>> {
     }
 }
 
-impl Copies for Acl {
-    fn copy(line: &mut Reader<'_>, out: &mut Vec<u8>) -> Result<(), LineFault> {
-        i32::copy(line, out)?;
-        copy_field::<Text>(line, Word::Colon, out)?;
-        copy_field::<Text>(line, Word::Colon, out)?;
+impl Encode for Acl {
+    fn encode(line: &mut Reader<'_>, out: &mut Vec<u8>) -> Result<(), LineFault> {
+        i32::encode(line, out)?;
+        encode_field::<Text>(line, Word::Colon, out)?;
+        encode_field::<Text>(line, Word::Colon, out)?;
         Ok(())
     }
 }

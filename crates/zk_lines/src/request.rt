@@ -1,15 +1,16 @@
 //! The records of requests in a line, by their fields: written, read, and read into bytes.
 ghost use Rattle.zk_lines.specs.Asks as asks;
 
-use crate::copy_item::{Copies, copy_field, copy_fields};
+use crate::encode_item::{Encode, encode_field, encode_fields};
 use crate::put::{Put, put_field, put_fields};
 use crate::word::{Word, field_word};
 use std::alloc::AllocError;
 use zk_items::{LineFault, Reader};
 use zk_records::{
-    AuthAsk, AuthAskOf, CheckAsk, CheckAskOf, CreateAsk, CreateAskOf, DeleteAsk, DeleteAskOf,
-    PathAsk, PathAskOf, SetAclAsk, SetAclAskOf, SetDataAsk, SetDataAskOf, SetWatchesAsk,
-    SetWatchesAskOf, WatchAsk, WatchAskOf, fields_of, owned,
+    AddWatchAsk, AddWatchAskOf, AuthAsk, AuthAskOf, CheckAsk, CheckAskOf, CreateAsk, CreateAskOf,
+    CreateTtlAsk, CreateTtlAskOf, DeleteAsk, DeleteAskOf, PathAsk, PathAskOf, ReconfigAsk,
+    ReconfigAskOf, SetAclAsk, SetAclAskOf, SetDataAsk, SetDataAskOf, SetWatchesAsk,
+    SetWatchesAskOf, WatchAsk, WatchAskOf, WatchesAsk, WatchesAskOf, fields_of, owned,
 };
 
 impl<T: Put, B: Put, A: Put> Put for CreateAskOf<T, B, A> {
@@ -20,9 +21,9 @@ impl<T: Put, B: Put, A: Put> Put for CreateAskOf<T, B, A> {
     }
 }
 
-impl Copies for CreateAsk {
-    fn copy(line: &mut Reader<'_>, out: &mut Vec<u8>) -> Result<(), LineFault> {
-        fields_of!(CreateAsk, copy_fields, line, out);
+impl Encode for CreateAsk {
+    fn encode(line: &mut Reader<'_>, out: &mut Vec<u8>) -> Result<(), LineFault> {
+        fields_of!(CreateAsk, encode_fields, line, out);
         Ok(())
     }
 }
@@ -35,9 +36,9 @@ impl<T: Put> Put for DeleteAskOf<T> {
     }
 }
 
-impl Copies for DeleteAsk {
-    fn copy(line: &mut Reader<'_>, out: &mut Vec<u8>) -> Result<(), LineFault> {
-        fields_of!(DeleteAsk, copy_fields, line, out);
+impl Encode for DeleteAsk {
+    fn encode(line: &mut Reader<'_>, out: &mut Vec<u8>) -> Result<(), LineFault> {
+        fields_of!(DeleteAsk, encode_fields, line, out);
         Ok(())
     }
 }
@@ -50,9 +51,9 @@ impl<T: Put> Put for WatchAskOf<T> {
     }
 }
 
-impl Copies for WatchAsk {
-    fn copy(line: &mut Reader<'_>, out: &mut Vec<u8>) -> Result<(), LineFault> {
-        fields_of!(WatchAsk, copy_fields, line, out);
+impl Encode for WatchAsk {
+    fn encode(line: &mut Reader<'_>, out: &mut Vec<u8>) -> Result<(), LineFault> {
+        fields_of!(WatchAsk, encode_fields, line, out);
         Ok(())
     }
 }
@@ -65,9 +66,9 @@ impl<T: Put, B: Put> Put for SetDataAskOf<T, B> {
     }
 }
 
-impl Copies for SetDataAsk {
-    fn copy(line: &mut Reader<'_>, out: &mut Vec<u8>) -> Result<(), LineFault> {
-        fields_of!(SetDataAsk, copy_fields, line, out);
+impl Encode for SetDataAsk {
+    fn encode(line: &mut Reader<'_>, out: &mut Vec<u8>) -> Result<(), LineFault> {
+        fields_of!(SetDataAsk, encode_fields, line, out);
         Ok(())
     }
 }
@@ -80,9 +81,9 @@ impl<T: Put> Put for PathAskOf<T> {
     }
 }
 
-impl Copies for PathAsk {
-    fn copy(line: &mut Reader<'_>, out: &mut Vec<u8>) -> Result<(), LineFault> {
-        fields_of!(PathAsk, copy_fields, line, out);
+impl Encode for PathAsk {
+    fn encode(line: &mut Reader<'_>, out: &mut Vec<u8>) -> Result<(), LineFault> {
+        fields_of!(PathAsk, encode_fields, line, out);
         Ok(())
     }
 }
@@ -95,9 +96,9 @@ impl<T: Put, A: Put> Put for SetAclAskOf<T, A> {
     }
 }
 
-impl Copies for SetAclAsk {
-    fn copy(line: &mut Reader<'_>, out: &mut Vec<u8>) -> Result<(), LineFault> {
-        fields_of!(SetAclAsk, copy_fields, line, out);
+impl Encode for SetAclAsk {
+    fn encode(line: &mut Reader<'_>, out: &mut Vec<u8>) -> Result<(), LineFault> {
+        fields_of!(SetAclAsk, encode_fields, line, out);
         Ok(())
     }
 }
@@ -110,9 +111,9 @@ impl<T: Put, B: Put> Put for AuthAskOf<T, B> {
     }
 }
 
-impl Copies for AuthAsk {
-    fn copy(line: &mut Reader<'_>, out: &mut Vec<u8>) -> Result<(), LineFault> {
-        fields_of!(AuthAsk, copy_fields, line, out);
+impl Encode for AuthAsk {
+    fn encode(line: &mut Reader<'_>, out: &mut Vec<u8>) -> Result<(), LineFault> {
+        fields_of!(AuthAsk, encode_fields, line, out);
         Ok(())
     }
 }
@@ -125,9 +126,9 @@ impl<L: Put> Put for SetWatchesAskOf<L> {
     }
 }
 
-impl Copies for SetWatchesAsk {
-    fn copy(line: &mut Reader<'_>, out: &mut Vec<u8>) -> Result<(), LineFault> {
-        fields_of!(SetWatchesAsk, copy_fields, line, out);
+impl Encode for SetWatchesAsk {
+    fn encode(line: &mut Reader<'_>, out: &mut Vec<u8>) -> Result<(), LineFault> {
+        fields_of!(SetWatchesAsk, encode_fields, line, out);
         Ok(())
     }
 }
@@ -140,9 +141,69 @@ impl<T: Put> Put for CheckAskOf<T> {
     }
 }
 
-impl Copies for CheckAsk {
-    fn copy(line: &mut Reader<'_>, out: &mut Vec<u8>) -> Result<(), LineFault> {
-        fields_of!(CheckAsk, copy_fields, line, out);
+impl Encode for CheckAsk {
+    fn encode(line: &mut Reader<'_>, out: &mut Vec<u8>) -> Result<(), LineFault> {
+        fields_of!(CheckAsk, encode_fields, line, out);
+        Ok(())
+    }
+}
+
+impl<T: Put, B: Put, A: Put> Put for CreateTtlAskOf<T, B, A> {
+    ghost form = { asks.create_ttl_of T.form B.form A.form };
+
+    fn put(&self, out: &mut Vec<u8>) -> Result<(), AllocError> {
+        fields_of!(CreateTtlAsk, put_fields, out, self)
+    }
+}
+
+impl Encode for CreateTtlAsk {
+    fn encode(line: &mut Reader<'_>, out: &mut Vec<u8>) -> Result<(), LineFault> {
+        fields_of!(CreateTtlAsk, encode_fields, line, out);
+        Ok(())
+    }
+}
+
+impl<T: Put> Put for WatchesAskOf<T> {
+    ghost form = { asks.watches_of T.form };
+
+    fn put(&self, out: &mut Vec<u8>) -> Result<(), AllocError> {
+        fields_of!(WatchesAsk, put_fields, out, self)
+    }
+}
+
+impl Encode for WatchesAsk {
+    fn encode(line: &mut Reader<'_>, out: &mut Vec<u8>) -> Result<(), LineFault> {
+        fields_of!(WatchesAsk, encode_fields, line, out);
+        Ok(())
+    }
+}
+
+impl<T: Put> Put for AddWatchAskOf<T> {
+    ghost form = { asks.add_watch_of T.form };
+
+    fn put(&self, out: &mut Vec<u8>) -> Result<(), AllocError> {
+        fields_of!(AddWatchAsk, put_fields, out, self)
+    }
+}
+
+impl Encode for AddWatchAsk {
+    fn encode(line: &mut Reader<'_>, out: &mut Vec<u8>) -> Result<(), LineFault> {
+        fields_of!(AddWatchAsk, encode_fields, line, out);
+        Ok(())
+    }
+}
+
+impl<T: Put> Put for ReconfigAskOf<T> {
+    ghost form = { asks.reconfig_of T.form };
+
+    fn put(&self, out: &mut Vec<u8>) -> Result<(), AllocError> {
+        fields_of!(ReconfigAsk, put_fields, out, self)
+    }
+}
+
+impl Encode for ReconfigAsk {
+    fn encode(line: &mut Reader<'_>, out: &mut Vec<u8>) -> Result<(), LineFault> {
+        fields_of!(ReconfigAsk, encode_fields, line, out);
         Ok(())
     }
 }

@@ -15,13 +15,20 @@ pub enum Word {
     Blob,
     ChildWatches,
     Close,
+    Code,
     Colon,
     Comma,
+    Config,
+    Count,
     DataWatches,
     Err,
     ExistWatches,
     Flags,
+    Joining,
     Kind,
+    Leaving,
+    Members,
+    Mode,
     Names,
     Open,
     Parts,
@@ -33,6 +40,7 @@ pub enum Word {
     Stat,
     State,
     Timeout,
+    Ttl,
     Version,
     Watch,
     Zxid,
@@ -44,11 +52,18 @@ macro_rules! field_word {
     (auth) => { Word::Auth };
     (blob) => { Word::Blob };
     (child_watches) => { Word::ChildWatches };
+    (code) => { Word::Code };
+    (config) => { Word::Config };
+    (count) => { Word::Count };
     (data_watches) => { Word::DataWatches };
     (exist_watches) => { Word::ExistWatches };
     (flags) => { Word::Flags };
+    (joining) => { Word::Joining };
     (kind) => { Word::Kind };
     (last_zxid_seen) => { Word::Zxid };
+    (leaving) => { Word::Leaving };
+    (members) => { Word::Members };
+    (mode) => { Word::Mode };
     (names) => { Word::Names };
     (passwd) => { Word::Passwd };
     (path) => { Word::Path };
@@ -58,6 +73,7 @@ macro_rules! field_word {
     (stat) => { Word::Stat };
     (state) => { Word::State };
     (time_out) => { Word::Timeout };
+    (ttl) => { Word::Ttl };
     (version) => { Word::Version };
     (watch) => { Word::Watch };
     (zxid) => { Word::Zxid };
@@ -78,13 +94,20 @@ pub fn word_bytes(word: Word) -> &'static [u8]
         Word::Blob => b" blob=",
         Word::ChildWatches => b" childWatches=",
         Word::Close => b")",
+        Word::Code => b" code=",
         Word::Colon => b":",
         Word::Comma => b",",
+        Word::Config => b" config=",
+        Word::Count => b" count=",
         Word::DataWatches => b" dataWatches=",
         Word::Err => b" err=",
         Word::ExistWatches => b" existWatches=",
         Word::Flags => b" flags=",
+        Word::Joining => b" joining=",
         Word::Kind => b" kind=",
+        Word::Leaving => b" leaving=",
+        Word::Members => b" members=",
+        Word::Mode => b" mode=",
         Word::Names => b" names=",
         Word::Open => b"(",
         Word::Parts => b" {",
@@ -96,6 +119,7 @@ pub fn word_bytes(word: Word) -> &'static [u8]
         Word::Stat => b" stat=",
         Word::State => b" state=",
         Word::Timeout => b" timeout=",
+        Word::Ttl => b" ttl=",
         Word::Version => b" version=",
         Word::Watch => b" watch=",
         Word::Zxid => b" zxid=",

@@ -17,8 +17,8 @@ fault-headed limits (Breaks AtLetters b) g is = absurd (fault_is_bad limits [] g
 fault-headed limits (Breaks (InHead format) b) g is = absurd (fault_is_bad limits [] g is (nothing-good limits))
 fault-headed limits _ g is = tt
 
-pub undecided : (limits : Limits) (bytes rest : List ℕ) (r s : Recording) → Spells bytes r → Spells (bytes ++ rest) s → IsGood (limits_of limits s) (history_of s) → damage_of s ≡ None → IsDecided limits bytes r → ⊥
-undecided limits bytes rest r s i j good undamaged (inl f) = by-fault (fault-headed limits r f.0 f.1)
+pub not_ended : (limits : Limits) (bytes rest : List ℕ) (r s : Recording) → Spells bytes r → Spells (bytes ++ rest) s → IsGood (limits_of limits s) (history_of s) → damage_of s ≡ None → IsDecided limits bytes r → ⊥
+not_ended limits bytes rest r s i j good undamaged (inl f) = by-fault (fault-headed limits r f.0 f.1)
   where
     by-fault : IsHeaded (place_of r) → ⊥
     by-fault is =
@@ -27,6 +27,6 @@ undecided limits bytes rest r s i j good undamaged (inl f) = by-fault (fault-hea
         let more = fault_more (limits_of limits r) (history_of r) l.after f.0 f.1 in
         let here = subst (λ z. IsFaultOf z (history_of l.new) f.0) (sym (l.limits_are is limits)) (subst (λ h. IsFaultOf (limits_of limits r) h f.0) (sym l.history) more) in
         fault_is_bad (limits_of limits s) (history_of s) f.0 (subst (λ q. IsFaultOf (limits_of limits q) (history_of q) f.0) same here) good
-undecided limits bytes rest r s i j good undamaged (inr b) =
+not_ended limits bytes rest r s i j good undamaged (inr b) =
     let d = damaged-more b.0 bytes rest r i b.1 in
     none-some b.0 (sym undamaged ∙ ap damage_of (sym (spells-once (bytes ++ rest) s d.0 j d.1)) ∙ d.2.damage)

@@ -28,7 +28,7 @@ pub record Follows (limits : Limits) (x : List ℕ) (messages : List Message) (p
   pub unbroken : IsBroken x recording → ⊥
   pub talks : Talks limits recording messages p.talk
 
--- a talk that refused a history keeps the fault
+-- the fault of a talk that refused a history stays
 abbrev pub HasRefused : Limits → Option TalkState → History → List Message → Fault → Type 0
 HasRefused limits None h messages fault = ⊥
 HasRefused limits (Some talk) h messages fault = Refuses talk h messages fault × (talk.limits ≡ limits)
@@ -100,12 +100,12 @@ IsLastingSummary reader None None = IsUndamaged reader
 IsLastingSummary reader None (Some (Broken damage)) = IsDamagedBy reader damage
 IsLastingSummary reader None (Some (Ended ending)) = ⊥
 
--- the recording goes on, or its summary is known
+-- the recording goes on, or its summary is decided
 abbrev pub Reaches : Limits → List ℕ → List Message → Progress → Option Summary → Type 0
 Reaches limits x messages p None = Follows limits x messages p
 Reaches limits x messages p (Some summary) = Decides limits x messages p.talk summary
 
--- the block was read: the recording goes on, or its summary is known, and the lines of its messages were appended
+-- the block was read: the recording goes on, or its summary is decided, and the lines of its messages were appended
 abbrev pub Advances : Listing → Progress → List ℕ → List ℕ → Option Summary → Progress → List ℕ → Type 0
 Advances listing p lines block found now lines_now =
     (limits : Limits) (x : List ℕ) (messages : List Message) → Follows limits x messages p →

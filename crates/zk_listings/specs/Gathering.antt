@@ -61,20 +61,20 @@ GathersIn limits old g bytes refused new now = (h : History) (messages : List Me
 
 -- ---- what a block does to a recording that is read
 
--- the recording goes on, but for the bytes that wait, or its summary is known
+-- the recording goes on, but for the bytes that wait, or its summary is decided
 abbrev pub ReachesBut : SideBytes → Limits → List ℕ → List Message → Progress → Option Summary → Type 0
 ReachesBut g limits x messages p None = FollowsBut g limits x messages p
 ReachesBut g limits x messages p (Some summary) = Decides limits x messages p.talk summary
 
--- with less than 2^62 bytes in all, the block was read: the recording goes on, or its summary is known
+-- with less than 2^62 bytes in all, the block was read: the recording goes on, or its summary is decided
 abbrev pub AdvancesBut : SideBytes → Listing → Progress → List ℕ → List ℕ → Option Summary → SideBytes → Progress → List ℕ → Type 0
 AdvancesBut g listing p lines block found g_now now lines_now =
     (limits : Limits) (x : List ℕ) (messages : List Message) → FollowsBut g limits x messages p → length x + length block < 2 ^ 62 →
     (more : List Message) × ReachesBut g_now limits (x ++ block) (messages ++ more) now found × (lines_now ≡ lines ++ text_of listing more)
 
 -- no more is read, and the bytes that waited were given to the talk; nothing waits where lines are listed
-abbrev pub GivesUp : SideBytes → Progress → Option Summary → SideBytes → Progress → Type 0
-GivesUp g p found g_now now = (listing : Listing) (lines : List ℕ) → (listing ≡ All → g.bytes ≡ []) → AdvancesBut g listing p lines [] found g_now now lines
+abbrev pub Flushes : SideBytes → Progress → Option Summary → SideBytes → Progress → Type 0
+Flushes g p found g_now now = (listing : Listing) (lines : List ℕ) → (listing ≡ All → g.bytes ≡ []) → AdvancesBut g listing p lines [] found g_now now lines
 
 -- this number of first bytes of a block was taken, or the recording's summary was found in the block
 abbrev pub StepsBut : SideBytes → Listing → Progress → List ℕ → List ℕ → ℕ → Option Summary → SideBytes → Progress → List ℕ → Type 0

@@ -39,7 +39,7 @@ pub record IsOutcome (limits : Limits) (r : Recording) (messages : List Message)
 abbrev pub IsBroken : List ℕ → Recording → Type 0
 IsBroken x r = (damage : DamageAt) × IsDecidedBy damage x r
 
--- whatever follows, the recording keeps its fault or its damage
+-- whatever follows, the recording's fault or damage stays
 abbrev pub IsDecided : Limits → List ℕ → Recording → Type 0
 IsDecided limits x r = ((fault : Fault) × IsFaultOf (limits_of limits r) (history_of r) fault) ⊎ IsBroken x r
 

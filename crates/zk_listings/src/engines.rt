@@ -22,7 +22,7 @@ pub const MOST_READS: u64 = 4_294_967_296;
 pub const BLOCK: usize = 65_536;
 
 /// Reads once, takes what came, and appends the lines of its messages. Returns the number of bytes, 0 only at the end, and the
-/// recording's summary if it is known, whatever follows.
+/// recording's summary if it is decided, whatever follows.
 fn read_once<R: Source>(
     progress: &mut Progress,
     reader: &mut R,
@@ -66,7 +66,7 @@ fn read_once<R: Source>(
     }
 }
 
-/// Reads until the recording's summary is known, whatever follows, or to the end, and writes the lines of its messages:
+/// Reads until the recording's summary is decided, whatever follows, or to the end, and writes the lines of its messages:
 /// those of each read before the next one. One buffer holds them, as long as the run.
 // If no line is listed, the bytes of a long frame wait in `gathered`.
 pub(crate) fn read_on<R: Source, W: Sink>(
@@ -101,7 +101,7 @@ pub(crate) fn read_on<R: Source, W: Sink>(
             return Ok((summary, progress));
         }
         if count == 0 {
-            if let Some(summary) = progress.give_up(&mut gathered) {
+            if let Some(summary) = progress.flush(&mut gathered) {
                 return Ok((summary, progress));
             }
             return Ok((progress.finish(), progress));

@@ -188,8 +188,8 @@ impl Progress {
         }
     }
 
-    /// Takes the first bytes of a block, and returns how many. `found` becomes the recording's summary, if it is known from
-    /// the block, whatever follows.
+    /// Takes the first bytes of a block, and returns how many. `found` becomes the recording's summary, if the block
+    /// decides it, whatever follows.
     fn advance(
         &mut self,
         block: &[u8],
@@ -271,7 +271,8 @@ impl Progress {
         }
     }
 
-    /// Takes a block, and appends the lines of its messages. Returns the recording's summary if it is known, whatever follows.
+    /// Takes a block, and appends the lines of its messages. Returns the recording's summary if it is decided, whatever
+    /// follows.
     pub fn feed(
         &mut self,
         block: &[u8],

@@ -4,7 +4,7 @@ ghost use Rattle.std.specs.Prelude.{◌≡◌, ◌≢◌, ◌+◌, ◌^◌, ◌<
 ghost use Rattle.zk_frames.specs.Framing.{IsBeginning};
 ghost use Rattle.zk_talk.specs.{Fault.side_limit, History.on, declared.limits.Limits.Limits as limits_of};
 ghost use Rattle.zk_listings.specs.{declared.listing.Listing.TheVariants.Last, Following.Takes};
-ghost use Rattle.zk_listings.specs.Gathering.{Begins, Gathers, GathersIn, GivesUp, IsNextRead, StepsBut, TakesRead, Turns};
+ghost use Rattle.zk_listings.specs.Gathering.{Begins, Gathers, GathersIn, Flushes, IsNextRead, StepsBut, TakesRead, Turns};
 ghost use Rattle.zk_recordings.specs.Reading.{IsInContent, content_of, place_in};
 
 use crate::engines::BLOCK;
@@ -196,7 +196,7 @@ impl Progress {
     }
 
     /// Takes the last `count` gathered bytes, content that was read after the others. Returns the recording's summary if it is
-    /// known, whatever follows.
+    /// decided, whatever follows.
     pub fn take_read(&mut self, gathered: &mut Gathered, count: usize) -> Option<Summary>
         requires begun { self.old.talk ≢ None }
         requires within { (left : ℕ) × IsInContent self.old.reader gathered.old.side left × (count ≤ left) }
@@ -213,9 +213,9 @@ impl Progress {
         ended_by(hand_over(talk, gathered, &limits))
     }
 
-    /// Gives what is gathered to the conversation. Returns the recording's summary if it is known, whatever follows.
-    pub fn give_up(&mut self, gathered: &mut Gathered) -> Option<Summary>
-        ensures advances { GivesUp gathered.old self.old result gathered.new self.new }
+    /// Gives what is gathered to the conversation. Returns the recording's summary if it is decided, whatever follows.
+    pub fn flush(&mut self, gathered: &mut Gathered) -> Option<Summary>
+        ensures advances { Flushes gathered.old self.old result gathered.new self.new }
         ensures empty { gathered.new.bytes ≡ [] }
     {
         if gathered.is_empty() {

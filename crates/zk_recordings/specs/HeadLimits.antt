@@ -1,9 +1,10 @@
 -- The limits that a head's numbers make.
-use Rattle.std.specs.Prelude.{ℕ, ◌⊎◌, ◌&&◌, ◌==◌, if◌then◌else◌}
+use Rattle.std.specs.Prelude.{ℕ, ◌⊎◌, ◌&&◌, unwrap_or}
 use Rattle.std.proofs.Common.{arith, inl, inr}
 use Rattle.std.proofs.{lemmas.Bool.cases_Bool, lemmas.Bool.Decides.nat_tests}
 use Rattle.zk_records.specs.declared.profile.Profile.{Profile}
-use Rattle.zk_records.specs.declared.profile.Profile.TheVariants.{V34, V35}
+use Rattle.zk_records.specs.declared.profile.Profile.TheVariants.{V34}
+use Rattle.zk_records.specs.Codes.{profile_of}
 use Rattle.zk_talk.specs.{declared.limits.Limits.Limits, Ranges.AreLimits}
 use Rattle.zk_recordings.specs.Parts.{is_within}
 
@@ -13,9 +14,9 @@ are_or_not client server waiting = elim (cases_Bool (is_within 64 16777216 clien
   | inr not ↦ inr (λ are. grind (arith, nat_tests))
 ]
 
--- 35 is the profile of ZooKeeper 3.5, and 34 that of 3.4
+-- the profile of the number, and that of 3.4 where it is none's
 abbrev pub profile_by : ℕ → Profile
-profile_by n = if n == 35 then V35 else V34
+profile_by n = unwrap_or (profile_of n) V34
 
 abbrev pub limits_by : (options : Limits) (client server waiting : ℕ) (profile : Profile) →
     AreLimits client server waiting ⊎ (AreLimits client server waiting → ⊥) → Limits

@@ -1,8 +1,9 @@
 -- The parts of recordings whose width is fixed, row by row: how wide each is, which values are good, and which damage a
 -- recording has that ends in it; and the formats, as lists of parts.
-use Rattle.std.specs.Prelude.{ℕ, List, [], ◌∷◌, Option, None, Some, Bool, nat_le, nat_lt, ◌&&◌, ◌||◌, ◌^◌}
+use Rattle.std.specs.Prelude.{ℕ, List, [], ◌∷◌, Option, None, Some, is_some, Bool, nat_le, nat_lt, ◌&&◌, ◌||◌, ◌^◌}
 use Rattle.std.specs.{Int.from_be_bytes, Str.bytes_eq}
 use Rattle.std.proofs.Common.{w32, w64}
+use Rattle.zk_records.specs.Codes.{profile_of}
 use Rattle.zk_recordings.specs.{declared.parts.Damage.Damage, declared.parts.Format.Format, declared.parts.Format.TheVariants.Zkr1, declared.parts.Format.TheVariants.Zkr2, declared.parts.Part.Part}
 use Rattle.zk_recordings.specs.declared.parts.Damage.TheVariants.{BadHead, BadLimits, BadSide, BadTime, BadSize, Short}
 use Rattle.zk_recordings.specs.declared.parts.Part.TheVariants.{Letters, ClientLimit, ServerLimit, Waiting, Profile, SideByte, Time, Size}
@@ -35,7 +36,7 @@ is_good Letters value = bytes_eq value (letters Zkr1) || bytes_eq value (letters
 is_good ClientLimit value = is_within 64 16777216 (number value)
 is_good ServerLimit value = is_within 64 16777216 (number value)
 is_good Waiting value = is_within 1 1048576 (number value)
-is_good Profile value = is_within 34 35 (number value)
+is_good Profile value = is_some (profile_of (number value))
 is_good SideByte value = bytes_eq value (67 ∷ []) || bytes_eq value (83 ∷ [])
 is_good Time value = nat_lt (long_number value) (2 ^ 63)
 is_good Size value = is_within 1 16777220 (number value)

@@ -30,15 +30,11 @@ pub struct WholePiece {
     pub used: usize,
 }
 
-/// The profile whose number is `number`, in a head.
+/// The profile whose number is `number`, in a head; that of 3.4 where it is none's.
 pub fn profile_of(number: u32) -> Profile
     ensures { result ≡ profile_by number }
 {
-    if number == 35 {
-        Profile::V35
-    } else {
-        Profile::V34
-    }
+    Profile::of_number(number).unwrap_or(Profile::V34)
 }
 
 /// The limits that a head's numbers make; `None` if one is out of range.

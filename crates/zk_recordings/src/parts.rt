@@ -2,6 +2,8 @@
 ghost use Rattle.std.specs.Prelude.{◌≡◌, length, take};
 ghost use Rattle.zk_recordings.specs.Parts as parts;
 
+use zk_records::Profile;
+
 /// Why a recording ends before its bytes do, or in the middle of a piece.
 #[derive(Clone, Copy, Debug, PartialEq, Eq)]
 pub enum Damage {
@@ -48,7 +50,7 @@ pub enum Part {
     ServerLimit,
     /// An int: the greatest weight of the requests that wait for their replies.
     Waiting,
-    /// An int: 34 for ZooKeeper 3.4, 35 for 3.5.
+    /// An int: the number of a profile.
     Profile,
     /// A byte: `C` or `S`.
     SideByte,
@@ -125,7 +127,7 @@ impl Part {
             }
             Part::ClientLimit | Part::ServerLimit => is_within(64, 16_777_216, number(bytes)),
             Part::Waiting => is_within(1, 1_048_576, number(bytes)),
-            Part::Profile => is_within(34, 35, number(bytes)),
+            Part::Profile => Profile::of_number(number(bytes)).is_some(),
             Part::SideByte => bytes[0] == b'C' || bytes[0] == b'S',
             Part::Time => u64::from_be_bytes(bytes) < 1 << 63,
             Part::Size => is_within(1, 16_777_220, number(bytes)),

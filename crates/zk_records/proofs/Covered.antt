@@ -6,7 +6,7 @@ use Rattle.zk_records.specs.{Held.Id, Held.Acl, declared.stat.Stat.Stat}
 use Rattle.zk_jute.specs.Wired.{Wired, ◌and◌, int, long, boolean, ustring, buffer, vector}
 use Rattle.zk_jute.proofs.Covers.{Covers, field, joined, int_covered, long_covered, bool_covered, text_covered, blob_covered, vector_covered}
 use Rattle.zk_records.specs.Made as made
-use Rattle.zk_records.specs.Records.{id, acl, stat, connect_request, connect_response, request_header, reply_header, multi_header, watcher_event, create_ask, delete_ask, watch_ask, set_data_ask, path_ask, set_acl_ask, auth_ask, set_watches_ask, check_ask, data_body, acl_body, children_body, create_body}
+use Rattle.zk_records.specs.Records.{id, acl, stat, connect_request, connect_response, request_header, reply_header, multi_header, watcher_event, create_ask, delete_ask, watch_ask, create_ttl_ask, watches_ask, add_watch_ask, reconfig_ask, set_data_ask, path_ask, set_acl_ask, auth_ask, set_watches_ask, check_ask, data_body, acl_body, children_body, create_body}
 
 -- a type of value whose layout's items are all some value's
 record Covering (X : Type 0) : Type 0 where
@@ -124,3 +124,15 @@ children_body_covered = by (texts both a_stat) children_body made.children_body 
 
 pub create_body_covered : Covers create_body
 create_body_covered = by (a_text both a_stat) create_body made.create_body (refl, λ x. refl)
+
+pub add_watch_ask_covered : Covers add_watch_ask
+add_watch_ask_covered = by (a_text both an_int) add_watch_ask made.add_watch_ask (refl, λ x. refl)
+
+pub create_ttl_ask_covered : Covers create_ttl_ask
+create_ttl_ask_covered = by (a_text both a_blob both rights both an_int both a_long) create_ttl_ask made.create_ttl_ask (refl, λ x. refl)
+
+pub watches_ask_covered : Covers watches_ask
+watches_ask_covered = by (a_text both an_int) watches_ask made.watches_ask (refl, λ x. refl)
+
+pub reconfig_ask_covered : Covers reconfig_ask
+reconfig_ask_covered = by (a_text both a_text both a_text both a_long) reconfig_ask made.reconfig_ask (refl, λ x. refl)

@@ -1,5 +1,6 @@
 -- The numbers and names of operations (ZooDefs.OpCode), as tables.
-use Rattle.std.specs.Prelude.{◌≡◌, ◌≢◌, ℕ, zero, suc, ℤ, pos, negsuc, List, [], ◌∷◌, codes}
+use Rattle.std.specs.Prelude.{◌≢◌, ℕ, zero, suc, ℤ, pos, negsuc, ◌≤◌, List, [], ◌∷◌, map, nat_eq, Option, codes}
+use Rattle.std.specs.Map.{lookup}
 use Rattle.zk_records.specs.{declared.op.Op.Op, declared.op.PartOp.PartOp, declared.profile.Profile.Profile}
 use Rattle.zk_records.specs.declared.op.Op.TheVariants as ops
 use Rattle.zk_records.specs.declared.op.PartOp.TheVariants as parts
@@ -28,6 +29,14 @@ op_row ops.Create2 = (profiles.V35, pos 15, codes "create2")
 op_row ops.Auth = (profiles.V34, pos 100, codes "auth")
 op_row ops.SetWatches = (profiles.V34, pos 101, codes "setWatches")
 op_row ops.CloseSession = (profiles.V34, minus 11, codes "closeSession")
+op_row ops.Reconfig = (profiles.V37, pos 16, codes "reconfig")
+op_row ops.CheckWatches = (profiles.V37, pos 17, codes "checkWatches")
+op_row ops.RemoveWatches = (profiles.V37, pos 18, codes "removeWatches")
+op_row ops.CreateContainer = (profiles.V37, pos 19, codes "createContainer")
+op_row ops.CreateTtl = (profiles.V37, pos 21, codes "createTTL")
+op_row ops.GetEphemerals = (profiles.V37, pos 103, codes "getEphemerals")
+op_row ops.GetAllChildrenNumber = (profiles.V37, pos 104, codes "getAllChildrenNumber")
+op_row ops.AddWatch = (profiles.V37, pos 106, codes "addWatch")
 
 abbrev pub op_number : Op → ℤ
 op_number op = (op_row op).1
@@ -38,17 +47,27 @@ op_name op = (op_row op).2
 abbrev pub all_ops : List Op
 all_ops =
     ops.Create ∷ ops.Delete ∷ ops.Exists ∷ ops.GetData ∷ ops.SetData ∷ ops.GetAcl ∷ ops.SetAcl ∷ ops.GetChildren ∷ ops.Sync
-    ∷ ops.Ping ∷ ops.GetChildren2 ∷ ops.Multi ∷ ops.Auth ∷ ops.SetWatches ∷ ops.CloseSession ∷ ops.Create2 ∷ []
+    ∷ ops.Ping ∷ ops.GetChildren2 ∷ ops.Multi ∷ ops.Auth ∷ ops.SetWatches ∷ ops.CloseSession ∷ ops.Create2
+    ∷ ops.Reconfig ∷ ops.CheckWatches ∷ ops.RemoveWatches ∷ ops.CreateContainer ∷ ops.CreateTtl ∷ ops.GetEphemerals ∷ ops.GetAllChildrenNumber
+    ∷ ops.AddWatch ∷ []
 
 -- a profile's number: its release, without the point
 abbrev pub profile_number : Profile → ℕ
 profile_number profiles.V34 = 34
 profile_number profiles.V35 = 35
+profile_number profiles.V37 = 37
 
--- a profile is the first, or a later one
+abbrev pub all_profiles : List Profile
+all_profiles = profiles.V34 ∷ profiles.V35 ∷ profiles.V37 ∷ []
+
+-- the profile of a number, if it is one's
+abbrev pub profile_of : ℕ → Option Profile
+profile_of n = lookup (nat_eq n) (map (λ p. (profile_number p, p)) all_profiles)
+
+-- a profile is the first, or a later one; each has what that of 3.4 has
 abbrev pub IsSince : (first : Profile) → Profile → Type 0
 IsSince profiles.V34 profile = Unit {0}
-IsSince profiles.V35 profile = profile ≡ profiles.V35
+IsSince first profile = profile_number first ≤ profile_number profile
 
 -- the operations of a profile
 abbrev pub HasOp : Profile → Op → Type 0

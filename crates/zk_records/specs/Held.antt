@@ -4,6 +4,7 @@ use Rattle.zk_records.specs.{declared.acl.IdOf.IdOf, declared.acl.AclOf.AclOf, d
 use Rattle.zk_records.specs.{declared.ask.CreateAskOf.CreateAskOf, declared.ask.DeleteAskOf.DeleteAskOf, declared.ask.SetDataAskOf.SetDataAskOf, declared.ask.SetAclAskOf.SetAclAskOf, declared.ask.CheckAskOf.CheckAskOf}
 use Rattle.zk_records.specs.{declared.query.WatchAskOf.WatchAskOf, declared.query.PathAskOf.PathAskOf, declared.session.AuthAskOf.AuthAskOf, declared.session.SetWatchesAskOf.SetWatchesAskOf, declared.body.DataBodyOf.DataBodyOf}
 use Rattle.zk_records.specs.{declared.body.AclBodyOf.AclBodyOf, declared.body.ChildrenBodyOf.ChildrenBodyOf, declared.body.CreateBodyOf.CreateBodyOf}
+use Rattle.zk_records.specs.{declared.ask.CreateTtlAskOf.CreateTtlAskOf, declared.watches.WatchesAskOf.WatchesAskOf, declared.watches.AddWatchAskOf.AddWatchAskOf, declared.reconfig.ReconfigAskOf.ReconfigAskOf}
 
 abbrev pub Id : Type 0
 Id = IdOf Text
@@ -58,3 +59,15 @@ ChildrenBody = ChildrenBodyOf (Vector Text)
 
 abbrev pub CreateBody : Type 0
 CreateBody = CreateBodyOf Text
+
+abbrev pub AddWatchAsk : Type 0
+AddWatchAsk = AddWatchAskOf Text
+
+abbrev pub CreateTtlAsk : Type 0
+CreateTtlAsk = CreateTtlAskOf Text Blob (Vector Acl)
+
+abbrev pub WatchesAsk : Type 0
+WatchesAsk = WatchesAskOf Text
+
+abbrev pub ReconfigAsk : Type 0
+ReconfigAsk = ReconfigAskOf Text

@@ -3,6 +3,7 @@ use Rattle.std.specs.Prelude.{ℤ, Bool}
 use Rattle.zk_records.specs.{declared.acl.IdOf.IdOf, declared.acl.AclOf.AclOf, declared.event.WatcherEventOf.WatcherEventOf, declared.ask.CreateAskOf.CreateAskOf, declared.ask.DeleteAskOf.DeleteAskOf, declared.ask.SetDataAskOf.SetDataAskOf}
 use Rattle.zk_records.specs.{declared.ask.SetAclAskOf.SetAclAskOf, declared.ask.CheckAskOf.CheckAskOf, declared.query.WatchAskOf.WatchAskOf, declared.query.PathAskOf.PathAskOf, declared.session.AuthAskOf.AuthAskOf}
 use Rattle.zk_records.specs.{declared.session.SetWatchesAskOf.SetWatchesAskOf, declared.body.DataBodyOf.DataBodyOf, declared.body.AclBodyOf.AclBodyOf, declared.body.ChildrenBodyOf.ChildrenBodyOf, declared.body.CreateBodyOf.CreateBodyOf}
+use Rattle.zk_records.specs.{declared.ask.CreateTtlAskOf.CreateTtlAskOf, declared.watches.WatchesAskOf.WatchesAskOf, declared.watches.AddWatchAskOf.AddWatchAskOf, declared.reconfig.ReconfigAskOf.ReconfigAskOf}
 use Rattle.zk_records.specs.{declared.stat.Stat.Stat, declared.connect.ConnectRequestOf.ConnectRequestOf, declared.connect.ConnectResponseOf.ConnectResponseOf, declared.header.RequestHeader.RequestHeader}
 use Rattle.zk_records.specs.{declared.header.ReplyHeader.ReplyHeader, declared.header.MultiHeader.MultiHeader}
 
@@ -71,3 +72,15 @@ children_body x = record { names = x.0; stat = x.1 }
 
 abbrev pub create_body : {T : Type 0} → T × Stat → CreateBodyOf T
 create_body x = record { path = x.0; stat = x.1 }
+
+abbrev pub add_watch_ask : {T : Type 0} → T × ℤ → AddWatchAskOf T
+add_watch_ask x = record { path = x.0; mode = x.1 }
+
+abbrev pub create_ttl_ask : {T B A : Type 0} → T × (B × (A × (ℤ × ℤ))) → CreateTtlAskOf T B A
+create_ttl_ask x = record { path = x.0; blob = x.1.0; acl = x.1.1.0; flags = x.1.1.1.0; ttl = x.1.1.1.1 }
+
+abbrev pub watches_ask : {T : Type 0} → T × ℤ → WatchesAskOf T
+watches_ask x = record { path = x.0; kind = x.1 }
+
+abbrev pub reconfig_ask : {T : Type 0} → T × (T × (T × ℤ)) → ReconfigAskOf T
+reconfig_ask x = record { joining = x.0; leaving = x.1.0; members = x.1.1.0; config = x.1.1.1 }

@@ -5,8 +5,9 @@ use Rattle.zk_records.specs.{declared.acl.IdOf.IdOf, declared.acl.AclOf.AclOf, d
 use Rattle.zk_records.specs.{declared.header.RequestHeader.RequestHeader, declared.header.ReplyHeader.ReplyHeader, declared.header.MultiHeader.MultiHeader, declared.event.WatcherEventOf.WatcherEventOf, declared.ask.CreateAskOf.CreateAskOf}
 use Rattle.zk_records.specs.{declared.ask.DeleteAskOf.DeleteAskOf, declared.query.WatchAskOf.WatchAskOf, declared.ask.SetDataAskOf.SetDataAskOf, declared.query.PathAskOf.PathAskOf, declared.ask.SetAclAskOf.SetAclAskOf}
 use Rattle.zk_records.specs.{declared.session.AuthAskOf.AuthAskOf, declared.session.SetWatchesAskOf.SetWatchesAskOf, declared.ask.CheckAskOf.CheckAskOf, declared.body.DataBodyOf.DataBodyOf, declared.body.AclBodyOf.AclBodyOf}
-use Rattle.zk_records.specs.{declared.body.ChildrenBodyOf.ChildrenBodyOf, declared.body.CreateBodyOf.CreateBodyOf}
-use Rattle.zk_records.specs.Held.{Id, Acl, ConnectRequest, ConnectResponse, WatcherEvent, CreateAsk, DeleteAsk, SetDataAsk, SetAclAsk, CheckAsk, WatchAsk, PathAsk, AuthAsk, SetWatchesAsk, DataBody, AclBody, ChildrenBody, CreateBody}
+use Rattle.zk_records.specs.{declared.body.ChildrenBodyOf.ChildrenBodyOf, declared.body.CreateBodyOf.CreateBodyOf, declared.ask.CreateTtlAskOf.CreateTtlAskOf, declared.watches.WatchesAskOf.WatchesAskOf, declared.watches.AddWatchAskOf.AddWatchAskOf}
+use Rattle.zk_records.specs.{declared.reconfig.ReconfigAskOf.ReconfigAskOf}
+use Rattle.zk_records.specs.Held.{Id, Acl, ConnectRequest, ConnectResponse, WatcherEvent, CreateTtlAsk, WatchesAsk, AddWatchAsk, ReconfigAsk, CreateAsk, DeleteAsk, SetDataAsk, SetAclAsk, CheckAsk, WatchAsk, PathAsk, AuthAsk, SetWatchesAsk, DataBody, AclBody, ChildrenBody, CreateBody}
 use Rattle.zk_records.specs.Listed.{Listed, ◌of◌, ◌and◌, by}
 use Rattle.zk_jute.specs.Wired.{Wired, int, long, boolean, ustring, buffer, vector}
 
@@ -328,3 +329,64 @@ create_body_of t = by (create_body_fields t) (create_body_same t)
 
 abbrev pub create_body : Wired CreateBody
 create_body = create_body_of ustring
+
+abbrev add_watch_ask_fields : {T : Type 0} → Wired T → Listed (AddWatchAskOf T)
+add_watch_ask_fields t =
+    t of (λ r. r.path) and
+    int of (λ r. r.mode)
+
+pub add_watch_ask_same : {T : Type 0} (t : Wired T) (x y : AddWatchAskOf T) → (add_watch_ask_fields t).Same x y → x ≡ y
+add_watch_ask_same t x y s = search (rules, s)
+
+abbrev pub add_watch_ask_of : {T : Type 0} → Wired T → Wired (AddWatchAskOf T)
+add_watch_ask_of t = by (add_watch_ask_fields t) (add_watch_ask_same t)
+
+abbrev pub add_watch_ask : Wired AddWatchAsk
+add_watch_ask = add_watch_ask_of ustring
+
+abbrev create_ttl_ask_fields : {T B A : Type 0} → Wired T → Wired B → Wired A → Listed (CreateTtlAskOf T B A)
+create_ttl_ask_fields t b a =
+    t of (λ r. r.path) and
+    b of (λ r. r.blob) and
+    a of (λ r. r.acl) and
+    int of (λ r. r.flags) and
+    long of (λ r. r.ttl)
+
+pub create_ttl_ask_same : {T B A : Type 0} (t : Wired T) (b : Wired B) (a : Wired A) (x y : CreateTtlAskOf T B A) → (create_ttl_ask_fields t b a).Same x y → x ≡ y
+create_ttl_ask_same t b a x y s = search (rules, s)
+
+abbrev pub create_ttl_ask_of : {T B A : Type 0} → Wired T → Wired B → Wired A → Wired (CreateTtlAskOf T B A)
+create_ttl_ask_of t b a = by (create_ttl_ask_fields t b a) (create_ttl_ask_same t b a)
+
+abbrev pub create_ttl_ask : Wired CreateTtlAsk
+create_ttl_ask = create_ttl_ask_of ustring buffer (vector acl)
+
+abbrev watches_ask_fields : {T : Type 0} → Wired T → Listed (WatchesAskOf T)
+watches_ask_fields t =
+    t of (λ r. r.path) and
+    int of (λ r. r.kind)
+
+pub watches_ask_same : {T : Type 0} (t : Wired T) (x y : WatchesAskOf T) → (watches_ask_fields t).Same x y → x ≡ y
+watches_ask_same t x y s = search (rules, s)
+
+abbrev pub watches_ask_of : {T : Type 0} → Wired T → Wired (WatchesAskOf T)
+watches_ask_of t = by (watches_ask_fields t) (watches_ask_same t)
+
+abbrev pub watches_ask : Wired WatchesAsk
+watches_ask = watches_ask_of ustring
+
+abbrev reconfig_ask_fields : {T : Type 0} → Wired T → Listed (ReconfigAskOf T)
+reconfig_ask_fields t =
+    t of (λ r. r.joining) and
+    t of (λ r. r.leaving) and
+    t of (λ r. r.members) and
+    long of (λ r. r.config)
+
+pub reconfig_ask_same : {T : Type 0} (t : Wired T) (x y : ReconfigAskOf T) → (reconfig_ask_fields t).Same x y → x ≡ y
+reconfig_ask_same t x y s = search (rules, s)
+
+abbrev pub reconfig_ask_of : {T : Type 0} → Wired T → Wired (ReconfigAskOf T)
+reconfig_ask_of t = by (reconfig_ask_fields t) (reconfig_ask_same t)
+
+abbrev pub reconfig_ask : Wired ReconfigAsk
+reconfig_ask = reconfig_ask_of ustring

@@ -1,9 +1,9 @@
 //! The bodies of requests that change a node, and of a check within a multi.
 //!
-//! They are `CreateRequest`, `DeleteRequest`, `SetDataRequest`, `SetACLRequest` and `CheckVersionRequest` of
-//! zookeeper.jute.
+//! They are `CreateRequest`, `CreateTTLRequest`, `DeleteRequest`, `SetDataRequest`, `SetACLRequest` and
+//! `CheckVersionRequest` of zookeeper.jute.
 ghost use Rattle.std.specs.Prelude.{◌≡◌, refl};
-ghost use Rattle.zk_records.specs.Records.{create_ask, delete_ask, set_data_ask, set_acl_ask, check_ask, create_ask_of, delete_ask_of, set_data_ask_of, set_acl_ask_of, check_ask_of};
+ghost use Rattle.zk_records.specs.Records.{create_ask, create_ttl_ask, create_ttl_ask_of, delete_ask, set_data_ask, set_acl_ask, check_ask, create_ask_of, delete_ask_of, set_data_ask_of, set_acl_ask_of, check_ask_of};
 
 use crate::acl::{Acl, AclList};
 use crate::fields::{of, pairs};
@@ -50,6 +50,51 @@ impl<T: Ends, B: Ends, A: Ends> Record for CreateAskOf<T, B, A> {
 }
 
 impl Written for CreateAsk {
+    ghost same = { refl };
+}
+
+/// Creates a node that a server deletes when it was unused for a time: `CreateTTLRequest`.
+#[derive(Debug, Drop)]
+pub struct CreateTtlAskOf<T, B, A> {
+    /// The node's path.
+    pub path: T,
+    /// The data of the node.
+    pub blob: B,
+    /// The access rights of the node.
+    pub acl: A,
+    /// 5 persistent, 6 persistent and sequential.
+    pub flags: i32,
+    /// The time in milliseconds.
+    pub ttl: i64,
+}
+
+/// An owned `CreateTtlAsk`.
+pub type CreateTtlAsk = CreateTtlAskOf<Text, Blob, List<Acl>>;
+
+/// A borrowed `CreateTtlAsk`.
+pub type CreateTtlAskRef<'a> = CreateTtlAskOf<TextRef<'a>, BlobRef<'a>, AclList<'a>>;
+
+impl Spell for CreateTtlAsk {
+    ghost items = { create_ttl_ask.items };
+
+    fn put<O: Output>(&self, out: &mut O) -> Result<(), O::Error> {
+        fields_of!(CreateTtlAsk, pairs, self).put(out)
+    }
+}
+
+impl<T: Ends, B: Ends, A: Ends> Record for CreateTtlAskOf<T, B, A> {
+    type Row = (T, (B, (A, (i32, i64))));
+
+    ghost record = { create_ttl_ask_of T.wired B.wired A.wired };
+
+    fn of(row: Self::Row) -> Self {
+        fields_of!(CreateTtlAsk, of, row, CreateTtlAskOf)
+    }
+
+    ghost in_order = { refl };
+}
+
+impl Written for CreateTtlAsk {
     ghost same = { refl };
 }
 

@@ -50,6 +50,16 @@ macro_rules! fields_of {
             zxid ZXID long, data_watches DATA_WATCHES texts, exist_watches EXIST_WATCHES texts,
             child_watches CHILD_WATCHES texts)
     };
+    (CreateTtlAsk, $then:ident, $($with:tt)*) => {
+        $then!($($with)*: path PATH text, blob DATA blob, acl ACL rights, flags FLAGS int, ttl TTL long)
+    };
+    (WatchesAsk, $then:ident, $($with:tt)*) => { $then!($($with)*: path PATH text, kind TYPE int) };
+    (AddWatchAsk, $then:ident, $($with:tt)*) => { $then!($($with)*: path PATH text, mode MODE int) };
+    (ReconfigAsk, $then:ident, $($with:tt)*) => {
+        $then!($($with)*:
+            joining JOINING text, leaving LEAVING text, members MEMBERS text,
+            config CONFIG long)
+    };
     (DataBody, $then:ident, $($with:tt)*) => { $then!($($with)*: blob DATA blob, stat NONE stat) };
     (AclBody, $then:ident, $($with:tt)*) => { $then!($($with)*: acl ACL rights, stat NONE stat) };
     (ChildrenBody, $then:ident, $($with:tt)*) => { $then!($($with)*: names CHILDREN texts, stat NONE stat) };

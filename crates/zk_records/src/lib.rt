@@ -38,6 +38,7 @@ mod acl;
 mod ask;
 mod body;
 mod connect;
+mod copies;
 mod event;
 mod fields;
 mod header;
@@ -46,14 +47,16 @@ mod op;
 mod own;
 mod profile;
 mod query;
+mod reconfig;
 mod session;
 mod stat;
+mod watches;
 
 pub use acl::{Acl, AclList, AclOf, AclRef, Id, IdOf, IdRef};
 pub use ask::{
-    CheckAsk, CheckAskOf, CheckAskRef, CreateAsk, CreateAskOf, CreateAskRef, DeleteAsk,
-    DeleteAskOf, DeleteAskRef, SetAclAsk, SetAclAskOf, SetAclAskRef, SetDataAsk, SetDataAskOf,
-    SetDataAskRef,
+    CheckAsk, CheckAskOf, CheckAskRef, CreateAsk, CreateAskOf, CreateAskRef, CreateTtlAsk,
+    CreateTtlAskOf, CreateTtlAskRef, DeleteAsk, DeleteAskOf, DeleteAskRef, SetAclAsk, SetAclAskOf,
+    SetAclAskRef, SetDataAsk, SetDataAskOf, SetDataAskRef,
 };
 pub use body::{
     AclBody, AclBodyOf, AclBodyRef, ChildrenBody, ChildrenBodyOf, ChildrenBodyRef, CreateBody,
@@ -68,9 +71,13 @@ pub use header::{MultiHeader, ReplyHeader, RequestHeader};
 pub use names::{code_name, event_name, op_name, part_name};
 pub use op::{Op, PartOp, number_laws, op_number, op_of, part_number, part_of};
 pub use own::{Own, copied};
-pub use profile::Profile;
+pub use profile::{NEWEST, Profile};
 pub use query::{PathAsk, PathAskOf, PathAskRef, WatchAsk, WatchAskOf, WatchAskRef};
+pub use reconfig::{ReconfigAsk, ReconfigAskOf, ReconfigAskRef};
 pub use session::{
     AuthAsk, AuthAskOf, AuthAskRef, SetWatchesAsk, SetWatchesAskOf, SetWatchesAskRef,
 };
 pub use stat::Stat;
+pub use watches::{
+    AddWatchAsk, AddWatchAskOf, AddWatchAskRef, WatchesAsk, WatchesAskOf, WatchesAskRef,
+};

@@ -4,7 +4,7 @@ ghost use Rattle.zk_records.specs.Codes as codes;
 ghost use Rattle.zk_records.specs.{declared.op.Op.Op, declared.op.PartOp.PartOp};
 ghost use Rattle.zk_records.specs.declared.profile.Profile.TheVariants as profiles;
 
-use crate::profile::Profile;
+use crate::profile::{NEWEST, Profile};
 
 /// An operation outside a multi, by its name in `ZooDefs.OpCode`.
 #[derive(Clone, Copy, Debug, PartialEq, Eq)]
@@ -25,6 +25,14 @@ pub enum Op {
     Auth,
     SetWatches,
     CloseSession,
+    Reconfig,
+    CheckWatches,
+    RemoveWatches,
+    CreateContainer,
+    CreateTtl,
+    GetEphemerals,
+    GetAllChildrenNumber,
+    AddWatch,
 }
 
 /// An operation within a multi, by its name in `ZooDefs.OpCode`.
@@ -36,7 +44,7 @@ pub enum PartOp {
     Check,
 }
 
-/// `op_rows!(row, with)` is `row!(with: V34: ..; V35: ..)` with the number and the name of each operation in
+/// `op_rows!(row, with)` is `row!(with: V34: ..; V35: ..; V37: ..)` with the number and the name of each operation in
 /// `ZooDefs.OpCode`, by the first profile that has it.
 #[macro_export]
 macro_rules! op_rows {
@@ -60,7 +68,16 @@ macro_rules! op_rows {
             SetWatches 101 "setWatches",
             CloseSession -11 "closeSession";
             V35:
-            Create2 15 "create2"
+            Create2 15 "create2";
+            V37:
+            Reconfig 16 "reconfig",
+            CheckWatches 17 "checkWatches",
+            RemoveWatches 18 "removeWatches",
+            CreateContainer 19 "createContainer",
+            CreateTtl 21 "createTTL",
+            GetEphemerals 103 "getEphemerals",
+            GetAllChildrenNumber 104 "getAllChildrenNumber",
+            AddWatch 106 "addWatch"
         )
     };
 }
@@ -83,7 +100,7 @@ pub fn op_of(profile: Profile, number: i32) -> Option<Op>
          $($release:ident: $($newer:ident $later:literal $named:literal),+);+) => {
             match $number {
                 $($code => Some(Op::$op),)+
-                $($($later if $profile == Profile::$release => Some(Op::$newer),)+)+
+                $($($later if $profile.is_since(Profile::$release) => Some(Op::$newer),)+)+
                 _ => None,
             }
         };
@@ -134,11 +151,11 @@ pub fn part_number(op: PartOp) -> i32
     part_codes!(row, op)
 }
 
-/// Each operation and each part has a number of its own, which is read back as it: under 3.5 each operation's, under 3.4
-/// each but 15. The function does nothing.
+/// Each operation and each part has a number of its own, which is read back as it: under the newest profile each
+/// operation's, under 3.4 each of 3.5's but 15. The function does nothing.
 pub fn number_laws()
     ensures op { (a b : Op) → codes.op_number a ≡ codes.op_number b → a ≡ b }
-    ensures older { (op : Op) → codes.HasOp profiles.V34 op ↔ (codes.op_number op ≢ pos 15) }
-    ensures newer { (op : Op) → codes.HasOp profiles.V35 op }
+    ensures older { (op : Op) → codes.HasOp profiles.V35 op → codes.HasOp profiles.V34 op ↔ (codes.op_number op ≢ pos 15) }
+    ensures newest { (op : Op) → codes.HasOp NEWEST op }
     ensures part { (a b : PartOp) → codes.part_number a ≡ codes.part_number b → a ≡ b }
 {}

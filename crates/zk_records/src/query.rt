@@ -1,7 +1,7 @@
 //! The bodies of requests that look at a node.
 //!
-//! They are `ExistsRequest`, `GetDataRequest`, `GetChildrenRequest`, `GetChildren2Request`, `GetACLRequest` and
-//! `SyncRequest` of zookeeper.jute.
+//! They are `ExistsRequest`, `GetDataRequest`, `GetChildrenRequest`, `GetChildren2Request`, `GetACLRequest`,
+//! `SyncRequest`, `GetEphemeralsRequest` and `GetAllChildrenNumberRequest` of zookeeper.jute.
 ghost use Rattle.std.specs.Prelude.{◌≡◌, refl};
 ghost use Rattle.zk_records.specs.Records.{watch_ask, path_ask, watch_ask_of, path_ask_of};
 
@@ -49,7 +49,7 @@ impl Written for WatchAsk {
     ghost same = { refl };
 }
 
-/// A path alone: `GetACLRequest` and `SyncRequest`.
+/// A path alone: `GetACLRequest`, `SyncRequest`, `GetEphemeralsRequest` and `GetAllChildrenNumberRequest`.
 #[derive(Debug, Drop)]
 pub struct PathAskOf<T> {
     /// The node's path.

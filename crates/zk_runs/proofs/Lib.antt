@@ -5,7 +5,7 @@ pub mod Known
 pub mod Builds
 pub mod Rebuilds
 pub mod Accepted
-pub mod Copied
+pub mod Encoded
 pub mod Taken
 pub mod Gathered
 pub mod Answered

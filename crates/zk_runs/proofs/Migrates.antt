@@ -2,11 +2,13 @@
 use Rattle.std.proofs.Common.{◌≡◌, ℕ, ◌<◌, List, [], ◌∷◌, length, None, Some, true, refl, sym, ap, ◌∙◌, subst, append-nil, arith}
 use Rattle.std.specs.{List.All, Option.option_map, Int.w32, Int.to_be_bytes}
 use Rattle.zk_talk.specs.declared.limits.Limits.{Limits}
-use Rattle.zk_records.specs.{declared.profile.Profile.Profile as ProfileType, Codes.profile_number}
-use Rattle.zk_records.specs.declared.profile.Profile.TheVariants.{V34, V35}
+use Rattle.zk_records.specs.{declared.profile.Profile.Profile as ProfileType, Codes.profile_number, Codes.profile_of}
+use Rattle.zk_records.proofs.Numbers.{profile_again}
+use Rattle.std.specs.Prelude.{Option, unwrap_or, is_some, ◌^◌}
+use Rattle.zk_records.specs.declared.profile.Profile.TheVariants.{V34}
 use Rattle.zk_recordings.specs.{declared.parts.Damage.Damage, declared.parts.Damage.TheVariants.Short, declared.parts.Format.Format, declared.parts.Format.TheVariants.Zkr1, declared.parts.Format.TheVariants.Zkr2, declared.parts.Part.Part}
 use Rattle.zk_recordings.specs.declared.parts.Part.TheVariants.{SideByte, Time, Size}
-use Rattle.zk_recordings.specs.{Parts.number, Parts.long_number, Parts.is_within, Parts.is_good, Parts.damage_cut, Parts.piece_parts, HeadLimits.profile_by}
+use Rattle.zk_recordings.specs.{Parts.number, Parts.long_number, Parts.is_good, Parts.damage_cut, Parts.piece_parts, HeadLimits.profile_by}
 use Rattle.zk_recordings.specs.Recording.{End, Cut, Bad, IsBreakIn, Head, First, Second, IsHead, Piece, IsPiece, no_time, InPieces, AreIn, Recording, Breaks, Ends, IsRecording, bytes_of, Spells, place_of, front, behind, damage_at, end_damage, history_of, limits_of, damage_of, nothing}
 use Rattle.zk_listings.specs.Outcome.{IsOutcome}
 use Rattle.zk_listings.proofs.Lasting.{same-outcome}
@@ -16,17 +18,18 @@ use Rattle.zk_runs.proofs.{Moves.break_with, Rebuilds.number_of, Rebuilds.number
 
 -- ---- the head of some limits
 
+profile-small : (p : ProfileType) → profile_number p < 2 ^ 32
+profile-small V34 = omega arith
+profile-small _ = omega arith
+
 number-profile : (p : ProfileType) → number (to_be_bytes w32 (profile_number p)) ≡ profile_number p
-number-profile V34 = number_of 34 (omega arith)
-number-profile V35 = number_of 35 (omega arith)
+number-profile p = number_of (profile_number p) (profile-small p)
 
 profile-back : (p : ProfileType) → p ≡ profile_by (profile_number p)
-profile-back V34 = refl
-profile-back V35 = refl
+profile-back p = ap (λ (o : Option ProfileType). unwrap_or o V34) (sym (profile_again p))
 
-profile-good : (p : ProfileType) → is_within 34 35 (profile_number p) ≡ true
-profile-good V34 = refl
-profile-good V35 = refl
+profile-good : (p : ProfileType) → is_some (profile_of (profile_number p)) ≡ true
+profile-good p = ap is_some (profile_again p)
 
 head-is : (limits : Limits) → IsHead (head_of limits)
 head-is limits =
@@ -36,7 +39,7 @@ head-is limits =
         record { wide = refl; good = number_good limits.server 64 16777216 r.2 r.3 (omega (arith, r.3)) },
         (
           record { wide = refl; good = number_good limits.waiting 1 1048576 r.4 r.5 (omega (arith, r.5)) },
-          (record { wide = refl; good = ap (is_within 34 35) (number-profile limits.profile) ∙ profile-good limits.profile }, tt),
+          (record { wide = refl; good = ap (λ n. is_some (profile_of n)) (number-profile limits.profile) ∙ profile-good limits.profile }, tt),
         ),
       ),
     )

@@ -7,7 +7,7 @@ use Rattle.zk_recordings.specs.Recording.{Recording, Spells, history_of, limits_
 use Rattle.zk_runs.specs.Building.{recording_of}
 use Rattle.zk_runs.specs.Rebuilding.{WholeConversation, one_a_piece, listed_by, ListsJust}
 use Rattle.zk_recordings.proofs.Once.{spells-once}
-use Rattle.zk_listings.proofs.{Outcomes.outcome-once, Decided.undecided}
+use Rattle.zk_listings.proofs.{Outcomes.outcome-once, Decided.not_ended}
 use Rattle.zk_runs.proofs.{Builds.Leaves, Builds.leaves, Rebuilds.built_spelled, Rebuilds.comes_again}
 
 -- ---- a run over what was built
@@ -26,7 +26,7 @@ module _ (w : WholeConversation) where
   all_read : (bytes : List ℕ) (unread : Option (List ℕ)) (l : Leaves (recording_of w.messages) bytes unread) (r : Recording) → Spells bytes r → (IsAtEnd unread ⊎ IsDecided w.limits bytes r) → Spells (recording_of w.messages) r
   all_read bytes unread l r i (inl end) = subst (λ z. Spells z r) (sym (l.is ∙ ap (λ z. bytes ++ z) (l.ends end) ∙ append-nil bytes)) i
   all_read bytes unread l r i (inr decided) =
-      absurd (undecided w.limits bytes l.rest r (one_a_piece w.messages) i (subst (λ z. Spells z (one_a_piece w.messages)) l.is spelled) is_good refl decided)
+      absurd (not_ended w.limits bytes l.rest r (one_a_piece w.messages) i (subst (λ z. Spells z (one_a_piece w.messages)) l.is spelled) is_good refl decided)
 
   pub listed_again : (listing : Listing) → ListsJust w.limits listing (recording_of w.messages) (listed_by listing w)
   listed_again listing unread contents contents_now status has =

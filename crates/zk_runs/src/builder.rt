@@ -10,7 +10,7 @@ use crate::build_result::Built;
 use crate::piece::put_head;
 use memchr::memchr;
 use std::alloc::{AllocError, Global};
-use zk_lines::{LineFault, LineReason, copy_line, ending_line};
+use zk_lines::{LineFault, LineReason, encode_line, ending_line};
 use zk_listings::{RunFault, Sink, rest, write_whole};
 use zk_talk::{Ending, Limits, SayFault, Speaker};
 
@@ -95,6 +95,7 @@ struct Scribe {
 
 impl Scribe {
     /// Takes the line of a message: its payload is read into its place in `due`, and said there.
+    #[inline(always)]
     fn say(&mut self, line: &[u8], due: &mut Vec<u8>) -> Result<(), Halt>
         requires room { self.old.lines + 1 < 2 ^ 64 }
         requires going { self.old.ended ≡ false }
@@ -109,7 +110,7 @@ impl Scribe {
     {
         let before = due.len();
         due.extend_from_slice(&[0; 9])?;
-        let kind = match copy_line(line, due) {
+        let kind = match encode_line(line, due) {
             Ok(kind) => kind,
             Err(fault) => {
                 due.truncate(before);

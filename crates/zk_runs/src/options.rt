@@ -37,7 +37,7 @@ pub struct Settings {
 #[derive(Clone, Copy, Debug, PartialEq, Eq, Error)]
 pub enum UsageFault {
     /// They are no command line of this program, or ask for help.
-    #[error("usage: zkdump show|check|build|migrate [--limit N] [--waiting N] [--profile 3.4|3.5] [--earliest]")]
+    #[error("usage: zkdump show|check|build|migrate [--limit N] [--waiting N] [--profile 3.4|3.5|3.7] [--earliest]")]
     Words,
     /// The system refused memory.
     #[error("zkdump: out of memory")]

@@ -71,6 +71,8 @@ fn profile_of(name: &str) -> Option<Profile>
         Some(Profile::V34)
     } else if name == "3.5" {
         Some(Profile::V35)
+    } else if name == "3.7" {
+        Some(Profile::V37)
     } else {
         None
     }

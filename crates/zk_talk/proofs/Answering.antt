@@ -9,7 +9,7 @@ use Rattle.zk_talk.specs.declared.message.Side.TheVariants.{Client, Server}
 use Rattle.zk_talk.specs.declared.stream.Advance.TheVariants.{Within, Whole, Refused}
 use Rattle.zk_talk.specs.{Streams.StreamState, Streams.passed, Streams.kept_now, Fault.fault_of, Fault.side_limit, Advance.IsAdvance, Advance.IsStop, Advance.IsStop.too_many, Advance.IsStop.out_of_range, Viewed.Shows, Receiving.IsReceived}
 use Rattle.zk_talk.specs.Stands.{TalkState, Stands, held_on, kept_on, frames_on, size_on}
-use Rattle.zk_talk.specs.Taking.{GoesOn, Steps, IsRefused, Fails, given_up}
+use Rattle.zk_talk.specs.Taking.{GoesOn, Steps, IsRefused, Fails, dropped}
 use Rattle.zk_talk.proofs.Talks.{set_on, put_on, refusing}
 use Rattle.zk_talk.proofs.Sides.{TellsOn, IsNextOn, IsToldOn, told_nothing, goes_within, stopped, goes_whole, judged}
 
@@ -46,7 +46,7 @@ rekept t a b h M st newest = record {
 }
 
 -- a talk of which nothing but the side's kept frame is another has it given up
-given_there : (side : Side) (t : TalkState) → set_on side t (held_on side t) [] (frames_on side t) (size_on side t) t.waiting t.answered t.fault ≡ given_up side t
+given_there : (side : Side) (t : TalkState) → set_on side t (held_on side t) [] (frames_on side t) (size_on side t) t.waiting t.answered t.fault ≡ dropped side t
 given_there Client t = refl
 given_there Server t = refl
 

@@ -51,7 +51,7 @@ IsNumbered number (Connect hello read_only) old new = new ≡ old
 IsNumbered number (Ask xid ask) old new = (weight_of old + weight (Ask xid ask) ≤ old.max) ×
     IsPut (lane_of xid) (record { xid = xid; op = op_of_ask ask; parts = ops_of_ask ask; frame = number }) old new
 
--- the frame waits for its reply, if it is to have one; no number is told
+-- the frame waits for its reply, if it is to have one; no number is said
 abbrev pub IsRemembered : ClientFrame → Lanes → Lanes → Type 0
 IsRemembered f old new = IsNumbered 0 f old new
 

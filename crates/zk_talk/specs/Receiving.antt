@@ -23,7 +23,7 @@ pub record IsStopped (side : Side) (old : StreamState) (piece : List ℕ) (fault
   pub stays : new ≡ record old { held = new.held }
   pub told : fault ≡ fault_of side old.count (old.size + used) 0 reason
 
--- the side and the kept fault after the call
+-- the side and the talk's fault after the call
 abbrev pub IsReceived : Side → StreamState → List ℕ → Option Fault → Result (Option ℕ) Fault → StreamState → Option Fault → Type 0
 IsReceived side old piece kept (Ok None) new keeps = CameWithin old piece new × (keeps ≡ kept)
 IsReceived side old piece kept (Ok (Some used)) new keeps = CameWhole old piece used new × (keeps ≡ kept)

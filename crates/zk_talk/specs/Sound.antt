@@ -4,14 +4,14 @@ use Rattle.zk_jute.specs.declared.fault.Reason.TheVariants.{NoMemory}
 use Rattle.zk_frames.specs.Framing.{IsBeginning}
 use Rattle.zk_talk.specs.{declared.message.Fault.Fault, Streams.StreamState}
 
--- of a side with this limit: as long as no fault is kept it is at the beginning of a frame
+-- of a side with this limit: as long as there is no fault it is at the beginning of a frame
 pub record IsSide (limit : ℕ) (fault : Option Fault) (side : StreamState) : Type 0 where
   pub begins : fault ≡ None → IsBeginning limit side.held
   pub same : side.limit ≡ limit
   pub size : side.size < 2 ^ 62
   pub count : side.count ≤ side.size
 
--- the fault that is kept, if one is, isn't that memory was refused
+-- the talk's fault, if it has one, isn't that memory was refused
 abbrev pub IsKnown : Option Fault → Type 0
 IsKnown None = Unit {0}
 IsKnown (Some f) = f.reason ≢ NoMemory

@@ -14,9 +14,9 @@ abbrev pub lacks_memory : TalkState → Side → Fault
 lacks_memory t side = fault_of side (frames_on side t) (size_on side t) 0 NoMemory
 
 -- the frame that was kept on the side is dropped
-abbrev pub given_up : Side → TalkState → TalkState
-given_up Client t = record t { client_kept = [] }
-given_up Server t = record t { server_kept = [] }
+abbrev pub dropped : Side → TalkState → TalkState
+dropped Client t = record t { client_kept = [] }
+dropped Server t = record t { server_kept = [] }
 
 -- these bytes of the piece were used; if they made a frame whole it is kept, and is one message's
 abbrev pub Steps : TalkState → Side → List ℕ → Bool → TalkState → Type 0
@@ -43,7 +43,7 @@ PassesOn old side piece used whole new = (used ≤ length piece) × (0 < length 
 -- Memory was refused for a message that bytes of the piece make whole, and nothing is changed.
 pub record Lacks (old : TalkState) (side : Side) (piece : List ℕ) (fault : Fault) (new : TalkState) : Type 0 where
   pub told : fault ≡ lacks_memory old side
-  pub same : new ≡ given_up side old
+  pub same : new ≡ dropped side old
   pub used : ℕ
   pub part : used ≤ length piece
   pub message : Message

@@ -52,13 +52,13 @@ impl Talk {
     /// `take` of a piece, before any fault and where no frame is kept on the side.
     pub(crate) fn piece(&mut self, side: Side, piece: &[u8]) -> Result<Taken, Fault>
         requires good { self.old.fault ≡ None }
-        requires given_up { kept_on side self.old ≡ [] }
+        requires dropped { kept_on side self.old ≡ [] }
         ensures limits { self.new.limits ≡ self.old.limits }
         ensures ok { IfOk result (λ t. TakesOn self.old side piece.now t.used (option_to_list t.message) self.new) }
         ensures exact { IfOk result (λ t. MatchOption t.message (t.used ≡ length piece.now) (λ m. held_on side self.new ≡ [])) }
         ensures other { Leaves (other_side side) self.old self.new }
         ensures err { IfErr result (λ e. Fails self.old side piece.now e self.new) }
-        ensures given_up { kept_on side self.new ≡ [] }
+        ensures dropped { kept_on side self.new ≡ [] }
         ensures empty { length piece.now ≡ 0 → IsOk result }
     {
         let alloc = self.alloc;
@@ -78,9 +78,9 @@ impl Talk {
     /// its bytes; `None`: undecided, and nothing changed.
     // Most frames come so; no fault, and no frame as a value, is made on the way.
     #[inline(always)]
-    pub(crate) fn step_whole(&mut self, side: Side, piece: &[u8]) -> Option<usize>
+    pub(crate) fn step_whole_frame(&mut self, side: Side, piece: &[u8]) -> Option<usize>
         requires good { self.old.fault ≡ None }
-        requires given_up { kept_on side self.old ≡ [] }
+        requires dropped { kept_on side self.old ≡ [] }
         ensures limits { self.new.limits ≡ self.old.limits }
         ensures some { IfSome result (λ used. StepsOn self.old side piece.now used true self.new) }
         ensures other { Leaves (other_side side) self.old self.new }
@@ -118,14 +118,14 @@ impl Talk {
     /// Passes the side's whole frame at the front of `piece` if none is begun and it may come next, and returns the number of
     /// its bytes; `None`: undecided, and nothing changed. Copies nothing.
     #[inline(always)]
-    pub(crate) fn pass_whole(&mut self, side: Side, piece: &[u8]) -> Option<usize>
+    pub(crate) fn pass_whole_frame(&mut self, side: Side, piece: &[u8]) -> Option<usize>
         requires good { self.old.fault ≡ None }
-        requires given_up { kept_on side self.old ≡ [] }
+        requires dropped { kept_on side self.old ≡ [] }
         ensures limits { self.new.limits ≡ self.old.limits }
         ensures some { IfSome result (λ used. (m : Message) × TakesOn self.old side piece.now used (m ∷ []) self.new) }
         ensures whole { IfSome result (λ used. held_on side self.new ≡ []) }
         ensures other { Leaves (other_side side) self.old self.new }
-        ensures given_up { kept_on side self.new ≡ [] }
+        ensures dropped { kept_on side self.new ≡ [] }
         ensures none { IfNone result (self.new ≡ self.old) }
     {
         match side {
@@ -141,9 +141,9 @@ impl Talk {
     }
 
     /// `step` of a piece, before any fault and where no frame is kept on the side.
-    pub(crate) fn exact(&mut self, side: Side, piece: &[u8]) -> Result<Stepped, Fault>
+    pub(crate) fn step_piece(&mut self, side: Side, piece: &[u8]) -> Result<Stepped, Fault>
         requires good { self.old.fault ≡ None }
-        requires given_up { kept_on side self.old ≡ [] }
+        requires dropped { kept_on side self.old ≡ [] }
         ensures limits { self.new.limits ≡ self.old.limits }
         ensures ok { IfOk result (λ s. (self.new.fault ≡ None) × StepsOn self.old side piece.now s.used s.whole self.new) }
         ensures exact { IfOk result (λ s. s.whole ≡ false → s.used ≡ length piece.now) }

@@ -45,7 +45,7 @@ impl Talk {
     ///
     /// # Errors
     ///
-    /// The fault with which `step` would refuse it. It isn't kept.
+    /// The fault with which `step` would refuse it. It doesn't stay.
     pub fn offer(&mut self, side: Side, frame: &[u8]) -> Result<bool, Fault>
         ensures limits { self.new.limits ≡ self.old.limits }
         // What is taken goes on with the history as the step that keeps it does.

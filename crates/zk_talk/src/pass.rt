@@ -1,26 +1,26 @@
 //! `Talk::pass`: a step after which no frame is kept.
 ghost use Rattle.std.specs.Prelude.{false, ◌≡◌, ◌≢◌, [], length, None, Some, Err, IfOk, IfErr};
 ghost use Rattle.zk_jute.specs.declared.fault.Reason.TheVariants.{NoMemory};
-ghost use Rattle.zk_talk.specs.{declared.message.Fault.Fault, Stands.kept_on, Viewed.Leaves, Viewed.other_side, Taking.PassesOn, Taking.IsRefused, Taking.given_up};
+ghost use Rattle.zk_talk.specs.{declared.message.Fault.Fault, Stands.kept_on, Viewed.Leaves, Viewed.other_side, Taking.PassesOn, Taking.IsRefused, Taking.dropped};
 
 use crate::message::{Fault, Side};
 use crate::talk::{Stepped, Talk};
 
 impl Talk {
-    /// `step_exact`, and what it keeps is dropped.
+    /// `step_slow`, and what it keeps is dropped.
     #[inline(never)]
-    fn pass_exact(&mut self, side: Side, piece: &[u8]) -> Stepped
-        requires given_up { kept_on side self.old ≡ [] }
+    fn pass_slow(&mut self, side: Side, piece: &[u8]) -> Stepped
+        requires dropped { kept_on side self.old ≡ [] }
         ensures limits { self.new.limits ≡ self.old.limits }
         ensures ok { self.new.fault ≡ None → PassesOn self.old side piece.now result.used result.whole self.new }
         ensures exact { self.new.fault ≡ None → result.whole ≡ false → result.used ≡ length piece.now }
         ensures other { Leaves (other_side side) self.old self.new }
         ensures err { (f : Fault) → self.new.fault ≡ Some f → (f.reason ≢ NoMemory) × IsRefused self.old side piece.now f self.new }
-        ensures given_up { kept_on side self.new ≡ [] }
-        ensures kept { (f : Fault) → self.old.fault ≡ Some f → self.new ≡ given_up side self.old }
+        ensures dropped { kept_on side self.new ≡ [] }
+        ensures kept { (f : Fault) → self.old.fault ≡ Some f → self.new ≡ dropped side self.old }
     {
-        let stepped = self.step_exact(side, piece);
-        self.give_up(side);
+        let stepped = self.step_slow(side, piece);
+        self.drop_kept(side);
         stepped
     }
 
@@ -42,14 +42,14 @@ impl Talk {
         // A refusal is the history's fault, and never that memory was refused.
         ensures err { IfErr result (λ e. (e.reason ≢ NoMemory) × IsRefused self.old side piece.now e self.new) }
         // The side keeps nothing, and what it kept is dropped.
-        ensures given_up { kept_on side self.new ≡ [] }
-        // A fault is kept.
-        ensures kept { (f : Fault) → self.old.fault ≡ Some f → (result ≡ Err f) × (self.new ≡ given_up side self.old) }
+        ensures dropped { kept_on side self.new ≡ [] }
+        // A fault stays.
+        ensures kept { (f : Fault) → self.old.fault ≡ Some f → (result ≡ Err f) × (self.new ≡ dropped side self.old) }
     {
-        if let Some(used) = self.pass_at_once(side, piece) {
+        if let Some(used) = self.pass_fast(side, piece) {
             return Ok(Stepped { used, whole: true });
         }
-        let stepped = self.pass_exact(side, piece);
+        let stepped = self.pass_slow(side, piece);
         if let Some(fault) = self.fault {
             return Err(fault);
         }

@@ -1,4 +1,4 @@
-//! What a piece does to a side, client or server alike, and the fault that is kept.
+//! What a piece does to a side, client or server alike, and the fault that stays.
 ghost use Rattle.std.specs.Prelude.{◌≡◌, ◌≢◌, ◌<◌, ◌+◌, ◌^◌, [], Some};
 ghost use Rattle.zk_jute.specs.declared.fault.Reason.TheVariants.{NoMemory};
 ghost use Rattle.zk_frames.specs.Framing.{IsBeginning};
@@ -23,7 +23,7 @@ pub fn next_fault(side: Side, stream: &Stream, used: usize, item: ItemFault) -> 
     }
 }
 
-/// The fault of the frame to which `used` more bytes belong. It is kept, unless memory was refused.
+/// The fault of the frame to which `used` more bytes belong. It stays, unless memory was refused.
 pub fn refuse(
     kept: &mut Option<Fault>,
     side: Side,
@@ -50,7 +50,7 @@ pub fn refuse(
 ///
 /// # Errors
 ///
-/// `LengthRange` at a length, or `StreamEnd` at a byte too many, which is then kept.
+/// `LengthRange` at a length, or `StreamEnd` at a byte too many, which then stays.
 #[inline(always)]
 pub fn receive(
     kept: &mut Option<Fault>,
@@ -59,7 +59,7 @@ pub fn receive(
     piece: &[u8],
 ) -> Result<Option<usize>, Fault>
     requires begins { IsBeginning stream.old.limit stream.old.held }
-    requires given_up { stream.old.kept ≡ [] }
+    requires dropped { stream.old.kept ≡ [] }
     requires size { stream.old.size < 2 ^ 62 }
     ensures received { IsReceived side stream.old piece.now kept.old result stream.new kept.new }
     ensures known { IsKnown kept.old → IsKnown kept.new }

@@ -11,7 +11,7 @@ use crate::message::{Fault, Side};
 use zk_answers::{Layout, reply_head};
 use zk_asks::Asked;
 use zk_jute::{Reason, int_at};
-use zk_records::{Op, Profile, op_of};
+use zk_records::{NEWEST, Op, op_of};
 use zk_waiting::{Awaited, lane_of};
 
 /// Whether a body's items can give the reason.
@@ -72,7 +72,7 @@ pub fn asked_body(payload: &[u8]) -> Option<(Layout, &[u8])>
     let Ok((kind, place)) = int_at(payload, place) else {
         return None;
     };
-    match op_of(Profile::V35, kind) {
+    match op_of(NEWEST, kind) {
         None => None,
         Some(op) => Some((Layout::Asked(op), &payload[place..])),
     }

@@ -10,7 +10,7 @@ use crate::limits::Limits;
 use crate::message::{Kind, Message, Side};
 use crate::payload::{PayloadFault, say_client_payload, say_server_payload};
 use crate::say::{SayFault, say_client, say_server};
-use crate::view::message_ref;
+use crate::view::boxed_message;
 use crate::written_message::{await_written, forget_written, put_in_length};
 use std::alloc::{AllocError, Global};
 use std::marker::Model;
@@ -179,6 +179,22 @@ impl Speaker {
         true
     }
 
+    /// Says the message in the box, but for its bytes.
+    fn say_alone(&mut self, held: &Box<Message>) -> Result<(), SayFault>
+        ensures limits { self.new.limits ≡ self.old.limits }
+        ensures within { OnOk result (length (payload_of held.now.value) ≤ side_limit self.old.limits (side_of held.now.value)) }
+        ensures said { OnOk result ((M : List Message) → Says self.old M → MaySay self.old.limits M held.now.value × Says self.new (M ++ held.now.value ∷ [])) }
+        ensures same { OnErr result (self.new ≡ self.old) }
+        ensures err { IfErr result (λ e. (e ≡ NoMemory) ⊎ ((before : List Message) → Says self.old before → IsSayFault self.old.limits before held.now.value e)) }
+        ensures exact { IfErr result (λ e. e ≢ NoMemory → (before : List Message) → Says self.old before → MaySay self.old.limits before held.now.value → ⊥) }
+    {
+        let mut frame = Vec::new(self.alloc);
+        match self.say(&**held, &mut frame) {
+            Ok(()) => Ok(()),
+            Err(e) => Err(e),
+        }
+    }
+
     /// Says the message of this kind and payload, which is made, but for its bytes.
     // For a message that `judge_written` leaves undecided: `say` knows why it can't be said.
     #[inline(never)]
@@ -192,11 +208,10 @@ impl Speaker {
         ensures err { IfErr result (λ e. (e ≡ NoMemory) ⊎ RefusesWritten self.old kind payload.now e) }
         ensures exact { IfErr result (λ e. e ≢ NoMemory → CannotSayWritten self.old kind payload.now) }
     {
-        let Ok(message) = message_ref(kind, payload).to_message(self.alloc) else {
+        let Ok(message) = boxed_message(self.alloc, kind, payload) else {
             return Err(SayFault::NoMemory);
         };
-        let mut frame = Vec::new(self.alloc);
-        match self.say(&message, &mut frame) {
+        match self.say_alone(&message) {
             Ok(()) => Ok(()),
             Err(e) => Err(e),
         }

@@ -197,7 +197,7 @@ impl Stream {
 
     /// Drops the kept frame.
     #[inline(always)]
-    pub fn give_up(&mut self)
+    pub fn drop_kept(&mut self)
         ensures { self.new ≡ record self.old { kept = [] } }
     {
         if self.kept {
@@ -209,7 +209,7 @@ impl Stream {
     /// Takes the piece up to the end of the first frame that becomes whole, or all of it.
     pub fn take(&mut self, piece: &[u8]) -> Advance
         requires begins { IsBeginning self.old.limit self.old.held }
-        requires given_up { self.old.kept ≡ [] }
+        requires dropped { self.old.kept ≡ [] }
         requires size { self.old.size < 2 ^ 62 }
         ensures stays { self.new ≡ record self.old { held = self.new.held } }
         ensures advance { IsAdvance self.old.limit self.old.size self.old.held piece.now result self.new.held }
@@ -221,7 +221,7 @@ impl Stream {
     /// undecided. Takes nothing.
     #[inline(always)]
     pub fn front(&self, piece: &[u8]) -> Option<usize>
-        requires given_up { self.now.kept ≡ [] }
+        requires dropped { self.now.kept ≡ [] }
         requires size { self.now.size < 2 ^ 62 }
         ensures { IfSome result (λ used. (self.now.held ≡ []) × IsAdvance self.now.limit self.now.size self.now.held piece.now (Whole used) (take used piece.now)) }
     {
@@ -262,7 +262,7 @@ impl Stream {
     /// undecided, and nothing changed.
     #[inline(always)]
     pub fn take_whole(&mut self, piece: &[u8]) -> Option<usize>
-        requires given_up { self.old.kept ≡ [] }
+        requires dropped { self.old.kept ≡ [] }
         requires size { self.old.size < 2 ^ 62 }
         ensures stays { self.new ≡ record self.old { held = self.new.held } }
         ensures some { IfSome result (λ used. (self.old.held ≡ []) × IsAdvance self.old.limit self.old.size self.old.held piece.now (Whole used) self.new.held) }

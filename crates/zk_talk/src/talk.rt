@@ -8,7 +8,7 @@ ghost use Rattle.zk_talk.specs.{declared.message.Side.TheVariants.Server, Refuse
 ghost use Rattle.zk_talk.specs.Stands.{held_on, kept_on, frames_on, Stands, Refuses, WhereItStands, WhereItRefuses, WhereKept};
 ghost use Rattle.zk_records.specs.declared.op.Op.TheVariants as ops;
 ghost use Rattle.zk_answers.specs.declared.layout.Layout.TheVariants as layouts;
-ghost use Rattle.zk_talk.specs.{Viewed.Shows, Viewed.Leaves, Viewed.other_side, Taking.TakesOn, Taking.StepsOn, Taking.IsRefused, Taking.Fails, Taking.given_up};
+ghost use Rattle.zk_talk.specs.{Viewed.Shows, Viewed.Leaves, Viewed.other_side, Taking.TakesOn, Taking.StepsOn, Taking.IsRefused, Taking.Fails, Taking.dropped};
 
 use crate::limits::Limits;
 use crate::message::{Ending, Fault, Message, MessageOf, MessageRef, Side};
@@ -121,54 +121,54 @@ impl Talk {
 
     /// Drops the frame that the side keeps, if it keeps one. Whatever comes then is judged as it would have been.
     #[inline(always)]
-    pub fn give_up(&mut self, side: Side)
-        ensures { self.new ≡ given_up side self.old }
+    pub fn drop_kept(&mut self, side: Side)
+        ensures { self.new ≡ dropped side self.old }
     {
         match side {
-            Side::Client => self.client.give_up(),
-            Side::Server => self.server.give_up(),
+            Side::Client => self.client.drop_kept(),
+            Side::Server => self.server.drop_kept(),
         }
     }
 
     /// Steps over the whole frame at the front of `piece`, if none is begun and it is seen at once that it may come next, and
     /// returns the number of its bytes; `None`: undecided, and only what was kept on the side is dropped.
     #[inline(always)]
-    fn step_at_once(&mut self, side: Side, piece: &[u8]) -> Option<usize>
+    fn step_fast(&mut self, side: Side, piece: &[u8]) -> Option<usize>
         ensures limits { self.new.limits ≡ self.old.limits }
         ensures some { IfSome result (λ used. StepsOn self.old side piece.now used true self.new) }
         ensures good { IfSome result (λ used. self.old.fault ≡ None) }
         ensures other { Leaves (other_side side) self.old self.new }
-        ensures same { IfNone result (self.new ≡ given_up side self.old) }
+        ensures same { IfNone result (self.new ≡ dropped side self.old) }
     {
-        self.give_up(side);
+        self.drop_kept(side);
         match self.fault {
-            None => self.step_whole(side, piece),
+            None => self.step_whole_frame(side, piece),
             Some(_) => None,
         }
     }
 
-    /// Passes the whole frame at the front of `piece`, as `step_at_once` steps over it, and keeps nothing; `None`: undecided.
+    /// Passes the whole frame at the front of `piece`, as `step_fast` steps over it, and keeps nothing; `None`: undecided.
     #[inline(always)]
-    pub(crate) fn pass_at_once(&mut self, side: Side, piece: &[u8]) -> Option<usize>
+    pub(crate) fn pass_fast(&mut self, side: Side, piece: &[u8]) -> Option<usize>
         ensures limits { self.new.limits ≡ self.old.limits }
         ensures some { IfSome result (λ used. (m : Message) × TakesOn self.old side piece.now used (m ∷ []) self.new) }
         ensures whole { IfSome result (λ used. (held_on side self.new ≡ []) × (self.old.fault ≡ None)) }
         ensures other { Leaves (other_side side) self.old self.new }
-        ensures given_up { kept_on side self.new ≡ [] }
-        ensures same { IfNone result (self.new ≡ given_up side self.old) }
+        ensures dropped { kept_on side self.new ≡ [] }
+        ensures same { IfNone result (self.new ≡ dropped side self.old) }
     {
-        self.give_up(side);
+        self.drop_kept(side);
         match self.fault {
-            None => self.pass_whole(side, piece),
+            None => self.pass_whole_frame(side, piece),
             Some(_) => None,
         }
     }
 
-    /// `step` of any piece, where no frame is kept on the side. If it is refused its fault is kept, and the result is void.
+    /// `step` of any piece, where no frame is kept on the side. If it is refused its fault stays, and the result is void.
     // A call of its own whose result is in registers: where `step` is inlined, most frames have no result in memory.
     #[inline(never)]
-    pub(crate) fn step_exact(&mut self, side: Side, piece: &[u8]) -> Stepped
-        requires given_up { kept_on side self.old ≡ [] }
+    pub(crate) fn step_slow(&mut self, side: Side, piece: &[u8]) -> Stepped
+        requires dropped { kept_on side self.old ≡ [] }
         ensures limits { self.new.limits ≡ self.old.limits }
         ensures ok { self.new.fault ≡ None → StepsOn self.old side piece.now result.used result.whole self.new }
         ensures exact { self.new.fault ≡ None → result.whole ≡ false → result.used ≡ length piece.now }
@@ -184,7 +184,7 @@ impl Talk {
         if let Some(_fault) = self.fault {
             return void;
         }
-        match self.exact(side, piece) {
+        match self.step_piece(side, piece) {
             Ok(stepped) => stepped,
             Err(_refused) => void,
         }
@@ -195,7 +195,7 @@ impl Talk {
     ///
     /// # Errors
     ///
-    /// The fault of the history so far with the piece. It is kept, and each later call returns it and uses nothing. Never
+    /// The fault of the history so far with the piece. It stays, and each later call returns it and uses nothing. Never
     /// `NoMemory`.
     #[inline(always)]
     pub fn step(&mut self, side: Side, piece: &[u8]) -> Result<Stepped, Fault>
@@ -210,13 +210,13 @@ impl Talk {
         ensures err { IfErr result (λ e. (e.reason ≢ NoMemory) × IsRefused self.old side piece.now e self.new) }
         // A refused side keeps nothing.
         ensures none { OnErr result (kept_on side self.new ≡ []) }
-        // A fault is kept.
-        ensures kept { (f : Fault) → self.old.fault ≡ Some f → (result ≡ Err f) × (self.new ≡ given_up side self.old) }
+        // A fault stays.
+        ensures kept { (f : Fault) → self.old.fault ≡ Some f → (result ≡ Err f) × (self.new ≡ dropped side self.old) }
     {
-        if let Some(used) = self.step_at_once(side, piece) {
+        if let Some(used) = self.step_fast(side, piece) {
             return Ok(Stepped { used, whole: true });
         }
-        let stepped = self.step_exact(side, piece);
+        let stepped = self.step_slow(side, piece);
         if let Some(fault) = self.fault {
             return Err(fault);
         }
@@ -228,7 +228,7 @@ impl Talk {
     ///
     /// # Errors
     ///
-    /// The fault of the history so far with the piece. It is kept, and each later call returns it and uses nothing.
+    /// The fault of the history so far with the piece. It stays, and each later call returns it and uses nothing.
     /// `NoMemory` in place of a message whose memory was refused: the talk is then as before the call.
     pub fn take(&mut self, side: Side, piece: &[u8]) -> Result<Taken, Fault>
         ensures limits { self.new.limits ≡ self.old.limits }
@@ -239,14 +239,14 @@ impl Talk {
         // Refused memory comes in place of a message and changes nothing; another refusal is the history's fault.
         ensures err { IfErr result (λ e. Fails self.old side piece.now e self.new) }
         // What a step kept on the side is dropped; the other side's frame stays as it is, and shows what it shows.
-        ensures given_up { kept_on side self.new ≡ [] }
+        ensures dropped { kept_on side self.new ≡ [] }
         ensures other { Leaves (other_side side) self.old self.new }
         // An empty piece allocates nothing.
         ensures empty { length piece.now ≡ 0 → self.old.fault ≡ None → IsOk result }
-        // A fault is kept.
-        ensures kept { (f : Fault) → self.old.fault ≡ Some f → (result ≡ Err f) × (self.new ≡ given_up side self.old) }
+        // A fault stays.
+        ensures kept { (f : Fault) → self.old.fault ≡ Some f → (result ≡ Err f) × (self.new ≡ dropped side self.old) }
     {
-        self.give_up(side);
+        self.drop_kept(side);
         if let Some(fault) = self.fault {
             return Err(fault);
         }
@@ -329,9 +329,9 @@ impl Talk {
         }
     }
 
-    /// The layout and the bytes of the body in which the kept fault is found: those after the header of a request, of an
+    /// The layout and the bytes of the body in which the talk's fault is found: those after the header of a request, of an
     /// event, or of a reply with err 0 to another operation than multi. `None` if it is found elsewhere, in a side's frame 0,
-    /// or if no fault is kept.
+    /// or if the talk has no fault.
     pub fn refused_body(&self) -> Option<(Layout, &[u8])>
         ensures stands { (h : History) (M : List Message) → Stands self.now h M → result ≡ None }
         ensures refuses { (h : History) (M : List Message) (f : Fault) (r : Refuses self.now h M f) → TellsRefusedBody self.now.limits h f r.is result }

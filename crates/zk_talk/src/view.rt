@@ -1,12 +1,13 @@
 //! The frame that a side keeps, shown as a borrowed message.
-ghost use Rattle.std.specs.Prelude.{◌≡◌};
+ghost use Rattle.std.specs.Prelude.{◌≡◌, IfOk};
 ghost use Rattle.zk_frames.specs.Framing.{frame};
 ghost use Rattle.zk_asks.specs.Held as asks;
 ghost use Rattle.zk_answers.specs.Held as answers;
 ghost use Rattle.zk_talk.specs.{Held.Message, Viewed.ShowsClient, Viewed.ShowsServer, Written.IsWritten};
 
-use crate::message::{Kind, MessageOf, MessageRef};
+use crate::message::{Kind, Message, MessageOf, MessageRef};
 use crate::replied::Replied;
+use std::alloc::{AllocError, Global};
 use zk_answers::{ServerRef, connected_ref, event_ref, reply_ref, written_reply_ref};
 use zk_asks::{ClientRef, client_ref, written_ref};
 
@@ -46,4 +47,24 @@ pub fn message_ref(kind: Kind, payload: &[u8]) -> MessageRef<'_>
         Kind::Event => MessageOf::Server(event_ref(payload)),
         Kind::Answered(op) => MessageOf::Server(written_reply_ref(op, payload)),
     }
+}
+
+/// The message of this kind that has the payload, made.
+pub fn made_message(alloc: Global, kind: Kind, payload: &[u8]) -> Result<Message, AllocError>
+    requires { (m : Message) × IsWritten kind payload.now m }
+    ensures { IfOk result (λ message. (m : Message) → IsWritten kind payload.now m → message ≡ m) }
+{
+    match message_ref(kind, payload).to_message(alloc) {
+        Ok(message) => Ok(message),
+        Err(refused) => Err(refused),
+    }
+}
+
+/// The same in a box: a function that has a message of its own and lends it is dear to prove.
+pub fn boxed_message(alloc: Global, kind: Kind, payload: &[u8]) -> Result<Box<Message>, AllocError>
+    requires { (m : Message) × IsWritten kind payload.now m }
+    ensures { IfOk result (λ held. (m : Message) → IsWritten kind payload.now m → held.value ≡ m) }
+{
+    let message = made_message(alloc, kind, payload)?;
+    Ok(Box::new(alloc, message)?)
 }

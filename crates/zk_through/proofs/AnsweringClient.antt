@@ -8,11 +8,11 @@ use Rattle.zk_talk.specs.{Streams.StreamState, Streams.TakenBack, Streams.passed
 use Rattle.zk_through.specs.{declared.turn.Turn.Turn, Came.payloads, Came.told}
 use Rattle.zk_through.specs.declared.fate.ClientFate.TheVariants as asks
 use Rattle.zk_through.specs.Fates.{HasNoForeign, TellsRequest, WeighsAtMost, HasRoom, HasClientFate}
-use Rattle.zk_through.specs.declared.through.Went.TheVariants as went
+use Rattle.zk_through.specs.declared.through.StepOutcome.TheVariants as outcome
 use Rattle.zk_talk.proofs.Headline.{fault_is_bad}
 use Rattle.zk_through.specs.Turns.{TurnsState, turn_of, left_out, with_waits, and_turn, after_request, after_left}
-use Rattle.zk_through.specs.Runs.{ThroughState, Runs, WentOn, IsRefused, IsTold, IsNotTold, GoesOnTold, IsKeptAt, IsFull, IsRequestOf}
-use Rattle.zk_through.proofs.{Lanes.left_stays, Steps.nothing_more, Steps.WholeCame, Steps.FrameCame, Steps.has_come, Steps.went_told, Outcomes.counted, Outcomes.client_other, Outcomes.client_asks, Outcomes.client_lacks, Seen.client_counts}
+use Rattle.zk_through.specs.Runs.{ThroughState, Runs, HasOutcome, IsRefused, IsTold, IsNotTold, GoesOnTold, IsKeptAt, IsFull, IsRequestOf}
+use Rattle.zk_through.proofs.{Lanes.left_stays, Steps.nothing_more, Steps.WholeCame, Steps.FrameCame, Steps.has_come, Steps.outcome_told, Outcomes.counted, Outcomes.client_other, Outcomes.client_asks, Outcomes.client_lacks, Seen.client_counts}
 use Rattle.zk_through.proofs.{Refusals.refused_told, Fitting.some_weight, Fitting.its_good, Fitting.talk_takes}
 
 module _ (old : ThroughState) (piece : List ℕ) (used : ℕ) (s : StreamState) (w : WholeCame Client old piece used s) (number : ℕ) (numbered : number ≡ s.count) where
@@ -24,14 +24,14 @@ module _ (old : ThroughState) (piece : List ℕ) (used : ℕ) (s : StreamState) 
     abbrev pub new : ThroughState
     new = record old { talk = talk; client = s'; turns = turns }
 
-    tells_on : (FrameCame Client old new piece used w.p → GoesOnTold old Client (take used piece) w.p new) → WentOn old Client piece used went.Message new
-    tells_on = went_told Client old new piece used s w limits refl refl refl pass
+    tells_on : (FrameCame Client old new piece used w.p → GoesOnTold old Client (take used piece) w.p new) → HasOutcome old Client piece used outcome.Message new
+    tells_on = outcome_told Client old new piece used s w limits refl refl refl pass
 
     module _ (size : ℕ) (weighs : WeighsAtMost old.talk.limits.profile number w.p size) (fits : 0 < size → HasRoom old.talk old.turns size) where
       only : 0 < old.client.count → (n : ℕ) → IsRequestOf old.talk.limits.profile w.p n → n ≤ size
       only begun n q = weighs (omega (arith, begun, here)) n q
 
-      told_so : (ahead : Option Turn) → turns ≡ after_request ahead old.turns → TellsRequest number w.p ahead → HasNoForeign old.talk.limits.profile number w.p → WentOn old Client piece used went.Message new
+      told_so : (ahead : Option Turn) → turns ≡ after_request ahead old.turns → TellsRequest number w.p ahead → HasNoForeign old.talk.limits.profile number w.p → HasOutcome old Client piece used outcome.Message new
       told_so None same none known =
           tells_on (λ x. client_other old new piece used w.p x refl refl size only fits (tells w.p w.held) (ap left_out same) same (λ later. none (omega (arith, later, here))))
       told_so (Some turn) more a known =
@@ -39,12 +39,12 @@ module _ (old : ThroughState) (piece : List ℕ) (used : ℕ) (s : StreamState) 
           client_asks old new piece used w.p x refl refl size only fits (tells w.p w.held) (ap left_out more ∙ ap left_out (left_stays (lane_of turn.xid) (and_turn old.turns.room turn) old.turns)) a.0.1 (omega (arith, a.0.0, here)) w.room turn
           (a.1 ∙ ap (λ (z : ℕ). turn_of false (z, w.p)) here) (more ∙ ap (λ (z : Turn). with_waits (lane_of z.xid) (and_turn old.turns.room turn) old.turns) a.1) (known a.0))
 
-    pub client_told : (ahead : Option Turn) → HasClientFate old.talk old.turns number w.p (asks.Told ahead) → turns ≡ after_request ahead old.turns → WentOn old Client piece used went.Message new
+    pub client_told : (ahead : Option Turn) → HasClientFate old.talk old.turns number w.p (asks.Told ahead) → turns ≡ after_request ahead old.turns → HasOutcome old Client piece used outcome.Message new
     client_told ahead fate same = told_so fate.2 fate.3 fate.4 ahead same fate.0 fate.1
 
   -- it is left out
   pub client_left : (s' : StreamState) (turns : TurnsState) (turn : Turn) → HasClientFate old.talk old.turns number w.p (asks.LeftOut turn) → s' ≡ kept_now s used → turns ≡ after_left turn old.turns →
-      WentOn old Client piece used (went.Asked turn) (record old { client = s'; turns = turns })
+      HasOutcome old Client piece used (outcome.Asked turn) (record old { client = s'; turns = turns })
   client_left s' turns turn a keep more =
       let new : ThroughState = record old { client = s'; turns = turns } in
       let is_turn : turn ≡ turn_of true (old.client.count, w.p) = a.1 ∙ ap (λ (z : ℕ). turn_of true (z, w.p)) here in (
@@ -70,7 +70,7 @@ module _ (old : ThroughState) (piece : List ℕ) (used : ℕ) (s : StreamState) 
     full = λ h c k M r v g. fate.3 (told k) M v [] [] r.stands g;
   }
 
-  pub client_full : (s' : StreamState) → TakenBack s used s' → IsFull old piece → WentOn old Client piece 0 went.Full (record old { client = s' })
+  pub client_full : (s' : StreamState) → TakenBack s used s' → IsFull old piece → HasOutcome old Client piece 0 outcome.Full (record old { client = s' })
   client_full s' back full =
       let same : s' ≡ old.client = back old.client.held (take used piece) (w.held ∙ sym w.is) (length-take-le used piece w.part) ∙ ap (λ (z : StreamState). record z { held = old.client.held }) w.stays in (
         refl,

@@ -13,7 +13,7 @@ use Rattle.zk_waiting.specs.declared.lane.Lane.TheVariants.{Ping, Auth, Watches,
 use Rattle.zk_talk.specs.declared.message.Side.TheVariants.{Client, Server}
 use Rattle.zk_talk.specs.declared.message.MessageOf.TheVariants.{Client as FromClient, Server as FromServer}
 use Rattle.zk_talk.specs.{declared.message.Side.Side, declared.limits.Limits.Limits, declared.message.Fault.Fault, declared.talk.Stepped.Stepped, Held.Message, Payloads.client_payload, Payloads.server_payload}
-use Rattle.zk_talk.specs.{History.History, History.side_bytes, History.on, Good.IsGood, Fault.IsFaultOf, Fault.side_limit, Stands.TalkState, Stands.Stands, Streams.StreamState, Taking.StepsOn, Taking.IsRefused, Taking.given_up}
+use Rattle.zk_talk.specs.{History.History, History.side_bytes, History.on, Good.IsGood, Fault.IsFaultOf, Fault.side_limit, Stands.TalkState, Stands.Stands, Streams.StreamState, Taking.StepsOn, Taking.IsRefused, Taking.dropped}
 use Rattle.zk_talk.proofs.{Histories.no_bytes, Small.small_limits, Standing.other-on, Standing.Runs as Spells, Replays.own_bytes, Spoken.none_spoken, Spoken.step, Headline.fault_is_bad, Headline.stands_alone, Stepping.stands_given, GoodSteps.load_here, Lists.both_empty}
 use Rattle.zk_through.specs.{Came.payloads, Came.IsCutOn, Came.AreFrames, Came.told, LeftOut.is_on, LeftOut.asked, LeftOut.replied, LeftOut.Kept, LeftOut.NewestAnswers, Unseen.SeenAfter, Unseen.made_up}
 use Rattle.zk_through.specs.Turns.{IsLane, AreLanes, AreRequests, waits_on, no_turns}
@@ -203,10 +203,10 @@ module _ (limits : Limits) (a b : ℕ) where
   }
 
 -- the talk that has taken the pair, and keeps nothing of it
-pub let_go : (t : TalkState) → (x : (M : List Message) × Stands t (told made_up) M × (t.client_held ≡ []) × (t.server_held ≡ [])) → IsWelcomed (given_up Server (given_up Client t))
+pub let_go : (t : TalkState) → (x : (M : List Message) × Stands t (told made_up) M × (t.client_held ≡ []) × (t.server_held ≡ [])) → IsWelcomed (dropped Server (dropped Client t))
 let_go t x = record {
   messages = x.0;
-  stands = stands_given Server (given_up Client t) (told made_up) x.0 (stands_given Client t (told made_up) x.0 x.1);
+  stands = stands_given Server (dropped Client t) (told made_up) x.0 (stands_given Client t (told made_up) x.0 x.1);
   held = (x.2, x.3);
   none = by_sides _ Client refl refl;
 }

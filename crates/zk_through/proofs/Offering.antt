@@ -5,7 +5,7 @@ use Rattle.zk_frames.specs.Framing.{frame, IsFrame, IsLessOrMore}
 use Rattle.zk_talk.specs.{declared.message.Side.Side, declared.message.Side.TheVariants.Client, declared.message.Side.TheVariants.Server, declared.message.Fault.Fault, declared.stream.Advance.TheVariants.Whole, Fault.side_limit, History.History, Held.Message, Stands.TalkState, Stands.held_on}
 use Rattle.zk_talk.specs.{Streams.StreamState, Streams.held_in, Offered.IsNotOne, Offered.IsOffered, Offered.IsOneFrame as IsOneOfTalk, Offered.IsNotOneFrame as IsNotOneOfTalk}
 use Rattle.zk_talk.proofs.{Bodies.frame_once, Offers.carries}
-use Rattle.zk_through.specs.{declared.through.Passed.Passed, Came.Came, Runs.ThroughState, Runs.Runs, Runs.IsRefused, Runs.IsNeverFull, Runs.given_up, Runs.stream_on}
+use Rattle.zk_through.specs.{declared.through.Passed.Passed, Came.Came, Runs.ThroughState, Runs.Runs, Runs.IsRefused, Runs.IsNeverFull, Runs.dropped, Runs.stream_on}
 use Rattle.zk_through.specs.Offered.{IsOneFrame, IsNotOneFrame, WouldRefuse, Offers, IsWholeFrame, Cuts}
 use Rattle.zk_through.proofs.{Given.given_refused, Never.never_full, Refusals.refused_early, Steps.IsReady, Steps.WholeCame}
 
@@ -72,7 +72,7 @@ lent side t bytes used o x payload is = record {
 }
 
 -- ---- Refusals
-pub would : (side : Side) (t new : ThroughState) (bytes : List ℕ) (e : Fault) → new.talk.limits ≡ t.talk.limits → IsRefused (given_up side t) side bytes e new → WouldRefuse t side bytes e
+pub would : (side : Side) (t new : ThroughState) (bytes : List ℕ) (e : Fault) → new.talk.limits ≡ t.talk.limits → IsRefused (dropped side t) side bytes e new → WouldRefuse t side bytes e
 would side t new bytes e limits x = (new, limits, given_refused side t bytes e new x)
 
 -- a fault that is kept

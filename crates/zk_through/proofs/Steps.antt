@@ -8,11 +8,11 @@ use Rattle.zk_talk.specs.{declared.message.Side.Side, Fault.side_limit, declared
 use Rattle.zk_talk.specs.declared.message.Side.TheVariants.{Client, Server}
 use Rattle.zk_talk.proofs.{Answering.received, Bodies.frame_once, GoodSteps.load_here, Histories.no_bytes, Lists.both_empty, Standing.bytes-on, Standing.other-on}
 use Rattle.zk_talk.specs.{History.History, History.side_bytes, History.on, Stands.TalkState, Stands.Stands, Streams.StreamState, Streams.IsAtFrame, Streams.passed, Conversation.Conversation, Conversation.load, Good.Good, Good.client_bytes, Good.server_bytes}
-use Rattle.zk_through.specs.declared.through.Went.TheVariants as went
+use Rattle.zk_through.specs.declared.through.StepOutcome.TheVariants as outcome
 use Rattle.zk_through.specs.{Came.Came, Came.payloads, Came.IsCutOn, Came.AreFrames, Came.told, Unseen.IsUnseen, Unseen.Seen, Unseen.IsSeen, Unseen.TellsMatched}
 use Rattle.zk_through.specs.LeftOut.{is_on, asked, replied, Kept, NewestAnswers}
 use Rattle.zk_through.specs.Turns.{IsLane, AreLanes, AreRequests, waits_on, no_turns, left_out, number_of_turns}
-use Rattle.zk_through.specs.Runs.{ThroughState, AreStreams, Runs, GoesOnTold, WentOn, KeepsShown, of_side, stream_on}
+use Rattle.zk_through.specs.Runs.{ThroughState, AreStreams, Runs, GoesOnTold, HasOutcome, KeepsShown, of_side, stream_on}
 use Rattle.zk_through.proofs.{Seen.seen_more, Seen.passed_over, Newest.newest_none}
 use Rattle.zk_through.proofs.Frames.{no_payloads, payloads-same, payloads-other, by_sides, within_on, whole_on}
 
@@ -49,9 +49,9 @@ ready side old shown l same fits room is none = record {
 }
 
 -- ---- Within a frame
-pub went_within : (side : Side) (old new : ThroughState) (piece : List ℕ) → IsReady side old → CameWithin (stream_on side old) piece (stream_on side new) → stream_on (other_side side) new ≡ stream_on (other_side side) old →
-    new ≡ record old { client = new.client; server = new.server } → WentOn old side piece (length piece) went.Within new
-went_within side old new piece x w other is = (
+pub outcome_within : (side : Side) (old new : ThroughState) (piece : List ℕ) → IsReady side old → CameWithin (stream_on side old) piece (stream_on side new) → stream_on (other_side side) new ≡ stream_on (other_side side) old →
+    new ≡ record old { client = new.client; server = new.server } → HasOutcome old side piece (length piece) outcome.Within new
+outcome_within side old new piece x w other is = (
   refl,
   ap (λ (z : StreamState). z.kept) w.is ∙ x.none,
   λ h c k M r.
@@ -166,8 +166,8 @@ module _ (side : Side) (old new : ThroughState) (piece : List ℕ) (used : ℕ) 
   }
 
   -- the talk was told it
-  pub went_told : stream_on side new ≡ passed s used → (FrameCame side old new piece used w.p → GoesOnTold old side (take used piece) w.p new) → WentOn old side piece used went.Message new
-  went_told is goes = (w.part, ap (λ (z : StreamState). z.kept) is ∙ w.none, w.p, goes (has_come s.kept is))
+  pub outcome_told : stream_on side new ≡ passed s used → (FrameCame side old new piece used w.p → GoesOnTold old side (take used piece) w.p new) → HasOutcome old side piece used outcome.Message new
+  outcome_told is goes = (w.part, ap (λ (z : StreamState). z.kept) is ∙ w.none, w.p, goes (has_come s.kept is))
 
 module _ (old new : ThroughState) (piece : List ℕ) (used : ℕ) (p : List ℕ) where
   -- the streams hold what comes after the frame

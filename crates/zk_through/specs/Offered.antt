@@ -3,9 +3,9 @@ use Rattle.std.specs.Prelude.{◌≡◌, ◌≢◌, ℕ, ◌+◌, ◌⊎◌, Boo
 use Rattle.zk_frames.specs.Framing.{frame, IsFrame, IsLessOrMore}
 use Rattle.zk_talk.specs.{declared.message.Side.Side, declared.message.Side.TheVariants.Client, declared.message.Fault.Fault, declared.stream.Advance.TheVariants.Whole, History.History, Held.Message, Fault.side_limit, Fault.fault_of}
 use Rattle.zk_talk.specs.{Stands.TalkState, Stands.held_on, Streams.StreamState, Streams.passed, Receiving.IsStopped, Offered.IsNotOne, Offered.IsOffered}
-use Rattle.zk_through.specs.{declared.through.Passed.Passed, declared.through.Went.Went, Came.Came}
-use Rattle.zk_through.specs.declared.through.Went.TheVariants as went
-use Rattle.zk_through.specs.Runs.{ThroughState, Runs, WentOn, IsRefused, IsFull, IsTold, IsNotTold, stream_on}
+use Rattle.zk_through.specs.{declared.through.Passed.Passed, declared.through.StepOutcome.StepOutcome, Came.Came}
+use Rattle.zk_through.specs.declared.through.StepOutcome.TheVariants as outcome
+use Rattle.zk_through.specs.Runs.{ThroughState, Runs, HasOutcome, IsRefused, IsFull, IsTold, IsNotTold, stream_on}
 
 -- the side has begun no frame, and the bytes are one, within its limit
 abbrev pub IsOneFrame : ThroughState → Side → List ℕ → Type 0
@@ -20,14 +20,14 @@ abbrev pub WouldRefuse : ThroughState → Side → List ℕ → Fault → Type 0
 WouldRefuse old side piece fault = (new : ThroughState) × (new.talk.limits ≡ old.talk.limits) × IsRefused old side piece fault new
 
 -- The frame is taken: all its bytes are used, as by a step. Or with it more would wait than may, and nothing is changed.
-abbrev pub TakesFrame : ThroughState → Side → List ℕ → ℕ → Went → ThroughState → Type 0
-TakesFrame old side bytes used went.Within new = ⊥
-TakesFrame old side bytes used went.Full new = (used ≡ 0) × (side ≡ Client) × IsFull old bytes × (new ≡ old)
-TakesFrame old side bytes used went new = (used ≡ length bytes) × WentOn old side bytes used went new
+abbrev pub TakesFrame : ThroughState → Side → List ℕ → ℕ → StepOutcome → ThroughState → Type 0
+TakesFrame old side bytes used outcome.Within new = ⊥
+TakesFrame old side bytes used outcome.Full new = (used ≡ 0) × (side ≡ Client) × IsFull old bytes × (new ≡ old)
+TakesFrame old side bytes used outcome new = (used ≡ length bytes) × HasOutcome old side bytes used outcome new
 
 -- what an offer returns: what isn't one frame, and what is refused, changes nothing
 abbrev pub Offers : ThroughState → Side → List ℕ → Result (Option Passed) Fault → ThroughState → Type 0
-Offers old side bytes (Ok (Some s)) new = IsOneFrame old side bytes × TakesFrame old side bytes s.used s.went new
+Offers old side bytes (Ok (Some s)) new = IsOneFrame old side bytes × TakesFrame old side bytes s.used s.outcome new
 Offers old side bytes (Ok None) new = ((h : History) (c k : Came) (M : List Message) → Runs old h c k M → IsNotOneFrame old side bytes) × (new ≡ old)
 Offers old side bytes (Err e) new = WouldRefuse old side bytes e × (new ≡ old)
 

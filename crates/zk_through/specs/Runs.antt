@@ -9,10 +9,10 @@ use Rattle.zk_talk.specs.{declared.message.Side.Side, declared.message.Fault.Fau
 use Rattle.zk_talk.specs.declared.message.Side.TheVariants.{Client, Server}
 use Rattle.zk_talk.specs.declared.message.Ending.TheVariants.{Whole, Cut, Refused}
 use Rattle.zk_talk.specs.{Conversation.Conversation, Conversation.load, Conversation.weight, Good.Good, Fault.IsFaultOf, Fault.side_limit, Fault.fault_of, Ending.IsEnding, Stands.TalkState, Stands.Stands, Stands.Refuses, Stands.kept_on}
-use Rattle.zk_talk.specs.{Streams.StreamState, Taking.given_up as unshown, Viewed.Shows, Viewed.Leaves}
+use Rattle.zk_talk.specs.{Streams.StreamState, Taking.dropped as unshown, Viewed.Shows, Viewed.Leaves}
 use Rattle.zk_waiting.specs.Waiting.{count_of}
-use Rattle.zk_through.specs.{declared.through.Went.Went, Came.Came, Came.payloads, Came.AreFrames, Came.told, Unseen.IsUnseen, Unseen.Seen, Unseen.IsSeen, Unseen.TellsMatched}
-use Rattle.zk_through.specs.declared.through.Went.TheVariants as went
+use Rattle.zk_through.specs.{declared.through.StepOutcome.StepOutcome, Came.Came, Came.payloads, Came.AreFrames, Came.told, Unseen.IsUnseen, Unseen.Seen, Unseen.IsSeen, Unseen.TellsMatched}
+use Rattle.zk_through.specs.declared.through.StepOutcome.TheVariants as outcome
 use Rattle.zk_through.specs.LeftOut.{xid_of, zxid_of, err_of, has_turn, lane_in, asked, replied, IsForeign, IsTurnOf, Kept, NewestAnswers}
 use Rattle.zk_through.specs.Turns.{TurnsState, AreLanes, IsDue, turn_of, left_out, number_of_turns}
 
@@ -116,21 +116,21 @@ abbrev pub KeepsShown : Side → ThroughState → ThroughState → Type 0
 KeepsShown side old new = Leaves side old.talk new.talk
 
 -- what became of the bytes that were used; without a message the side shows what it showed
-abbrev pub WentOn : ThroughState → Side → List ℕ → ℕ → Went → ThroughState → Type 0
-WentOn old side piece used went.Within new =
+abbrev pub HasOutcome : ThroughState → Side → List ℕ → ℕ → StepOutcome → ThroughState → Type 0
+HasOutcome old side piece used outcome.Within new =
     (used ≡ length piece) × (left_on side new ≡ []) × GoesOn old side piece [] [] [] new × KeepsShown side old new
-WentOn old side piece used went.Message new =
+HasOutcome old side piece used outcome.Message new =
     (used ≤ length piece) × (left_on side new ≡ []) × (p : List ℕ) × GoesOnTold old side (take used piece) p new
-WentOn old side piece used (went.Asked turn) new =
+HasOutcome old side piece used (outcome.Asked turn) new =
     (used ≤ length piece) × (side ≡ Client) × (p : List ℕ) × (left_on side new ≡ frame p) × (turn ≡ turn_of true (old.client.count, p)) ×
     GoesOn old side (take used piece) ((side, p) ∷ []) [] [] new × KeepsShown side old new
-WentOn old side piece used (went.Answered turn) new =
+HasOutcome old side piece used (outcome.Answered turn) new =
     (used ≤ length piece) × (side ≡ Server) × (q : List ℕ) × (left_on side new ≡ frame q) × (xid_of q ≡ turn.xid) ×
     IsDue old.turns turn.xid turn × GoesOn old side (take used piece) ((side, q) ∷ []) [] [] new × KeepsShown side old new
-WentOn old side piece used (went.Unseen xid zxid err) new =
+HasOutcome old side piece used (outcome.Unseen xid zxid err) new =
     (used ≤ length piece) × (side ≡ Server) × (q : List ℕ) × (left_on side new ≡ frame q) ×
     (xid ≡ xid_of q) × (zxid ≡ zxid_of q) × (err ≡ err_of q) × PassesOver old (take used piece) q new × KeepsShown side old new
-WentOn old side piece used went.Full new =
+HasOutcome old side piece used outcome.Full new =
     (used ≡ 0) × (side ≡ Client) × (left_on side new ≡ []) × IsFull old piece × GoesOn old side [] [] [] [] new × KeepsShown side old new
 
 -- The frame, after these, is no later frame of the client's that is a request of the profile. So no frame is refused because
@@ -203,9 +203,9 @@ pub record KeepsNone (side : Side) (old new : ThroughState) : Type 0 where
   pub answered : new.answered ≡ old.answered
 
 -- the frame that was left out last on the side is dropped
-abbrev pub given_up : Side → ThroughState → ThroughState
-given_up Client t = record t { client = record t.client { kept = [] } }
-given_up Server t = record t { server = record t.server { kept = [] } }
+abbrev pub dropped : Side → ThroughState → ThroughState
+dropped Client t = record t { client = record t.client { kept = [] } }
+dropped Server t = record t { server = record t.server { kept = [] } }
 
 -- so is the frame of the message that the side shows
 abbrev pub silenced : Side → ThroughState → ThroughState
@@ -215,7 +215,7 @@ silenced side t = record t { talk = unshown side t.talk }
 abbrev pub LeavesSide : Side → ThroughState → ThroughState → Type 0
 LeavesSide side old new = Leaves side old.talk new.talk × (stream_on side new ≡ stream_on side old)
 
--- the fault is kept, at the side's own frame and offset, and the side is as it was
+-- the fault stays, at the side's own frame and offset, and the side is as it was
 abbrev pub IsKeptAt : Side → StreamState → ℕ → Fault → Option Fault → Type 0
 IsKeptAt side s used e kept = (e ≡ fault_of side s.count (s.size + used) e.place e.reason) × (kept ≡ Some e)
 

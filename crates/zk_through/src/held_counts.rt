@@ -2,7 +2,7 @@
 ghost use Rattle.std.specs.Prelude.{◌≡◌, ◌≤◌, ◌+◌, List, [], length, MatchOption};
 ghost use Rattle.zk_frames.specs.Framing.{frame};
 ghost use Rattle.zk_talk.specs.{Conversation.load, Conversation.number_waiting, Good.clients, Good.servers, Held.Message, History.History, Stands.WhereItStands, Stands.held_on, Stands.kept_on};
-ghost use Rattle.zk_through.specs.{Came.Came, LeftOut.NewestAnswers, Turns.HaveRoom, Turns.left_out, Runs.ThroughState, Runs.Runs, Runs.WhereItRuns, Runs.WaitsAfter, Runs.KeepsWaiting, Runs.stream_on, Runs.left_on, Runs.given_up, Runs.silenced};
+ghost use Rattle.zk_through.specs.{Came.Came, LeftOut.NewestAnswers, Turns.HaveRoom, Turns.left_out, Runs.ThroughState, Runs.Runs, Runs.WhereItRuns, Runs.WaitsAfter, Runs.KeepsWaiting, Runs.stream_on, Runs.left_on, Runs.dropped, Runs.silenced};
 
 use crate::through::Through;
 use crate::turns::Turns;
@@ -58,10 +58,10 @@ impl Through {
     /// The side shows no message from now on, and keeps no frame that was left out. Whatever comes then is judged as it
     /// would have been.
     pub fn let_go(&mut self, side: Side)
-        ensures { self.new ≡ silenced side (given_up side self.old) }
+        ensures { self.new ≡ silenced side (dropped side self.old) }
     {
-        self.give_up(side);
-        self.talk.give_up(side);
+        self.drop_kept(side);
+        self.talk.drop_kept(side);
     }
 
     /// The number of the side's frames that were whole, those left out too.
@@ -82,7 +82,7 @@ impl Through {
     }
 
     /// The number of the client's frame that the server's newest whole frame answers, those left out counted: 0 for the
-    /// reply to the connect request. `None` if that is an event, or none came. `Went::Unseen` leaves it as it is.
+    /// reply to the connect request. `None` if that is an event, or none came. `StepOutcome::Unseen` leaves it as it is.
     pub fn answered(&self) -> Option<u64>
         ensures value { result ≡ self.now.answered }
         // The k-th reply of a lane answers the lane's k-th request.

@@ -34,8 +34,8 @@ fn welcome(talk: &mut Talk)
     talk.renew();
     hear(talk, Side::Client, REQUEST);
     hear(talk, Side::Server, ANSWER);
-    talk.give_up(Side::Client);
-    talk.give_up(Side::Server);
+    talk.drop_kept(Side::Client);
+    talk.drop_kept(Side::Server);
 }
 
 /// Begins the side anew, at the end of this frame, which is counted.
@@ -67,8 +67,8 @@ impl Through {
     /// and all that the server sent after it. Memory is allocated as by `new`.
     ///
     /// It begins with a connect request and the answer to it, which nobody sent: these are frame 0 of each side, and its
-    /// first 32 and 24 bytes. A reply to a request that wasn't seen is `Went::Unseen`, and the talk doesn't get it. It is
-    /// known by its xid, until the first reply to a request that was seen. Pings have one xid, and so have auths and
+    /// first 32 and 24 bytes. A reply to a request that wasn't seen is `StepOutcome::Unseen`, and the talk doesn't get it.
+    /// It is known by its xid, until the first reply to a request that was seen. Pings have one xid, and so have auths and
     /// setWatches: of these each reply is one where none waits.
     ///
     /// # Errors

@@ -26,7 +26,8 @@
 //! let mut through = Through::new(rt.alloc(), limits)?;
 //! assert!(rt; through.step(Side::Client, CONNECT).is_ok());
 //! let passed = through.step(Side::Client, ADD_WATCH)?; // an operation that no profile has
-//! assert!(rt; matches!(passed.went, Went::Asked(_)) && through.left_out(Side::Client).is_some());
+//! let is_asked = matches!(passed.outcome, StepOutcome::Asked(_));
+//! assert!(rt; is_asked && through.left_out(Side::Client).is_some());
 //! ```
 #![tactic(auto)]
 
@@ -43,5 +44,5 @@ mod turns;
 mod unseen;
 
 pub use laws::kept_laws;
-pub use through::{Passed, Through, Went};
+pub use through::{Passed, StepOutcome, Through};
 pub use turn::Turn;

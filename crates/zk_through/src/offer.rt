@@ -5,7 +5,7 @@ ghost use Rattle.zk_talk.specs.declared.message.Side.TheVariants.{Client, Server
 ghost use Rattle.zk_through.specs.{Runs.IsNeverFull, Runs.LeavesSide, Offered.IsNotOneFrame, Offered.Offers, Offered.IsWholeFrame, Offered.Cuts, Offered.TellsNext};
 
 use crate::fate::{ClientFate, ServerFate, client_fate, server_fate};
-use crate::through::{Passed, Through, Went};
+use crate::through::{Passed, StepOutcome, Through};
 use zk_jute::ItemFault;
 use zk_talk::{Advance, Fault, Side, Stream, Talk, carried, next_fault};
 
@@ -50,7 +50,7 @@ fn tell_next(
     if !took {
         return Ok(false);
     }
-    stream.give_up();
+    stream.drop_kept();
     stream.pass_whole(used);
     Ok(true)
 }
@@ -79,11 +79,11 @@ impl Through {
         let side = Side::Client;
         let (number, payload) = (self.client.count(), carried(frame, used));
         match client_fate(self.limits, &self.talk, &self.turns, number, payload) {
-            ClientFate::Full => Ok(Some(Passed::of(0, Went::Full))),
+            ClientFate::Full => Ok(Some(Passed::of(0, StepOutcome::Full))),
             ClientFate::LeftOut(turn) => {
                 self.turns.leave(turn);
                 self.client.keep_whole(frame);
-                Ok(Some(Passed::of(used, Went::Asked(turn))))
+                Ok(Some(Passed::of(used, StepOutcome::Asked(turn))))
             }
             ClientFate::Told(turn) => {
                 let told = tell_next(&mut self.talk, side, &mut self.client, frame, used)?;
@@ -91,7 +91,7 @@ impl Through {
                     return Ok(None);
                 }
                 self.turns.ask(turn);
-                Ok(Some(Passed::of(used, Went::Message)))
+                Ok(Some(Passed::of(used, StepOutcome::Message)))
             }
         }
     }
@@ -112,7 +112,7 @@ impl Through {
             ServerFate::Unseen { xid, zxid, err } => {
                 self.server.keep_whole(frame);
                 self.matched = matched;
-                Ok(Some(Passed::of(used, Went::Unseen { xid, zxid, err })))
+                Ok(Some(Passed::of(used, StepOutcome::Unseen { xid, zxid, err })))
             }
             ServerFate::Refused(reason) => {
                 let item = ItemFault::at(0, reason);
@@ -123,7 +123,7 @@ impl Through {
                 self.server.keep_whole(frame);
                 self.matched = matched;
                 self.answered = Some(turn.frame);
-                Ok(Some(Passed::of(used, Went::Answered(turn))))
+                Ok(Some(Passed::of(used, StepOutcome::Answered(turn))))
             }
             ServerFate::Told { xid, frame: asked } => {
                 let told = tell_next(&mut self.talk, side, &mut self.server, frame, used)?;
@@ -133,7 +133,7 @@ impl Through {
                 self.turns.reply(xid);
                 self.matched = matched;
                 self.answered = asked;
-                Ok(Some(Passed::of(used, Went::Message)))
+                Ok(Some(Passed::of(used, StepOutcome::Message)))
             }
         }
     }
@@ -144,7 +144,7 @@ impl Through {
     ///
     /// # Errors
     ///
-    /// The fault with which `step` would refuse it. It isn't kept.
+    /// The fault with which `step` would refuse it. It doesn't stay.
     pub fn offer(&mut self, side: Side, frame: &[u8]) -> Result<Option<Passed>, Fault>
         ensures limits { self.new.talk.limits ≡ self.old.talk.limits }
         ensures late { self.new.late ≡ self.old.late }

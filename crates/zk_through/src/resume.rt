@@ -32,7 +32,7 @@ impl Through {
     ///
     /// Each side begins anew at the beginning of a frame. So what the other side has begun of one, as many bytes as `held`
     /// returned before, is to be given again. No request waits; the reply to one from before the refusal is
-    /// `Went::Unseen`. Frame 0 of each side and its first 32 and 24 bytes are those that nobody sent. Where nothing was
+    /// `StepOutcome::Unseen`. Frame 0 of each side and its first 32 and 24 bytes are those that nobody sent. Where nothing was
     /// refused nothing is changed, and the result is 0.
     ///
     /// # Errors

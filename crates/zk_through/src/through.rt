@@ -4,8 +4,8 @@ ghost use Rattle.zk_frames.specs.Framing.{frame};
 ghost use Rattle.zk_talk.specs.{declared.message.Fault.Fault, declared.message.Ending.TheVariants.Refused, Fault.side_limit, Conversation.load, Good.clients, Good.servers, History.History, Sound.IsKnown, Streams.IsAtFrame, Streams.passed};
 ghost use Rattle.zk_talk.specs.declared.message.Side.TheVariants.{Client, Server};
 ghost use Rattle.zk_talk.specs.{Held.Message, Stands.Stands, Stands.WhereItStands, Stands.kept_on, Ending.unwelcomed, Viewed.Leaves, Viewed.Shows, Viewed.other_side};
-ghost use Rattle.zk_through.specs.{Came.Came, declared.through.Passed.Passed, declared.through.Went.Went, Turns.HaveRoom, Turns.left_out};
-ghost use Rattle.zk_through.specs.Runs.{ThroughState, WentOn, IsRefused, IsTold, IsNotTold, IsKeptAt, IsNeverFull, IsEndOf, Runs, WaitsAfter, KeepsTalk, KeepsWaiting, KeepsNothing, KeepsNone, given_up, silenced, stream_on, left_on, LeavesSide};
+ghost use Rattle.zk_through.specs.{Came.Came, declared.through.Passed.Passed, declared.through.StepOutcome.StepOutcome, Turns.HaveRoom, Turns.left_out};
+ghost use Rattle.zk_through.specs.Runs.{ThroughState, HasOutcome, IsRefused, IsTold, IsNotTold, IsKeptAt, IsNeverFull, IsEndOf, Runs, WaitsAfter, KeepsTalk, KeepsWaiting, KeepsNothing, KeepsNone, dropped, silenced, stream_on, left_on, LeavesSide};
 
 use crate::fate::{ClientFate, ServerFate, client_fate, server_fate};
 use crate::turn::Turn;
@@ -17,7 +17,7 @@ use zk_talk::{Ending, Fault, Limits, MessageRef, Side, Stream, Talk, receive, re
 
 /// What became of the bytes that a step used.
 #[derive(Clone, Copy, Debug, PartialEq, Eq)]
-pub enum Went {
+pub enum StepOutcome {
     /// No frame is whole, and all bytes were used.
     Within,
     /// A frame is whole: a message of the conversation.
@@ -39,14 +39,14 @@ pub struct Passed {
     /// The number of bytes of the piece that were used.
     pub used: usize,
     /// What became of them.
-    pub went: Went,
+    pub outcome: StepOutcome,
 }
 
 impl Passed {
-    pub(crate) fn of(used: usize, went: Went) -> Passed
-        ensures { result ≡ record { used = used; went = went } }
+    pub(crate) fn of(used: usize, outcome: StepOutcome) -> Passed
+        ensures { result ≡ record { used = used; outcome = outcome } }
     {
-        Passed { used, went }
+        Passed { used, outcome }
     }
 }
 
@@ -80,7 +80,7 @@ impl Model for Through {
     ghost invariant = { λ t. (t.talk.limits ≡ t.limits) × IsSide t.limits.client t.fault t.client × IsSide t.limits.server t.fault t.server × IsKnown t.fault × HaveRoom t.limits.waiting t.turns };
 }
 
-/// Gives the talk the side's whole frame, whose last `new` bytes are new. A refusal is kept, at the side's own frame
+/// Gives the talk the side's whole frame, whose last `new` bytes are new. A refusal stays, at the side's own frame
 /// and offset.
 fn tell(
     talk: &mut Talk,
@@ -158,10 +158,10 @@ impl Through {
     #[inline(always)]
     fn client_step(&mut self, piece: &[u8]) -> Result<Passed, Fault>
         requires good { self.old.fault ≡ None }
-        requires given_up { self.old.client.kept ≡ [] }
+        requires dropped { self.old.client.kept ≡ [] }
         ensures limits { self.new.talk.limits ≡ self.old.talk.limits }
         ensures late { self.new.late ≡ self.old.late }
-        ensures ok { IfOk result (λ s. WentOn self.old Client piece.now s.used s.went self.new) }
+        ensures ok { IfOk result (λ s. HasOutcome self.old Client piece.now s.used s.outcome self.new) }
         ensures err { IfErr result (λ e. IsRefused self.old Client piece.now e self.new) }
         ensures waits { OnErr result (KeepsWaiting self.old self.new) }
         ensures other { LeavesSide Server self.old self.new }
@@ -173,23 +173,23 @@ impl Through {
         let side = Side::Client;
         let received = receive(&mut self.fault, side, &mut self.client, piece)?;
         let Some(new) = received else {
-            return Ok(Passed::of(piece.len(), Went::Within));
+            return Ok(Passed::of(piece.len(), StepOutcome::Within));
         };
         let (number, payload) = (self.client.count(), self.client.payload());
         match client_fate(self.limits, &self.talk, &self.turns, number, payload) {
             ClientFate::Full => {
                 self.client.take_back(new);
-                Ok(Passed::of(0, Went::Full))
+                Ok(Passed::of(0, StepOutcome::Full))
             }
             ClientFate::LeftOut(turn) => {
                 self.turns.leave(turn);
                 self.client.keep(new);
-                Ok(Passed::of(new, Went::Asked(turn)))
+                Ok(Passed::of(new, StepOutcome::Asked(turn)))
             }
             ClientFate::Told(turn) => {
                 tell(&mut self.talk, &mut self.fault, side, &mut self.client, new)?;
                 self.turns.ask(turn);
-                Ok(Passed::of(new, Went::Message))
+                Ok(Passed::of(new, StepOutcome::Message))
             }
         }
     }
@@ -198,10 +198,10 @@ impl Through {
     #[inline(always)]
     fn server_step(&mut self, piece: &[u8]) -> Result<Passed, Fault>
         requires good { self.old.fault ≡ None }
-        requires given_up { self.old.server.kept ≡ [] }
+        requires dropped { self.old.server.kept ≡ [] }
         ensures limits { self.new.talk.limits ≡ self.old.talk.limits }
         ensures late { self.new.late ≡ self.old.late }
-        ensures ok { IfOk result (λ s. WentOn self.old Server piece.now s.used s.went self.new) }
+        ensures ok { IfOk result (λ s. HasOutcome self.old Server piece.now s.used s.outcome self.new) }
         ensures err { IfErr result (λ e. IsRefused self.old Server piece.now e self.new) }
         ensures waits { OnErr result (KeepsWaiting self.old self.new) }
         ensures other { LeavesSide Client self.old self.new }
@@ -213,13 +213,13 @@ impl Through {
         let side = Side::Server;
         let received = receive(&mut self.fault, side, &mut self.server, piece)?;
         let Some(new) = received else {
-            return Ok(Passed::of(piece.len(), Went::Within));
+            return Ok(Passed::of(piece.len(), StepOutcome::Within));
         };
         let (number, payload) = (self.server.count(), self.server.payload());
         match server_fate(self.late, &mut self.matched, &self.turns, number, payload) {
             ServerFate::Unseen { xid, zxid, err } => {
                 self.server.keep(new);
-                Ok(Passed::of(new, Went::Unseen { xid, zxid, err }))
+                Ok(Passed::of(new, StepOutcome::Unseen { xid, zxid, err }))
             }
             ServerFate::Refused(reason) => {
                 let item = ItemFault::at(0, reason);
@@ -229,24 +229,24 @@ impl Through {
                 self.turns.answer(turn.xid);
                 self.server.keep(new);
                 self.answered = Some(turn.frame);
-                Ok(Passed::of(new, Went::Answered(turn)))
+                Ok(Passed::of(new, StepOutcome::Answered(turn)))
             }
             ServerFate::Told { xid, frame } => {
                 tell(&mut self.talk, &mut self.fault, side, &mut self.server, new)?;
                 self.turns.reply(xid);
                 self.answered = frame;
-                Ok(Passed::of(new, Went::Message))
+                Ok(Passed::of(new, StepOutcome::Message))
             }
         }
     }
 
     /// Drops the side's frame that was left out last.
-    pub(crate) fn give_up(&mut self, side: Side)
-        ensures { self.new ≡ given_up side self.old }
+    pub(crate) fn drop_kept(&mut self, side: Side)
+        ensures { self.new ≡ dropped side self.old }
     {
         match side {
-            Side::Client => self.client.give_up(),
-            Side::Server => self.server.give_up(),
+            Side::Client => self.client.drop_kept(),
+            Side::Server => self.server.drop_kept(),
         }
     }
 
@@ -256,7 +256,7 @@ impl Through {
     fn advance(&mut self, side: Side, piece: &[u8]) -> Result<Passed, Fault>
         ensures limits { self.new.talk.limits ≡ self.old.talk.limits }
         ensures late { self.new.late ≡ self.old.late }
-        ensures ok { IfOk result (λ s. WentOn self.old side piece.now s.used s.went self.new) }
+        ensures ok { IfOk result (λ s. HasOutcome self.old side piece.now s.used s.outcome self.new) }
         ensures err { IfErr result (λ e. IsRefused self.old side piece.now e self.new) }
         ensures room { IfErr result (λ e. IsNeverFull self.old e) }
         ensures waits { OnErr result (KeepsWaiting self.old self.new) }
@@ -265,9 +265,9 @@ impl Through {
         ensures frames { OnErr result ((stream_on side self.new).count ≡ (stream_on side self.old).count) }
         ensures sizes { OnErr result ((stream_on side self.new).size ≡ (stream_on side self.old).size) }
         ensures answered { OnErr result (self.new.answered ≡ self.old.answered) }
-        ensures kept { (f : Fault) → self.old.fault ≡ Some f → (result ≡ Err f) × (self.new ≡ given_up side self.old) }
+        ensures kept { (f : Fault) → self.old.fault ≡ Some f → (result ≡ Err f) × (self.new ≡ dropped side self.old) }
     {
-        self.give_up(side);
+        self.drop_kept(side);
         if let Some(fault) = self.fault {
             return Err(fault);
         }
@@ -282,14 +282,14 @@ impl Through {
     ///
     /// # Errors
     ///
-    /// Why the frame is refused, at the side's own frame and offset, those left out counted; never `QueueFull`. It is
-    /// kept, and each later call returns it and uses nothing.
+    /// Why the frame is refused, at the side's own frame and offset, those left out counted; never `QueueFull`. It
+    /// stays, and each later call returns it and uses nothing.
     #[inline(always)]
     pub fn step(&mut self, side: Side, piece: &[u8]) -> Result<Passed, Fault>
         ensures limits { self.new.talk.limits ≡ self.old.talk.limits }
         ensures late { self.new.late ≡ self.old.late }
         // What is used goes on with the history: by a message, by a frame that is left out or passed over, or by none.
-        ensures ok { IfOk result (λ s. WentOn self.old side piece.now s.used s.went self.new) }
+        ensures ok { IfOk result (λ s. HasOutcome self.old side piece.now s.used s.outcome self.new) }
         // A refusal is that of the frame: the talk's own, or of its length, its turn or the stream.
         ensures err { IfErr result (λ e. IsRefused self.old side piece.now e self.new) }
         // It is never that too much waits.
@@ -300,13 +300,13 @@ impl Through {
         ensures other { LeavesSide (other_side side) self.old self.new }
         // A refused side keeps and shows nothing, and its refused frame isn't counted.
         ensures none { OnErr result (KeepsNone side self.old self.new) }
-        // A fault is kept.
-        ensures kept { (f : Fault) → self.old.fault ≡ Some f → (result ≡ Err f) × (self.new ≡ silenced side (given_up side self.old)) }
+        // A fault stays.
+        ensures kept { (f : Fault) → self.old.fault ≡ Some f → (result ≡ Err f) × (self.new ≡ silenced side (dropped side self.old)) }
     {
         match self.advance(side, piece) {
             Ok(passed) => Ok(passed),
             Err(fault) => {
-                self.talk.give_up(side);
+                self.talk.drop_kept(side);
                 Err(fault)
             }
         }

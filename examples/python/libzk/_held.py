@@ -130,7 +130,7 @@ class Talk(Conversation):
     _kind = "talk"
 
     def __init__(self, client: int = 4194304, server: int = 4194304, waiting: int = 65536,
-                 profile: Profile = Profile.V34, lines: bool = False):
+                 profile: Profile = Profile.NEWEST, lines: bool = False):
         super().__init__(library.zk_talk_new, library.zk_talk_renew, library.zk_talk_free,
                          (client, server, waiting, Profile(profile)))
         self._lines, self._room = lines, Room()
@@ -205,7 +205,7 @@ class Speaker(Held):
     said, so that replies free the places of their requests."""
 
     def __init__(self, client: int = 4194304, server: int = 4194304, waiting: int = 65536,
-                 profile: Profile = Profile.V34):
+                 profile: Profile = Profile.NEWEST):
         super().__init__(library.zk_speaker_new, library.zk_speaker_renew, library.zk_speaker_free,
                          (client, server, waiting, Profile(profile)))
 

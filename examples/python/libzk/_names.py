@@ -43,6 +43,7 @@ FIELDS: Dict[int, str] = {
     18: "aversion", 19: "ephemeral_owner", 20: "data_length", 21: "num_children", 22: "pzxid", 23: "children",
     24: "zxid", 25: "data_watches", 26: "exist_watches", 27: "child_watches", 28: "protocol_version",
     29: "last_zxid_seen", 30: "time_out", 31: "session_id", 32: "passwd", 33: "read_only", 34: "err",
+    35: "ttl", 36: "mode", 37: "count", 38: "joining", 39: "leaving", 40: "members", 41: "config", 42: "code",
 }
 
 STATUSES: Dict[int, str] = {
@@ -58,6 +59,8 @@ class Profile(enum.IntEnum):
     """The operations of a release."""
     V34 = 34
     V35 = 35
+    V37 = 37
+    NEWEST = 37
 
 
 class Operation(enum.IntEnum):

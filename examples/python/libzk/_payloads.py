@@ -164,7 +164,7 @@ def write_connected(items: Sequence[Item]) -> bytes:
 
 
 def listing(pieces: Sequence[Tuple[Side, bytes]], client: int = 4194304, server: int = 4194304, waiting: int = 65536,
-            profile: Profile = Profile.V34) -> List[str]:
+            profile: Profile = Profile.NEWEST) -> List[str]:
     """The line of each message of a conversation, and of its ending; the pieces are in the order in which they came,
     and the limits are those of a talk."""
     if not all(0 <= limit < 1 << 32 for limit in (client, server, waiting)):

@@ -61,7 +61,7 @@ class Through(Conversation):
     _kind = "through"
 
     def __init__(self, client: int = 4194304, server: int = 4194304, waiting: int = 65536,
-                 profile: Profile = Profile.V34, lines: bool = False, late: bool = False, resumes: bool = False):
+                 profile: Profile = Profile.NEWEST, lines: bool = False, late: bool = False, resumes: bool = False):
         super().__init__(library.zk_through_join if late else library.zk_through_new, library.zk_through_renew,
                          library.zk_through_free, (client, server, waiting, Profile(profile)))
         self._lines, self._resumes = lines, resumes

@@ -24,6 +24,8 @@ WELCOME = bytes.fromhex("00000000 00007530 0100000000000001 00000010 00010203040
 EXISTS = bytes.fromhex("00000001 00000003 00000002 2f61 01")
 NO_NODE = bytes.fromhex("00000001 0000000000000005 ffffff9b")
 EVENT = bytes.fromhex("ffffffff ffffffffffffffff 00000000 00000003 00000003 00000002 2f61")
+ADD_WATCH = bytes.fromhex("00000003 0000006a 00000002 2f61 00000001")
+WATCHED = bytes.fromhex("00000003 0000000000000007 00000000 00000000")
 CREATE = bytes.fromhex("00000001 00000001 00000002 2f61 ffffffff 00000001 0000001f 00000005 776f726c64 00000006"
                        "616e796f6e65 00000003")
 RESULTS = bytes.fromhex("00000001 0000000000000006 00000000 00000001 00 00000000 00000002 2f61 00000002 00 00000000"
@@ -330,6 +332,22 @@ class Talks(unittest.TestCase):
             self.assertEqual(libzk.listing([(Side.CLIENT, buffer)]), [f"{LINES[0][:-1]}-", ". whole unanswered=1"])
         with self.assertRaises(Refused):
             libzk.listing(pieces, client=63)
+
+    def test_the_usual_profile_is_the_newest(self):
+        lines = [*LINES[:2], 'C 3 addWatch path="/a" mode=1', "S 3 addWatch zxid=7 code=0"]
+        given = [(Side.CLIENT, HELLO), (Side.SERVER, WELCOME), (Side.CLIENT, ADD_WATCH), (Side.SERVER, WATCHED)]
+        pieces = [(side, frame(payload)) for side, payload in given]
+        self.assertEqual(libzk.listing(pieces), [*lines, ". whole unanswered=0"])
+        self.assertEqual(libzk.listing(pieces, profile=Profile.V35),
+                         [*lines[:2], ". refused side=C frame=1 offset=71 place=4 reason=UnknownOp"])
+        with Talk(lines=True) as talk, Through(lines=True) as through, Speaker() as speaker:
+            for line, (side, piece) in zip(lines, pieces):
+                (message,), (passed,) = talk.feed(side, piece), through.feed(side, piece)
+                self.assertEqual((message.line, passed.message.line, speaker.say(line)), (line, line, piece))
+        with Talk(profile=Profile.V34) as talk, self.assertRaises(Refused) as caught:
+            for side, piece in pieces:
+                talk.feed(side, piece)
+        self.assertEqual(caught.exception.name, "UNKNOWN_OP")
 
     def test_limits(self):
         for limits in ({"client": 63}, {"waiting": 0}, {"client": (1 << 32) + 64}, {"server": -1}):

@@ -2,13 +2,17 @@
  *
  *     zkcolumns [--json HEAD] [--lines] [--times FILE] [--limit N] [--waiting N] [--profile RELEASE]
  *         [--operations NAMES] [--errors NAMES] [--path PATH ..] RECORDING
+ *     zkcolumns [--limit N] [--waiting N] [--profile RELEASE] --follow
  *
  * Standard output gets blocks, each a `struct head`, then its records, patches, paths and text. The first block has
  * names of numbers as text, and the last one the requests that wait and the ending line. A message's text is its JSON
  * after HEAD (--json), or its time as it is spelled and its line (--lines), or where a double isn't exact its time and
  * that of its request. zkdump_tools/columns.py reads the blocks, and zkdump_tools/listing.py, over the lines of `zkdump show`, is the
  * plain form of all that is said here. The status is 4 if nothing was written since the recording's head or its times
- * are for the plain form to report. */
+ * are for the plain form to report.
+ *
+ * With --follow standard input has the recording, as it comes, and standard output gets the lines of `zkdump show`
+ * (follow.c, and zkdump_tools/lister.py). */
 #include "state.h"
 
 _Noreturn void stop(int status, const char *what) {
@@ -18,7 +22,7 @@ _Noreturn void stop(int status, const char *what) {
 
 /* ---- Blocks */
 
-static void write_bytes(struct bytes *bytes) {
+void write_bytes(struct bytes *bytes) {
     if (bytes->end > 0 && fwrite(bytes->at, 1, bytes->end, stdout) != bytes->end) stop(STATUS_SYSTEM, "write failed");
     bytes->end = 0;
 }
@@ -123,8 +127,7 @@ static void put_refusal(struct bytes *out, const struct zk_fault *fault) {
     put_field(out, " got=", fault->got);
 }
 
-/* The ending line. */
-static void put_ending(struct state *state, bool refused) {
+void put_ending(struct state *state, bool refused) {
     struct bytes *out = &state->text;
     struct zk_ending ending = zk_through_finish(&state->through);
     if (state->is_full) {
@@ -188,6 +191,8 @@ static void let_go(struct state *state) {
 
 /* ---- The words */
 
+#define USAGE "usage: zkcolumns [OPTION ..] RECORDING, or --follow in place of RECORDING"
+
 /* The number of a profile: its release without the point. */
 static uint32_t profile_of(const char *release) {
     return strlen(release) == 3 ? (uint32_t)(10 * (release[0] - '0') + release[2] - '0') : 0;
@@ -206,10 +211,26 @@ static const char *words_of(struct state *state, int count, char **words, const 
         else if (strcmp(word, "--operations") == 0) more_operations = words[++at];
         else if (strcmp(word, "--errors") == 0) more_errors = words[++at];
         else if (strcmp(word, "--path") == 0) state->chosen[state->chosen_count++] = words[++at];
-        else stop(STATUS_WORDS, "usage: zkcolumns [OPTION ..] RECORDING");
+        else stop(STATUS_WORDS, USAGE);
     }
-    if (at != count - 1) stop(STATUS_WORDS, "usage: zkcolumns [OPTION ..] RECORDING");
+    if (at != count - 1) stop(STATUS_WORDS, USAGE);
     return words[at];
+}
+
+/* Writes the blocks of the recording. */
+static void list(struct state *state) {
+    struct recording *recording = &state->recording;
+    write_names(state);
+    bool good = true;
+    while (good && next_piece(recording)) {
+        size_t length = LARGEST_PIECE;
+        const uint8_t *bytes;
+        while (good && (bytes = piece_bytes(recording, &length)) != NULL) {
+            good = take_bytes(state, recording->side, bytes, length);
+            length = LARGEST_PIECE;
+        }
+    }
+    write_end(state, !good);
 }
 
 int main(int count, char **words) {
@@ -221,20 +242,12 @@ int main(int count, char **words) {
     state.fields = malloc(state.fields_room * sizeof *state.fields);
     if (state.chosen == NULL || state.fields == NULL) stop(STATUS_SYSTEM, "out of memory");
     const char *times = NULL, *path = words_of(&state, count, words, &times);
-    open_recording(recording, path, times);
+    bool follows = strcmp(path, "--follow") == 0;
+    if (!follows) open_recording(recording, path, times);
     uint32_t status = zk_through_new(&state.through, state.limit, state.limit, state.waiting, state.profile);
     if (status != ZK_WELL) stop(status == ZK_RANGE ? STATUS_WORDS : STATUS_SYSTEM, zk_status_name(status));
-    write_names(&state);
-    bool good = true;
-    while (good && next_piece(recording)) {
-        size_t length = LARGEST_PIECE;
-        const uint8_t *bytes;
-        while (good && (bytes = piece_bytes(recording, &length)) != NULL) {
-            good = take_bytes(&state, recording->side, bytes, length);
-            length = LARGEST_PIECE;
-        }
-    }
-    write_end(&state, !good);
+    if (follows) follow(&state);
+    else list(&state);
     let_go(&state);
     return 0;
 }

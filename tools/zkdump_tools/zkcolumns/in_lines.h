@@ -7,8 +7,7 @@
 /* Of an operation, or of a part of a multi. */
 static inline const char *line_operation_name(int32_t number) {
     switch (number) {
-    case 16: case 17: case 18: case 19: case 20: case 21: case 22: case 102: case 103: case 104: case 105: case 106:
-    case 107:
+    case 20: case 22: case 102: case 105: case 107:
         return "";
     }
     return zk_operation_name(number);

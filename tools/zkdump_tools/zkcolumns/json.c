@@ -238,6 +238,14 @@ static const char *key_of(uint16_t name) {
     case ZK_NAME_SESSION_ID: return ", \"session\": ";
     case ZK_NAME_PASSWD: return ", \"passwd\": ";
     case ZK_NAME_READ_ONLY: return ", \"ro\": ";
+    case ZK_NAME_TTL: return ", \"ttl\": ";
+    case ZK_NAME_MODE: return ", \"mode\": ";
+    case ZK_NAME_COUNT: return ", \"count\": ";
+    case ZK_NAME_JOINING: return ", \"joining\": ";
+    case ZK_NAME_LEAVING: return ", \"leaving\": ";
+    case ZK_NAME_MEMBERS: return ", \"members\": ";
+    case ZK_NAME_CONFIG: return ", \"config\": ";
+    case ZK_NAME_CODE: return ", \"code\": ";
     /* Up to here. */
     default: stop(STATUS_SYSTEM, "a field without a name");
     }

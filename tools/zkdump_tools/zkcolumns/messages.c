@@ -17,7 +17,7 @@ static size_t read_fields(struct state *state, uint32_t side, bool all) {
     return read.status == ZK_ROOM ? state->fields_room : read.count;
 }
 
-static void put_line(struct state *state, uint32_t side, struct bytes *to) {
+void put_line(struct state *state, uint32_t side, struct bytes *to) {
     struct zk_line line = zk_through_line(&state->through, side, room_for(to, 256), to->room - to->end);
     if (line.status == ZK_ROOM) line = zk_through_line(&state->through, side, room_for(to, line.length), line.length);
     if (line.status != ZK_WELL) stop(STATUS_SYSTEM, "out of memory");

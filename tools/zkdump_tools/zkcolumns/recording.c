@@ -42,13 +42,20 @@ static uint32_t number_at(const uint8_t *at) {
     return (uint32_t)at[0] << 24 | (uint32_t)at[1] << 16 | (uint32_t)at[2] << 8 | at[3];
 }
 
-/* Passes over a number of the head, which has to be in its range. */
-static void head_number(struct recording *recording, uint32_t least, uint32_t most) {
+/* The lines from here on are written by dev/names.py. */
+static bool is_profile(uint32_t number) {
+    return number == 34 || number == 35 || number == 37;
+}
+/* Up to here. */
+
+/* Passes over a number of the head, and returns it; it has to be in this range. */
+static uint32_t head_number(struct recording *recording, uint32_t least, uint32_t most) {
     if (fill(&recording->bytes, 4) < 4) stop(STATUS_NOT_READ, "the head is damaged");
     uint32_t number = number_at(recording->bytes.at);
     if (number < least || number > most) stop(STATUS_NOT_READ, "the head is damaged");
     use(&recording->bytes, 4);
     recording->offset += 4;
+    return number;
 }
 
 static void read_head(struct recording *recording) {
@@ -62,7 +69,7 @@ static void read_head(struct recording *recording) {
     head_number(recording, 64, LARGEST_FRAME);
     head_number(recording, 64, LARGEST_FRAME);
     head_number(recording, 1, MOST_WAITING);
-    head_number(recording, ZK_PROFILE_34, ZK_PROFILE_35);
+    if (!is_profile(head_number(recording, 0, UINT32_MAX))) stop(STATUS_NOT_READ, "the head is damaged");
 }
 
 static bool damaged(struct recording *recording, size_t at, const char *reason) {

@@ -54,6 +54,9 @@ struct state {
     uint64_t n, whole[2], taken[2]; /* of each side the whole frames, and the bytes that were taken */
 };
 
+/* Writes what was put to standard output. */
+void write_bytes(struct bytes *bytes);
+
 /* Writes what was gathered as a block of this kind. */
 void write_block(struct state *state, uint32_t kind);
 
@@ -62,6 +65,18 @@ void take_message(struct state *state, uint32_t side, const uint8_t *payload);
 
 /* Takes a whole frame that is left out: a request whose operation the profile lacks, or the reply to it. */
 void take_left_out(struct state *state, uint32_t side, const struct zk_passed *passed, const uint8_t *payload);
+
+/* Puts the line of a side's message. */
+void put_line(struct state *state, uint32_t side, struct bytes *to);
+
+/* Puts the ending line. */
+void put_ending(struct state *state, bool refused);
+
+/* Reads pieces as they come on standard input, up to its end, or to a refusal of a frame that has no end. The lines of
+ * the messages whose last byte has come are written before the next read, and so is the ending line at a refusal. From
+ * there on all is dropped, up to a piece of no bytes of the side R: then the passage goes on, as of a connection that is
+ * seen late (zk_through_resume). */
+void follow(struct state *state);
 
 /* The path of a request that has one, in the block's paths. */
 void put_path(struct state *state, struct record *record, const struct asked *asked, const uint8_t *paths);

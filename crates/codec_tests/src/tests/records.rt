@@ -3,11 +3,11 @@ use super::shared::{same, same_of};
 use std::process::Abort;
 use std::test::Fail;
 use zk_records::{
-    Profile, code_name, event_name, number_laws, op_name, op_number, op_of, part_name, part_number,
-    part_of,
+    NEWEST, Profile, code_name, event_name, number_laws, op_name, op_number, op_of, part_name,
+    part_number, part_of,
 };
 
-/// Numbers and the names of their operations, or none; create2 is of the newer profile alone.
+/// Numbers and the names of their operations, or none.
 const OPERATIONS: &str = "\
 1 create
 2 delete
@@ -22,11 +22,24 @@ const OPERATIONS: &str = "\
 12 getChildren2
 14 multi
 15 create2
+16 reconfig
+17 checkWatches
+18 removeWatches
+19 createContainer
+21 createTTL
 100 auth
 101 setWatches
+103 getEphemerals
+104 getAllChildrenNumber
+106 addWatch
 -11 closeSession
 13 -
 10 -
+20 -
+22 -
+102 -
+105 -
+107 -
 9998 -
 0 -
 -1 -
@@ -53,12 +66,19 @@ fn op_told(profile: Profile, number: i32) -> Option<(i32, &'static str)> {
 fn operations(rt: HostRuntime) -> Result<(), Fail> {
     for row in OPERATIONS.lines() {
         let (number, want) = parsed(row)?;
-        let older = match number {
-            15 => None,
-            _ => want,
+        let since = match number {
+            15 => 35,
+            16..=21 | 103..=106 => 37,
+            _ => 34,
         };
-        same_of(&rt, &op_told(Profile::V35, number), &want, row);
-        same_of(&rt, &op_told(Profile::V34, number), &older, row);
+        for profile in [Profile::V34, Profile::V35, Profile::V37] {
+            let of_profile = if since <= profile.number() {
+                want
+            } else {
+                None
+            };
+            same_of(&rt, &op_told(profile, number), &of_profile, row);
+        }
     }
     Ok(())
 }
@@ -147,11 +167,11 @@ fn names(rt: HostRuntime) -> Result<(), Fail> {
 
 #[test]
 fn profiles(rt: HostRuntime) {
-    for (number, profile) in [(34, Profile::V34), (35, Profile::V35)] {
+    for (number, profile) in [(34, Profile::V34), (35, Profile::V35), (37, NEWEST)] {
         let told = (Profile::of_number(number), profile.number());
         same(&rt, &told, &(Some(profile), number));
     }
-    for number in [0, 3, 33, 36, 340, u32::MAX] {
+    for number in [0, 3, 33, 36, 38, 340, u32::MAX] {
         same(&rt, &Profile::of_number(number), &None);
     }
 }

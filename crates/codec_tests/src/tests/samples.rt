@@ -72,7 +72,15 @@ List fffffffe = BadLength at 0
 List 000000020000000161 = Short at 9
 List 7fffffff = Short at 4
 Stat 0000000000000004000000000000000400000000000003e800000000000003e8000000000000000000000000000000000000000000000003000000000000000000000004 = Stat { czxid: 4, mzxid: 4, ctime: 1000, mtime: 1000, version: 0, cversion: 0, aversion: 0, ephemeral_owner: 0, data_length: 3, num_children: 0, pzxid: 4 }
-CreateBody 000000022f610000000000000004000000000000000400000000000003e800000000000003e8000000000000000000000000000000000000000000000003000000000000000000000004 = CreateBodyOf { path: Full(Chars { text: "/a" }), stat: Stat { czxid: 4, mzxid: 4, ctime: 1000, mtime: 1000, version: 0, cversion: 0, aversion: 0, ephemeral_owner: 0, data_length: 3, num_children: 0, pzxid: 4 } }"#;
+CreateBody 000000022f610000000000000004000000000000000400000000000003e800000000000003e8000000000000000000000000000000000000000000000003000000000000000000000004 = CreateBodyOf { path: Full(Chars { text: "/a" }), stat: Stat { czxid: 4, mzxid: 4, ctime: 1000, mtime: 1000, version: 0, cversion: 0, aversion: 0, ephemeral_owner: 0, data_length: 3, num_children: 0, pzxid: 4 } }
+CreateTtlAsk 000000022f6100000000000000010000001f00000005776f726c6400000006616e796f6e65000000057fffffffffffffff = CreateTtlAskOf { path: Full(Chars { text: "/a" }), blob: Full(Bytes { bytes: [] }), acl: Full(Items { items: [AclOf { perms: 31, who: IdOf { scheme: Full(Chars { text: "world" }), ident: Full(Chars { text: "anyone" }) } }] }), flags: 5, ttl: 9223372036854775807 }
+CreateTtlAsk 000000022f6100000000000000010000001f00000005776f726c6400000006616e796f6e65000000057fffffffffffff = Short at 41
+WatchesAsk 000000022f6100000003 = WatchesAskOf { path: Full(Chars { text: "/a" }), kind: 3 }
+WatchesAsk 000000022f61000000 = Short at 6
+AddWatchAsk 000000022f6100000001 = AddWatchAskOf { path: Full(Chars { text: "/a" }), mode: 1 }
+AddWatchAsk 000000022f61000000 = Short at 6
+ReconfigAsk 000000107365727665722e323d683a313a323b33ffffffff00000000ffffffffffffffff = ReconfigAskOf { joining: Full(Chars { text: "server.2=h:1:2;3" }), leaving: Null, members: Full(Chars { text: "" }), config: -1 }
+ReconfigAsk 000000107365727665722e323d683a313a323b33ffffffff00000000ffffffffffffff = Short at 28"#;
 
 /// Values with a boolean after them, which may be left out.
 pub(crate) const FLAGGED: &str = r#"Text ffffffff = (Null, None)

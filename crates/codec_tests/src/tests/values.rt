@@ -6,9 +6,10 @@ use std::fmt::Debug;
 use std::test::Fail;
 use zk_jute::{Blob, ItemFault, List, Spell, Text, Wire, laws, read_flagged, reason_name};
 use zk_records::{
-    Acl, AclBody, AuthAsk, CheckAsk, ChildrenBody, ConnectRequest, ConnectResponse, CreateAsk,
-    CreateBody, DataBody, DeleteAsk, Id, MultiHeader, PathAsk, ReplyHeader, RequestHeader,
-    SetAclAsk, SetDataAsk, SetWatchesAsk, Stat, WatchAsk, WatcherEvent,
+    Acl, AclBody, AddWatchAsk, AuthAsk, CheckAsk, ChildrenBody, ConnectRequest, ConnectResponse,
+    CreateAsk, CreateBody, CreateTtlAsk, DataBody, DeleteAsk, Id, MultiHeader, PathAsk,
+    ReconfigAsk, ReplyHeader, RequestHeader, SetAclAsk, SetDataAsk, SetWatchesAsk, Stat, WatchAsk,
+    WatcherEvent, WatchesAsk,
 };
 
 /// The fault in words.
@@ -65,11 +66,12 @@ macro_rules! told_of {
 
 fn change_told(alloc: Global, name: &str, bytes: &[u8]) -> Result<String, Fail> {
     told_of!(name, alloc, bytes, Err("no such type".into()),
-        CreateAsk DeleteAsk SetDataAsk SetAclAsk CheckAsk)
+        CreateAsk CreateTtlAsk DeleteAsk SetDataAsk SetAclAsk CheckAsk ReconfigAsk)
 }
 
 fn ask_told(alloc: Global, name: &str, bytes: &[u8]) -> Result<String, Fail> {
-    told_of!(name, alloc, bytes, change_told(alloc, name, bytes), WatchAsk PathAsk AuthAsk SetWatchesAsk)
+    told_of!(name, alloc, bytes, change_told(alloc, name, bytes),
+        WatchAsk PathAsk AuthAsk SetWatchesAsk WatchesAsk AddWatchAsk)
 }
 
 fn body_told(alloc: Global, name: &str, bytes: &[u8]) -> Result<String, Fail> {

@@ -8,12 +8,12 @@ use std::alloc::Global;
 use std::process::Abort;
 use std::test::Fail;
 use zk_lines::read_line;
-use zk_records::Profile;
+use zk_records::NEWEST;
 use zk_runs::{Built, build_run};
 use zk_talk::{Limits, Message, Speaker};
 
 /// A conversation of each kind of message, with the least and the greatest of what lines spell.
-const LINES: [&str; 44] = [
+const LINES: [&str; 60] = [
     "C connect version=0 zxid=-1 timeout=30000 session=0 passwd=#00000000000000000000000000000000 ro=0",
     "S connect version=0 timeout=30000 session=72057594037927937 passwd=#000102030405060708090a0b0c0d0e0f ro=-",
     "C 1 create path=\"/a\" blob=#00ff acl=[31:\"world\":\"anyone\",1:\"ip\":~] flags=3",
@@ -55,6 +55,22 @@ const LINES: [&str; 44] = [
     "S 15 multi zxid=1 err=-2/RUNTIMEINCONSISTENCY",
     "C 16 create2 path=\"/c\" blob=# acl=[] flags=0",
     "S 16 create2 zxid=6 path=\"/c\" stat=(4,4,1000,1000,0,0,0,0,3,0,4)",
+    "C 17 createContainer path=\"/d\" blob=~ acl=[31:\"world\":\"anyone\"] flags=4",
+    "S 17 createContainer zxid=7 path=\"/d\" stat=(4,4,1000,1000,0,0,0,0,3,0,4)",
+    "C 18 createTTL path=\"/t\" blob=# acl=~ flags=6 ttl=-9223372036854775808",
+    "S 18 createTTL zxid=8 path=\"/t0000000001\" stat=(4,4,1000,1000,0,0,0,0,3,0,4)",
+    "C 19 addWatch path=\"/a\" mode=1",
+    "S 19 addWatch zxid=8 code=-2147483648",
+    "C 20 checkWatches path=\"/a\" kind=3",
+    "S 20 checkWatches zxid=8",
+    "C 21 removeWatches path=~ kind=-1",
+    "S 21 removeWatches zxid=8 err=-121",
+    "C 22 getEphemerals path=\"/\"",
+    "S 22 getEphemerals zxid=8 names=[\"/e\",~]",
+    "C 23 getAllChildrenNumber path=\"/\"",
+    "S 23 getAllChildrenNumber zxid=8 count=2147483647",
+    "C 24 reconfig joining=~ leaving=\"3\" members=\"\" config=-1",
+    "S 24 reconfig zxid=9 blob=#00ff stat=(4,4,1000,1000,0,0,0,0,3,0,4)",
     "S event zxid=1 kind=9 state=-1 path=~",
     "C 2147483647 closeSession",
     "S 2147483647 closeSession zxid=624",
@@ -86,7 +102,7 @@ impl Random {
 
 fn limits() -> Result<Limits, Fail> {
     let limits = Limits::new(4_096, 4_096, 16).ok_or("limits")?;
-    Ok(limits.with_profile(Profile::V35))
+    Ok(limits.with_profile(NEWEST))
 }
 
 /// The first lines of the conversation, as many as that.

@@ -28,7 +28,9 @@ check --waiting 1048576 = Check 4194304 4194304 1048576 V34
 check --profile 3.4 = Check 4194304 4194304 65536 V34
 show --profile 3.5 = Show 4194304 4194304 65536 V35
 build --limit 64 --profile=3.5 = Build 64 64 65536 V35
-migrate --profile 3.5 = Migrate 4194304 4194304 65536 V35";
+migrate --profile 3.5 = Migrate 4194304 4194304 65536 V35
+check --profile 3.7 = Check 4194304 4194304 65536 V37
+build --profile=3.7 = Build 4194304 4194304 65536 V37";
 
 /// The settings in words.
 fn told(alloc: Global, chosen: &Settings) -> Result<String, Fail> {
@@ -64,8 +66,11 @@ check --limit 64 --limit 64
 check --waiting 0
 check --waiting 1048577
 check --profile 3.6
+check --profile 3.8
+check --profile 3.9
 check --profile 3.50
 check --profile 35
+check --profile 37
 show --profile
 --profile 3.5 show
 show --earliest

@@ -10,7 +10,7 @@ use zk_items::Reader;
 use zk_lines::{line_of, read_line};
 use zk_records::{Op, Profile};
 use zk_talk::{Ending, Side, Talk};
-use zk_through::{Through, Went};
+use zk_through::{StepOutcome, Through};
 
 /// `zk_earliest`: how many bytes at the front of a body are possible.
 fn possible(layout: Layout, body: &[u8]) -> Option<usize> {
@@ -53,7 +53,7 @@ fn items_are_read(rt: HostRuntime) -> Result<(), Fail> {
     let mut line = Reader::new(b"7 \"/a\"");
     assert!(rt; line.int()? == 7);
     line.literal(b" ")?;
-    line.copy_text(&mut text)?;
+    line.encode_text(&mut text)?;
     assert!(rt; text.as_slice() == b"\0\0\0\x02/a".as_slice()); // as it is in a payload
     Ok(())
 }
@@ -90,6 +90,7 @@ fn later_request_is_left_out(rt: HostRuntime) -> Result<(), Fail> {
     let mut through = Through::new(rt.alloc(), limits)?;
     assert!(rt; through.step(Side::Client, CONNECT).is_ok());
     let passed = through.step(Side::Client, ADD_WATCH)?; // an operation that no profile has
-    assert!(rt; matches!(passed.went, Went::Asked(_)) && through.left_out(Side::Client).is_some());
+    let is_asked = matches!(passed.outcome, StepOutcome::Asked(_));
+    assert!(rt; is_asked && through.left_out(Side::Client).is_some());
     Ok(())
 }

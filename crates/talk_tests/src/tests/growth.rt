@@ -100,10 +100,10 @@ fn copied_line(alloc: Global, message: &MessageRef<'_>) -> Result<Vec<u8>, Alloc
 
 /// The line of the message that `shown` is read as; nothing if it is no line.
 fn line_again(alloc: Global, shown: &[u8]) -> Result<Vec<u8>, AllocError> {
-    match &message(alloc, shown) {
-        Ok(message) => line(alloc, message),
-        Err(_) => Ok(Vec::new(alloc)),
-    }
+    let Ok(message) = message(alloc, shown) else {
+        return Ok(Vec::new(alloc));
+    };
+    line(alloc, &message)
 }
 
 /// A conversation that is read by `take` and by `step`, and said again by its messages and by its payloads.
@@ -228,14 +228,15 @@ fn heard(
 
 /// How much of a piece is read up to the end of a frame; all of it if it is refused, which a step is for the same fault.
 fn hear_next(rt: &impl Abort, reading: &mut Reading, piece: Piece<'_>) -> Result<usize, Fail> {
-    match &taken(&mut reading.taking, piece) {
-        Ok(taken) => heard(rt, reading, piece, taken),
+    let taken = match taken(&mut reading.taking, piece) {
+        Ok(taken) => taken,
         Err(fault) => {
             let (side, bytes) = piece;
-            same(rt, &reading.stepping.step(side, bytes).err(), &Some(*fault));
-            Ok(bytes.len())
+            same(rt, &reading.stepping.step(side, bytes).err(), &Some(fault));
+            return Ok(bytes.len());
         }
-    }
+    };
+    heard(rt, reading, piece, &taken)
 }
 
 fn hear(rt: &impl Abort, reading: &mut Reading, (side, piece): Piece<'_>) -> Result<(), Fail> {

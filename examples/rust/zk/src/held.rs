@@ -23,7 +23,7 @@ impl Default for Limits {
             client: 4_194_304,
             server: 4_194_304,
             waiting: 65_536,
-            profile: Profile::V34,
+            profile: Profile::NEWEST,
         }
     }
 }

@@ -5,6 +5,12 @@
 pub enum Profile {
     V34 = 34,
     V35 = 35,
+    V37 = 37,
+}
+
+impl Profile {
+    /// The one that has the most operations.
+    pub const NEWEST: Profile = Profile::V37;
 }
 
 /// Of an operation, or of a part of a multi; "" where the number has none.
@@ -165,6 +171,14 @@ pub fn field_name(number: u16) -> &'static str {
         32 => "passwd",
         33 => "read_only",
         34 => "err",
+        35 => "ttl",
+        36 => "mode",
+        37 => "count",
+        38 => "joining",
+        39 => "leaving",
+        40 => "members",
+        41 => "config",
+        42 => "code",
         _ => "",
     }
 }

@@ -24,6 +24,7 @@ const EVENT: [u8; 30] = [
     255, 255, 255, 255, 255, 255, 255, 255, 255, 255, 255, 255, 0, 0, 0, 0, 0, 0, 0, 3, 0, 0, 0, 3,
     0, 0, 0, 2, b'/', b'a',
 ];
+const ADD_WATCH: [u8; 18] = [0, 0, 0, 3, 0, 0, 0, 106, 0, 0, 0, 2, b'/', b'a', 0, 0, 0, 1];
 /// A delete of /a in a multi.
 const MULTI: [u8; 36] = [
     0, 0, 0, 3, 0, 0, 0, 14, 0, 0, 0, 2, 0, 255, 255, 255, 255, 0, 0, 0, 2, b'/', b'a', 255, 255,
@@ -290,4 +291,27 @@ fn listings() {
     );
     zk::listing(Limits::default(), &[], &mut text).expect("a listing");
     assert_eq!(text, b". whole unanswered=0\n");
+}
+
+#[test]
+fn the_usual_profile_is_the_newest() {
+    let (hello, welcome, asked) = (frame(&HELLO), frame(&WELCOME), frame(&ADD_WATCH));
+    let pieces = [
+        (Side::Client, &hello[..]),
+        (Side::Server, &welcome[..]),
+        (Side::Client, &asked[..]),
+    ];
+    let older = Limits {
+        profile: Profile::V35,
+        ..Limits::default()
+    };
+    let refused = ". refused side=C frame=1 offset=71 place=4 reason=UnknownOp";
+    for (limits, wanted) in [
+        (Limits::default(), "C 3 addWatch path=\"/a\" mode=1"),
+        (older, refused),
+    ] {
+        let mut text = Vec::new();
+        zk::listing(limits, &pieces, &mut text).expect("a listing");
+        assert_eq!(String::from_utf8_lossy(&text).lines().nth(2), Some(wanted));
+    }
 }

@@ -12,7 +12,9 @@ returns-in-Delete-clause-found g c =
       | inr (inl e) ↦ ap (λ (o : Op). body_shape o parts) (sym c.op.ensures ∙ e)
       | inr (inr (inl e)) ↦ ap (λ (o : Op). body_shape o parts) (sym c.op.ensures ∙ e)
       | inr (inr (inr (inl e))) ↦ ap (λ (o : Op). body_shape o parts) (sym c.op.ensures ∙ e)
-      | inr (inr (inr (inr e))) ↦ ap (λ (o : Op). body_shape o parts) (sym c.op.ensures ∙ e)
+      | inr (inr (inr (inr (inl e)))) ↦ ap (λ (o : Op). body_shape o parts) (sym c.op.ensures ∙ e)
+      | inr (inr (inr (inr (inr (inl e))))) ↦ ap (λ (o : Op). body_shape o parts) (sym c.op.ensures ∙ e)
+      | inr (inr (inr (inr (inr (inr e))))) ↦ ap (λ (o : Op). body_shape o parts) (sym c.op.ensures ∙ e)
     ])
 
 pub returns-in-Multi-clause-found : goal.returns-in-Multi-clause-found

@@ -36,5 +36,23 @@ known_at-body-requires-in-Create2 g c κs = ((refl, tt), (c.requires.within, con
 pub returns-in-Create2 : goal.returns-in-Create2
 returns-in-Create2 g c = λ b q of. content_is ops.Create2 c.args.payload.now c.args.place c.known_at-body-in-Create2.result c.known_at-body-in-Create2.ensures b q (of ∙ c.in-Create2.is)
 
+pub known_at-body-requires-in-Reconfig : goal.known_at-body-requires-in-Reconfig
+known_at-body-requires-in-Reconfig g c κs = ((refl, tt), (c.requires.within, content_there ops.Reconfig c.args.payload.now c.args.place c.in-Reconfig.is c.requires.stands))
+
+pub returns-in-Reconfig : goal.returns-in-Reconfig
+returns-in-Reconfig g c = λ b q of. content_is ops.Reconfig c.args.payload.now c.args.place c.known_at-body-in-Reconfig.result c.known_at-body-in-Reconfig.ensures b q (of ∙ c.in-Reconfig.is)
+
+pub known_at-body-requires-in-CreateContainer : goal.known_at-body-requires-in-CreateContainer
+known_at-body-requires-in-CreateContainer g c κs = ((refl, tt), (c.requires.within, content_there ops.CreateContainer c.args.payload.now c.args.place c.in-CreateContainer.is c.requires.stands))
+
+pub returns-in-CreateContainer : goal.returns-in-CreateContainer
+returns-in-CreateContainer g c = λ b q of. content_is ops.CreateContainer c.args.payload.now c.args.place c.known_at-body-in-CreateContainer.result c.known_at-body-in-CreateContainer.ensures b q (of ∙ c.in-CreateContainer.is)
+
+pub known_at-body-requires-in-CreateTtl : goal.known_at-body-requires-in-CreateTtl
+known_at-body-requires-in-CreateTtl g c κs = ((refl, tt), (c.requires.within, content_there ops.CreateTtl c.args.payload.now c.args.place c.in-CreateTtl.is c.requires.stands))
+
+pub returns-in-CreateTtl : goal.returns-in-CreateTtl
+returns-in-CreateTtl g c = λ b q of. content_is ops.CreateTtl c.args.payload.now c.args.place c.known_at-body-in-CreateTtl.result c.known_at-body-in-CreateTtl.ensures b q (of ∙ c.in-CreateTtl.is)
+
 pub known_multi-requires : goal.known_multi-requires
 known_multi-requires g c = record { within = c.requires.within; headed = dones_headed; told = done_read c.args.payload.now; stand = content_there ops.Multi c.args.payload.now c.args.place c.in-Multi.is c.requires.stands }

@@ -12,6 +12,12 @@ returns-in-Create g c = λ a q is. content_is ops.Create c.args.payload.now c.ar
 pub returns-in-Create2 : goal.returns-in-Create2
 returns-in-Create2 g c = λ a q is. content_is ops.Create2 c.args.payload.now c.args.place c.known_at-in-Create2.result c.known_at-in-Create2.ensures a q (is ∙ c.in-Create2.is)
 
+pub returns-in-CreateContainer : goal.returns-in-CreateContainer
+returns-in-CreateContainer g c = λ a q is. content_is ops.CreateContainer c.args.payload.now c.args.place c.known_at-in-CreateContainer.result c.known_at-in-CreateContainer.ensures a q (is ∙ c.in-CreateContainer.is)
+
+pub returns-in-CreateTtl : goal.returns-in-CreateTtl
+returns-in-CreateTtl g c = λ a q is. content_is ops.CreateTtl c.args.payload.now c.args.place c.known_at-in-CreateTtl.result c.known_at-in-CreateTtl.ensures a q (is ∙ c.in-CreateTtl.is)
+
 pub returns-in-SetAcl : goal.returns-in-SetAcl
 returns-in-SetAcl g c = λ a q is. content_is ops.SetAcl c.args.payload.now c.args.place c.known_at-in-SetAcl.result c.known_at-in-SetAcl.ensures a q (is ∙ c.in-SetAcl.is)
 

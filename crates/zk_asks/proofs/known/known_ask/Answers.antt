@@ -3,17 +3,17 @@ use Rattle.std.specs.Prelude.{MatchOption}
 use Rattle.std.specs.{Option.IsSome, Int.w32}
 use Rattle.std.proofs.lemmas.Int.{to_z-of_z}
 use Rattle.zk_records.specs.{Codes.HasOp, Codes.IsNoOp, Codes.op_number, declared.op.Op.Op}
-use Rattle.zk_records.proofs.Numbers.{newer_has}
-use Rattle.zk_records.specs.declared.profile.Profile.TheVariants as profiles
+use Rattle.zk_records.proofs.Numbers.{newest_has}
+use Rattle.zk_records.specs.declared.profile.TheConstants.{NEWEST}
 use Rattle.zk_asks.proofs.Knowing.{of_some, ask_header, ask_front, ask_op, ask_body, ask_is}
 use Rattle.zk_asks.proofs.known.known_ask.Goals as goal
 
 pub known_at-place-requires : goal.known_at-place-requires
 known_at-place-requires g c κs = let f = c.requires in ((refl, tt), (omega arith, ask_header c.args.payload.now f.0 (f.1, f.2, f.3)))
 
-some_op : (o : Option Op) (kind : ℤ) → MatchOption o (IsNoOp profiles.V35 kind) (λ op. HasOp profiles.V35 op × (kind ≡ op_number op)) → (op : Op) → kind ≡ op_number op → IsSome o
+some_op : (o : Option Op) (kind : ℤ) → MatchOption o (IsNoOp NEWEST kind) (λ op. HasOp NEWEST op × (kind ≡ op_number op)) → (op : Op) → kind ≡ op_number op → IsSome o
 some_op (Some op) kind told p e = refl
-some_op None kind told p e = absurd (told p (newer_has p) e)
+some_op None kind told p e = absurd (told p (newest_has p) e)
 
 pub unwrap-op-requires : goal.unwrap-op-requires
 unwrap-op-requires g c =

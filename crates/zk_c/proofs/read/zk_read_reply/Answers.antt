@@ -1,6 +1,6 @@
 use Rattle.std.proofs.Common.{w32, subst, sym, refl}
 use Rattle.std.proofs.{lemmas.Int.to_z-of_z, lemmas.Bool.false≢true}
-use Rattle.zk_records.specs.declared.profile.Profile.TheVariants as profiles
+use Rattle.zk_records.specs.declared.profile.TheConstants.{NEWEST}
 use Rattle.zk_records.specs.Codes.{IsNoOp}
 use Rattle.zk_talk.specs.declared.message.MessageOf.TheVariants.{Server}
 use Rattle.zk_c.specs.Read.{IsOp}
@@ -28,7 +28,7 @@ pub returns-in_default-clause-range : goal.returns-in_default-clause-range
 returns-in_default-clause-range c = λ none known. (c.unasked.ensures.range (subst IsOp (sym (to_z-of_z w32 c.args.operation c.ranges.operation)) known), refl)
 
 pub returns-in_default-clause-other : goal.returns-in_default-clause-other
-returns-in_default-clause-other c = λ no small head. (c.unasked.ensures.event (subst (IsNoOp profiles.V35) (sym (to_z-of_z w32 c.args.operation c.ranges.operation)) no) small head, refl)
+returns-in_default-clause-other c = λ no small head. (c.unasked.ensures.event (subst (IsNoOp NEWEST) (sym (to_z-of_z w32 c.args.operation c.ranges.operation)) no) small head, refl)
 
 pub returns-in_default-clause-unknown : goal.returns-in_default-clause-unknown
-returns-in_default-clause-unknown c = λ no small none. (c.unasked.ensures.unknown (subst (IsNoOp profiles.V35) (sym (to_z-of_z w32 c.args.operation c.ranges.operation)) no) small none, refl)
+returns-in_default-clause-unknown c = λ no small none. (c.unasked.ensures.unknown (subst (IsNoOp NEWEST) (sym (to_z-of_z w32 c.args.operation c.ranges.operation)) no) small none, refl)

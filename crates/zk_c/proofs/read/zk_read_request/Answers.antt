@@ -2,7 +2,8 @@ use Rattle.std.proofs.Common.{subst, sym, ◌∙◌}
 use Rattle.zk_records.specs.declared.profile.Profile.{Profile}
 use Rattle.zk_talk.specs.declared.message.MessageOf.TheVariants.{Client}
 use Rattle.zk_c.specs.Read.{ReadsRequest}
-use Rattle.zk_c.proofs.Reading.{read_ok, read_err, profile_apart}
+use Rattle.zk_c.proofs.Reading.{read_ok, read_err}
+use Rattle.zk_records.proofs.Numbers.{profile_apart}
 use Rattle.zk_c.proofs.read.zk_read_request.Goals as goal
 
 pub returns-in-Ok-clause-reads : goal.returns-in-Ok-clause-reads

@@ -1,5 +1,5 @@
 use Rattle.std.proofs.Common.{length, refl}
-use Rattle.zk_items.proofs.Copies.{few_read}
+use Rattle.zk_items.proofs.Encoding.{few_read}
 use Rattle.zk_items.proofs.read_hex.read_digits.Goals as goal
 
 pub unwrap-requires : goal.unwrap-requires

@@ -34,26 +34,26 @@ returns-in-Some-clause-ok g c =
     c.read_once.new.gathered c.read_once.new.progress c.in_ok-count.found _ _ t.0 _ _ _ (omega (arith, t.1, c.in_ok-count.ensures.most)) t.2 t.3
     c.loop-turn.invariant.empty c.as_slice.ensures.value (2 ^ 62) (omega (arith, c.loop-turn-test.true)) c.in_ok-write_whole.ensures.ok) c.in-Some.is
 
-pub returns-in-Some-give_up-clause-ok : goal.returns-in-Some-give_up-clause-ok
-returns-in-Some-give_up-clause-ok g c =
+pub returns-in-Some-flush-clause-ok : goal.returns-in-Some-flush-clause-ok
+returns-in-Some-flush-clause-ok g c =
     let t = c.in_ok-count.ensures.has in
-    let given = given-last c.loop-turn.gathered c.read_once.new.gathered c.give_up.new.gathered c.args.listing c.loop-turn.progress c.read_once.new.progress c.give_up.new.self _ _ t.0 _ c.give_up.result c.in_default.is t.3
-    (c.give_up.ensures.advances c.args.listing _ c.in_ok-count.ensures.listed) in
-    found-read _ _ _ _ _ _ _ _ _ (2 ^ 62) c.in-Some-give_up.summary (read-more _ _ _ _ _ _ _ _ _ c.loop-turn.invariant.read (omega (arith, c.loop-turn-test.true))
-    c.give_up.new.gathered c.give_up.new.self c.give_up.result _ _ t.0 _ _ _ (omega (arith, t.1, c.in_ok-count.ensures.most)) t.2 given
-    c.loop-turn.invariant.empty c.as_slice.ensures.value (2 ^ 62) (omega (arith, c.loop-turn-test.true)) c.in_ok-write_whole.ensures.ok) c.in-Some-give_up.is
+    let given = given-last c.loop-turn.gathered c.read_once.new.gathered c.flush.new.gathered c.args.listing c.loop-turn.progress c.read_once.new.progress c.flush.new.self _ _ t.0 _ c.flush.result c.in_default.is t.3
+    (c.flush.ensures.advances c.args.listing _ c.in_ok-count.ensures.listed) in
+    found-read _ _ _ _ _ _ _ _ _ (2 ^ 62) c.in-Some-flush.summary (read-more _ _ _ _ _ _ _ _ _ c.loop-turn.invariant.read (omega (arith, c.loop-turn-test.true))
+    c.flush.new.gathered c.flush.new.self c.flush.result _ _ t.0 _ _ _ (omega (arith, t.1, c.in_ok-count.ensures.most)) t.2 given
+    c.loop-turn.invariant.empty c.as_slice.ensures.value (2 ^ 62) (omega (arith, c.loop-turn-test.true)) c.in_ok-write_whole.ensures.ok) c.in-Some-flush.is
 
 pub returns-then-count-eq0-clause-ok : goal.returns-then-count-eq0-clause-ok
 returns-then-count-eq0-clause-ok g c =
     let limits = c.args.limits in
     let t = c.in_ok-count.ensures.has in
-    let new = c.give_up.new in
-    let given = given-last c.loop-turn.gathered c.read_once.new.gathered new.gathered c.args.listing c.loop-turn.progress c.read_once.new.progress new.self _ _ t.0 _ c.give_up.result c.in_default.is t.3
-    (c.give_up.ensures.advances c.args.listing _ c.in_ok-count.ensures.listed) in
+    let new = c.flush.new in
+    let given = given-last c.loop-turn.gathered c.read_once.new.gathered new.gathered c.args.listing c.loop-turn.progress c.read_once.new.progress new.self _ _ t.0 _ c.flush.result c.in_default.is t.3
+    (c.flush.ensures.advances c.args.listing _ c.in_ok-count.ensures.listed) in
     let r = read-more _ _ _ _ _ _ _ _ _ c.loop-turn.invariant.read (omega (arith, c.loop-turn-test.true))
-    new.gathered new.self c.give_up.result _ _ t.0 _ _ _ (omega (arith, t.1, c.in_ok-count.ensures.most)) t.2 given
+    new.gathered new.self c.flush.result _ _ t.0 _ _ _ (omega (arith, t.1, c.in_ok-count.ensures.most)) t.2 given
     c.loop-turn.invariant.empty c.as_slice.ensures.value (2 ^ 62) (omega (arith, c.loop-turn-test.true)) c.in_ok-write_whole.ensures.ok in
-    let follows = but-follows new.gathered limits r.bytes r.messages new.self c.give_up.ensures.empty (subst (ReachesBut new.gathered limits r.bytes r.messages new.self) c.in_default-give_up.is r.reaches) in
+    let follows = but-follows new.gathered limits r.bytes r.messages new.self c.flush.ensures.empty (subst (ReachesBut new.gathered limits r.bytes r.messages new.self) c.in_default-flush.is r.reaches) in
     found-at_end limits c.args.listing _ _ _ _ r.bytes r.messages new.self.talk c.finish.result r.consumed r.written
     (c.in_ok-count.ensures.end c.if-count-eq0.true) (c.finish.ensures limits r.bytes r.messages follows)
 

@@ -1,7 +1,7 @@
 use Rattle.std.proofs.Common.{◌≡◌, length, drop, ◌+◌, ◌-◌, ◌∷◌, [], ◌∙◌, ap, rules, arith, length-drop}
 use Rattle.std.specs.Int.{w32, to_be_bytes}
 use Rattle.zk_recordings.specs.Recording.{side_byte}
-use Rattle.zk_runs.proofs.Copied.{headed_in}
+use Rattle.zk_runs.proofs.Encoded.{headed_in}
 use Rattle.zk_runs.proofs.piece.fill_head.Goals as goal
 
 pub returns : goal.returns

@@ -47,5 +47,5 @@ returns-clause-told c =
           told_whole old new p (length (frame p)) limits (small_limits old.limits) side true (fits_own side old c.args.stream.now bytes used c.requires.limit o p is)
           (subst (λ (z : List ℕ). StepsOn old side z (length z) true new) is (c.in-Ok.ensures.taken yes)) (λ e. refl),
       limits,
-      c.pass_whole.ensures ∙ ap (λ z. passed z used) c.give_up.ensures,
+      c.pass_whole.ensures ∙ ap (λ z. passed z used) c.drop_kept.ensures,
     )

@@ -23,3 +23,12 @@ returns-in-GetChildren2-clause-err g c = rw c.in-GetChildren2.is c.put-in-GetChi
 
 pub returns-in-Create2-clause-ok : goal.returns-in-Create2-clause-ok
 returns-in-Create2-clause-ok g c = rw c.in-Create2.is c.put-in-Create2.ensures.ok
+
+pub returns-in-Reconfig-clause-ok : goal.returns-in-Reconfig-clause-ok
+returns-in-Reconfig-clause-ok g c = rw c.in-Reconfig.is c.put-in-Reconfig.ensures.ok
+
+pub returns-in-CreateContainer-clause-ok : goal.returns-in-CreateContainer-clause-ok
+returns-in-CreateContainer-clause-ok g c = rw c.in-CreateContainer.is c.put-in-CreateContainer.ensures.ok
+
+pub returns-in-CreateTtl-clause-ok : goal.returns-in-CreateTtl-clause-ok
+returns-in-CreateTtl-clause-ok g c = rw c.in-CreateTtl.is c.put-in-CreateTtl.ensures.ok

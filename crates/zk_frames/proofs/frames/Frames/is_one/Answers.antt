@@ -1,6 +1,6 @@
 use Rattle.std.proofs.Common.{Ok, ap, arith, length, subst, take}
 use Rattle.std.proofs.lemmas.Bool.{ne_eqb}
-use Rattle.zk_frames.specs.Advance.{Holds, EndsAt}
+use Rattle.zk_frames.specs.FramePart.{Holds, EndsAt}
 use Rattle.zk_frames.proofs.Ones.{one_alone, bad_alone, all_one, four_refused}
 use Rattle.zk_frames.proofs.frames.Frames.is_one.Goals as goal
 

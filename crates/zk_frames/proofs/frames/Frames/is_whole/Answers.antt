@@ -1,5 +1,5 @@
 use Rattle.std.proofs.Common.{sym, subst, refl, arith}
-use Rattle.zk_frames.specs.{Held.IsWhole, Advance.Holds}
+use Rattle.zk_frames.specs.{Held.IsWhole, FramePart.Holds}
 use Rattle.zk_frames.proofs.Taking.{standing_whole}
 use Rattle.zk_frames.proofs.frames.Frames.is_whole.Goals as goal
 

@@ -11,7 +11,7 @@ returns c =
     let part = c.first_bytes.result.now in
     let piece = c.args.piece.now in
     let room = c.within-room.result in
-    let none = subst (λ (t : StreamState). t.kept ≡ []) (sym c.self.view_is) c.requires.given_up in
+    let none = subst (λ (t : StreamState). t.kept ≡ []) (sym c.self.view_is) c.requires.dropped in
     let was = sym (held_all s.kept bytes (nothing_kept s.kept s.frames.limit bytes c.self.invariant none)) in
     rw (← c.self.view_is) (IfSome_then c.front.result c.front.ensures (λ used x.
     let y = front_taken s.frames.limit s.size bytes piece part (take used part) room c.first_bytes.ensures c.within-room.ensures.part c.within-room.ensures.fits used x in

@@ -9,7 +9,7 @@ pub returns-clause-stays : goal.returns-clause-stays
 returns-clause-stays c =
     let s = c.self.inside in
     let f = c.take_whole.new.self in
-    rw (← c.self.view_is) (stays_open s.kept s.frames.limit s.frames.bytes c.self.invariant (subst (λ (t : StreamState). t.kept ≡ []) (sym c.self.view_is) c.requires.given_up) f.limit c.take_whole.ensures.limit f.bytes s.count s.size)
+    rw (← c.self.view_is) (stays_open s.kept s.frames.limit s.frames.bytes c.self.invariant (subst (λ (t : StreamState). t.kept ≡ []) (sym c.self.view_is) c.requires.dropped) f.limit c.take_whole.ensures.limit f.bytes s.count s.size)
 
 pub returns-clause-some : goal.returns-clause-some
 returns-clause-some c =
@@ -17,7 +17,7 @@ returns-clause-some c =
     let f = c.take_whole.new.self in
     let part = c.first_bytes.result.now in
     let piece = c.args.piece.now in
-    let open' = all_held s.kept s.frames.limit s.frames.bytes c.self.invariant (subst (λ (t : StreamState). t.kept ≡ []) (sym c.self.view_is) c.requires.given_up) in
+    let open' = all_held s.kept s.frames.limit s.frames.bytes c.self.invariant (subst (λ (t : StreamState). t.kept ≡ []) (sym c.self.view_is) c.requires.dropped) in
     rw (← c.self.view_is) (IfSome_then c.take_whole.result c.take_whole.ensures.some (λ used x.
     let same = subst (λ l. IsFront s.frames.bytes part used (record { limit = l; bytes = f.bytes })) c.take_whole.ensures.limit x in
     let y = front_taken s.frames.limit s.size s.frames.bytes piece part f.bytes c.within-room.result c.first_bytes.ensures c.within-room.ensures.part c.within-room.ensures.fits used same in

@@ -20,7 +20,7 @@ returns-in-Ok-clause-ok c =
     let s = c.receive.new.stream in
     let r = received c.args.side _ _ _ _ _ c.in-Some.is c.in_ok-used-in-Client.ensures.received in
     let next = subst (λ z. IsNextClient z s.count T.waiting (drop 4 s.held) c.in-Ok.frame) c.profile.ensures k.found.0 in
-    rw (c.in-Client.is, ← c.self.view_is, r.1) (r.0.advance.1, (λ l. r.0.advance.0), makes Client T c.args.piece.now s c.client_frame.new.stream c.self.invariant.0.same r.0.stays c.in-Some.used r.0.advance c.self.invariant.2 (FromClient c.in-Ok.frame) c.client_frame.new.waiting (next, k.found.1) (none_kept c.self.view_is c.in-Client.is c.requires.given_up) k.passed)
+    rw (c.in-Client.is, ← c.self.view_is, r.1) (r.0.advance.1, (λ l. r.0.advance.0), makes Client T c.args.piece.now s c.client_frame.new.stream c.self.invariant.0.same r.0.stays c.in-Some.used r.0.advance c.self.invariant.2 (FromClient c.in-Ok.frame) c.client_frame.new.waiting (next, k.found.1) (none_kept c.self.view_is c.in-Client.is c.requires.dropped) k.passed)
 
 pub returns-in-Err-clause-err : goal.returns-in-Err-clause-err
 returns-in-Err-clause-err c =
@@ -28,7 +28,7 @@ returns-in-Err-clause-err c =
     let s = c.receive.new.stream in
     let w = received c.args.side _ _ _ _ _ c.in-Some.is c.in_ok-used-in-Client.ensures.received in
     let k = c.in-Err.ensures in
-    rw (c.in-Client.is, ← c.self.view_is) (fails Client T c.args.piece.now s c.client_frame.new.stream c.self.invariant.0.same w.0.stays c.in-Some.used w.0.advance c.self.invariant.2 c.in-Client.is c.client_frame.new.waiting c.refuse.new.kept c.in-Err.item c.refuse.result c.refuse.ensures.told k.same (none_kept c.self.view_is c.in-Client.is c.requires.given_up) (λ n. (let r = c.refuse.ensures.wanting n in (r.0, r.1 ∙ w.1))) (λ n. (let f = k.lacks n in let x = remembered_there s.count f.0 T.waiting f.1.room in (FromClient f.0, x.0, (subst (λ z. IsNextClient z s.count T.waiting (drop 4 s.held) f.0) c.profile.ensures f.1, x.1)))) k.back k.stays (λ n limits m v q o d. k.fault n limits m v q (o ∙ sym c.profile.ensures) d))
+    rw (c.in-Client.is, ← c.self.view_is) (fails Client T c.args.piece.now s c.client_frame.new.stream c.self.invariant.0.same w.0.stays c.in-Some.used w.0.advance c.self.invariant.2 c.in-Client.is c.client_frame.new.waiting c.refuse.new.kept c.in-Err.item c.refuse.result c.refuse.ensures.told k.same (none_kept c.self.view_is c.in-Client.is c.requires.dropped) (λ n. (let r = c.refuse.ensures.wanting n in (r.0, r.1 ∙ w.1))) (λ n. (let f = k.lacks n in let x = remembered_there s.count f.0 T.waiting f.1.room in (FromClient f.0, x.0, (subst (λ z. IsNextClient z s.count T.waiting (drop 4 s.held) f.0) c.profile.ensures f.1, x.1)))) k.back k.stays (λ n limits m v q o d. k.fault n limits m v q (o ∙ sym c.profile.ensures) d))
 
 pub returns-in_err-used-in-Client-clause-err : goal.returns-in_err-used-in-Client-clause-err
 returns-in_err-used-in-Client-clause-err c =
@@ -56,7 +56,7 @@ returns-in-Ok-server_frame-clause-ok c =
     let s = c.receive-in-Server.new.stream in
     let r = received c.args.side _ _ _ _ _ c.in-Some-2.is c.in_ok-used-in-Server.ensures.received in
     let next = subst (λ z. IsNextServer z s.count T.waiting (drop 4 s.held) c.in-Ok-server_frame.frame) c.count.ensures k.found.0 in
-    rw (c.in-Server.is, ← c.self.view_is, r.1) (r.0.advance.1, (λ l. r.0.advance.0), makes Server T c.args.piece.now s c.server_frame.new.stream c.self.invariant.1.same r.0.stays c.in-Some-2.used r.0.advance c.self.invariant.2 (FromServer c.in-Ok-server_frame.frame) c.server_frame.new.waiting (next, k.found.1) (none_kept c.self.view_is c.in-Server.is c.requires.given_up) k.passed)
+    rw (c.in-Server.is, ← c.self.view_is, r.1) (r.0.advance.1, (λ l. r.0.advance.0), makes Server T c.args.piece.now s c.server_frame.new.stream c.self.invariant.1.same r.0.stays c.in-Some-2.used r.0.advance c.self.invariant.2 (FromServer c.in-Ok-server_frame.frame) c.server_frame.new.waiting (next, k.found.1) (none_kept c.self.view_is c.in-Server.is c.requires.dropped) k.passed)
 
 pub returns-in-Err-server_frame-clause-err : goal.returns-in-Err-server_frame-clause-err
 returns-in-Err-server_frame-clause-err c =
@@ -64,7 +64,7 @@ returns-in-Err-server_frame-clause-err c =
     let s = c.receive-in-Server.new.stream in
     let w = received c.args.side _ _ _ _ _ c.in-Some-2.is c.in_ok-used-in-Server.ensures.received in
     let k = c.in-Err-server_frame.ensures in
-    rw (c.in-Server.is, ← c.self.view_is) (fails Server T c.args.piece.now s c.server_frame.new.stream c.self.invariant.1.same w.0.stays c.in-Some-2.used w.0.advance c.self.invariant.2 c.in-Server.is c.server_frame.new.waiting c.refuse-in-Err-server_frame.new.kept c.in-Err-server_frame.item c.refuse-in-Err-server_frame.result c.refuse-in-Err-server_frame.ensures.told k.same (none_kept c.self.view_is c.in-Server.is c.requires.given_up) (λ n. (let r = c.refuse-in-Err-server_frame.ensures.wanting n in (r.0, r.1 ∙ w.1))) (λ n. (let f = k.lacks n in let x = forgotten_there f.0 T.waiting in (FromServer f.0, x.0, (subst (λ z. IsNextServer z s.count T.waiting (drop 4 s.held) f.0) c.count.ensures f.1, x.1)))) k.back k.stays (λ n v d. k.fault n v (subst (λ z. Describes z s.count T.waiting v) (sym c.count.ensures) d)))
+    rw (c.in-Server.is, ← c.self.view_is) (fails Server T c.args.piece.now s c.server_frame.new.stream c.self.invariant.1.same w.0.stays c.in-Some-2.used w.0.advance c.self.invariant.2 c.in-Server.is c.server_frame.new.waiting c.refuse-in-Err-server_frame.new.kept c.in-Err-server_frame.item c.refuse-in-Err-server_frame.result c.refuse-in-Err-server_frame.ensures.told k.same (none_kept c.self.view_is c.in-Server.is c.requires.dropped) (λ n. (let r = c.refuse-in-Err-server_frame.ensures.wanting n in (r.0, r.1 ∙ w.1))) (λ n. (let f = k.lacks n in let x = forgotten_there f.0 T.waiting in (FromServer f.0, x.0, (subst (λ z. IsNextServer z s.count T.waiting (drop 4 s.held) f.0) c.count.ensures f.1, x.1)))) k.back k.stays (λ n v d. k.fault n v (subst (λ z. Describes z s.count T.waiting v) (sym c.count.ensures) d)))
 
 pub returns-in_err-used-in-Server-clause-err : goal.returns-in_err-used-in-Server-clause-err
 returns-in_err-used-in-Server-clause-err c =

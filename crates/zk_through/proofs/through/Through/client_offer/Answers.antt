@@ -1,16 +1,16 @@
 use Rattle.std.proofs.Common.{◌∙◌, Ok, Some, refl, sym, ap, subst, arith}
 use Rattle.std.proofs.lemmas.Result.{err_from_is_err_and}
 use Rattle.zk_talk.specs.{declared.limits.Limits.Limits, declared.message.Side.TheVariants.Client, declared.stream.Advance.TheVariants.Whole, Streams.kept_now, Streams.held_in, Offered.IsOffered}
-use Rattle.zk_through.specs.{contracts.through.Through.the_view, Runs.ThroughState, Runs.given_up, Fates.HasClientFate, Offered.TellsNext}
-use Rattle.zk_through.specs.declared.through.Went.TheVariants as went
+use Rattle.zk_through.specs.{contracts.through.Through.the_view, Runs.ThroughState, Runs.dropped, Fates.HasClientFate, Offered.TellsNext}
+use Rattle.zk_through.specs.declared.through.StepOutcome.TheVariants as outcome
 use Rattle.zk_through.proofs.AnsweringClient.{client_told, client_left, client_refused, is_full}
-use Rattle.zk_through.proofs.{Given.given_went, Given.given_full, Steps.ready, Offering.one_frame, Offering.whole_of, Offering.never_begun, Offering.lent, Offering.would}
+use Rattle.zk_through.proofs.{Given.given_outcome, Given.given_full, Steps.ready, Offering.one_frame, Offering.whole_of, Offering.never_begun, Offering.lent, Offering.would}
 use Rattle.zk_through.proofs.through.Through.client_offer.Goals as goal
 
 pub client_fate-requires-clause-small : goal.client_fate-requires-clause-small
 client_fate-requires-clause-small c =
     let T = the_view c.self.inside in
-    let G = given_up Client T in
+    let G = dropped Client T in
     let bytes = c.args.frame.now in
     let used = c.args.used in
     let same = c.self.invariant.1.same ∙ ap (λ (l : Limits). l.client) (sym c.self.invariant.0) in
@@ -24,7 +24,7 @@ client_fate-requires-clause-small c =
 pub returns-in-Full-clause-offered : goal.returns-in-Full-clause-offered
 returns-in-Full-clause-offered c =
     let T = the_view c.self.inside in
-    let G = given_up Client T in
+    let G = dropped Client T in
     let bytes = c.args.frame.now in
     let used = c.args.used in
     let same = c.self.invariant.1.same ∙ ap (λ (l : Limits). l.client) (sym c.self.invariant.0) in
@@ -39,7 +39,7 @@ returns-in-Full-clause-offered c =
 pub returns-in-LeftOut-clause-offered : goal.returns-in-LeftOut-clause-offered
 returns-in-LeftOut-clause-offered c =
     let T = the_view c.self.inside in
-    let G = given_up Client T in
+    let G = dropped Client T in
     let bytes = c.args.frame.now in
     let used = c.args.used in
     let same = c.self.invariant.1.same ∙ ap (λ (l : Limits). l.client) (sym c.self.invariant.0) in
@@ -50,13 +50,13 @@ returns-in-LeftOut-clause-offered c =
     let n = c.count-number.result in
     let fate = subst (HasClientFate c.self.inside.talk c.self.inside.turns n w.p) c.in-LeftOut.is c.client_fate.ensures in
     let keep = c.keep_whole.ensures ∙ ap (kept_now (held_in T.client bytes)) (sym o.2) in
-    let went' = client_left G bytes used _ w n c.count-number.ensures c.keep_whole.new.self c.leave.new.self c.in-LeftOut.turn fate keep c.leave.ensures.now in
-    rw (← c.self.view_is, c.of-in-LeftOut.ensures) (one_frame Client T bytes same used o, (o.2, given_went Client T bytes used (went.Asked c.in-LeftOut.turn) _ went'))
+    let outcome' = client_left G bytes used _ w n c.count-number.ensures c.keep_whole.new.self c.leave.new.self c.in-LeftOut.turn fate keep c.leave.ensures.now in
+    rw (← c.self.view_is, c.of-in-LeftOut.ensures) (one_frame Client T bytes same used o, (o.2, given_outcome Client T bytes used (outcome.Asked c.in-LeftOut.turn) _ outcome'))
 
 pub returns-else-not-told-clause-offered : goal.returns-else-not-told-clause-offered
 returns-else-not-told-clause-offered c =
     let T = the_view c.self.inside in
-    let G = given_up Client T in
+    let G = dropped Client T in
     let bytes = c.args.frame.now in
     let used = c.args.used in
     let same = c.self.invariant.1.same ∙ ap (λ (l : Limits). l.client) (sym c.self.invariant.0) in
@@ -67,13 +67,13 @@ returns-else-not-told-clause-offered c =
     let n = c.count-number.result in
     let fate = subst (HasClientFate c.self.inside.talk c.self.inside.turns n w.p) c.in-Told.is c.client_fate.ensures in
     let t = subst (λ b. TellsNext T.talk T.client Client bytes used (Ok b) c.tell_next.new.talk c.tell_next.new.stream) c.if-not-told.false c.in_ok-told-in-Told.ensures.told in
-    let went' = client_told G bytes used _ w n c.count-number.ensures c.tell_next.new.stream c.tell_next.new.talk c.ask.new.self t.2 t.1 t.0 c.in-Told.turn fate c.ask.ensures.now in
-    rw (← c.self.view_is, c.of-in-Told.ensures) (one_frame Client T bytes same used o, (o.2, given_went Client T bytes used went.Message _ went'))
+    let outcome' = client_told G bytes used _ w n c.count-number.ensures c.tell_next.new.stream c.tell_next.new.talk c.ask.new.self t.2 t.1 t.0 c.in-Told.turn fate c.ask.ensures.now in
+    rw (← c.self.view_is, c.of-in-Told.ensures) (one_frame Client T bytes same used o, (o.2, given_outcome Client T bytes used outcome.Message _ outcome'))
 
 pub returns-then-not-told-clause-offered : goal.returns-then-not-told-clause-offered
 returns-then-not-told-clause-offered c =
     let T = the_view c.self.inside in
-    let G = given_up Client T in
+    let G = dropped Client T in
     let bytes = c.args.frame.now in
     let used = c.args.used in
     let same = c.self.invariant.1.same ∙ ap (λ (l : Limits). l.client) (sym c.self.invariant.0) in
@@ -88,7 +88,7 @@ returns-then-not-told-clause-offered c =
 pub returns-in_err-told-in-Told-clause-offered : goal.returns-in_err-told-in-Told-clause-offered
 returns-in_err-told-in-Told-clause-offered c =
     let T = the_view c.self.inside in
-    let G = given_up Client T in
+    let G = dropped Client T in
     let bytes = c.args.frame.now in
     let used = c.args.used in
     let same = c.self.invariant.1.same ∙ ap (λ (l : Limits). l.client) (sym c.self.invariant.0) in

@@ -4,15 +4,15 @@ use Rattle.zk_talk.specs.{declared.limits.Limits.Limits, declared.message.Side.T
 use Rattle.zk_talk.proofs.Answering.{received}
 use Rattle.zk_through.specs.{contracts.through.Through.the_view, Fates.HasClientFate}
 use Rattle.zk_through.proofs.AnsweringClient.{client_told, client_left, client_full, client_refused, is_full}
-use Rattle.zk_through.proofs.{Refusals.refused_early, Steps.ready, Steps.went_within, Steps.received_whole, Steps.carrying}
+use Rattle.zk_through.proofs.{Refusals.refused_early, Steps.ready, Steps.outcome_within, Steps.received_whole, Steps.carrying}
 use Rattle.zk_through.proofs.through.Through.client_step.Goals as goal
 
 pub returns-in_default-clause-ok : goal.returns-in_default-clause-ok
 returns-in_default-clause-ok c =
     let T = the_view c.self.inside in
-    let x = ready Client (the_view c.self.inside) c.args.self.now c.self.inside.limits c.self.invariant.0 c.self.invariant.1.same c.self.invariant.4.0 c.self.view_is c.requires.given_up in
+    let x = ready Client (the_view c.self.inside) c.args.self.now c.self.inside.limits c.self.invariant.0 c.self.invariant.1.same c.self.invariant.4.0 c.self.view_is c.requires.dropped in
     let w = received Client _ _ _ _ _ c.in_default.is c.in_ok-received.ensures.received in
-    rw (← c.self.view_is, c.of.ensures, w.1) (went_within Client T (record T { client = c.receive.new.stream }) c.args.piece.now x w.0 refl refl)
+    rw (← c.self.view_is, c.of.ensures, w.1) (outcome_within Client T (record T { client = c.receive.new.stream }) c.args.piece.now x w.0 refl refl)
 
 pub returns-in_err-received-clause-err : goal.returns-in_err-received-clause-err
 returns-in_err-received-clause-err c =
@@ -21,14 +21,14 @@ returns-in_err-received-clause-err c =
 
 pub client_fate-requires-clause-small : goal.client_fate-requires-clause-small
 client_fate-requires-clause-small c =
-    let x = ready Client (the_view c.self.inside) c.args.self.now c.self.inside.limits c.self.invariant.0 c.self.invariant.1.same c.self.invariant.4.0 c.self.view_is c.requires.given_up in
+    let x = ready Client (the_view c.self.inside) c.args.self.now c.self.inside.limits c.self.invariant.0 c.self.invariant.1.same c.self.invariant.4.0 c.self.view_is c.requires.dropped in
     let w = received_whole x _ _ _ _ _ c.in-Some.is c.in_ok-received.ensures.received in
     let y = carrying w.0 c.payload-payload.result.now c.payload-payload.ensures in
     omega (arith, y.fits, c.self.inside.limits.in_range, ap (λ (l : Limits). l.client) c.self.invariant.0)
 
 pub returns-in-Full-clause-ok : goal.returns-in-Full-clause-ok
 returns-in-Full-clause-ok c =
-    let x = ready Client (the_view c.self.inside) c.args.self.now c.self.inside.limits c.self.invariant.0 c.self.invariant.1.same c.self.invariant.4.0 c.self.view_is c.requires.given_up in
+    let x = ready Client (the_view c.self.inside) c.args.self.now c.self.inside.limits c.self.invariant.0 c.self.invariant.1.same c.self.invariant.4.0 c.self.view_is c.requires.dropped in
     let w = received_whole x _ _ _ _ _ c.in-Some.is c.in_ok-received.ensures.received in
     let n = c.count-number.result in
     let y = carrying w.0 c.payload-payload.result.now c.payload-payload.ensures in
@@ -37,7 +37,7 @@ returns-in-Full-clause-ok c =
 
 pub returns-in-LeftOut-clause-ok : goal.returns-in-LeftOut-clause-ok
 returns-in-LeftOut-clause-ok c =
-    let x = ready Client (the_view c.self.inside) c.args.self.now c.self.inside.limits c.self.invariant.0 c.self.invariant.1.same c.self.invariant.4.0 c.self.view_is c.requires.given_up in
+    let x = ready Client (the_view c.self.inside) c.args.self.now c.self.inside.limits c.self.invariant.0 c.self.invariant.1.same c.self.invariant.4.0 c.self.view_is c.requires.dropped in
     let w = received_whole x _ _ _ _ _ c.in-Some.is c.in_ok-received.ensures.received in
     let n = c.count-number.result in
     let y = carrying w.0 c.payload-payload.result.now c.payload-payload.ensures in
@@ -48,7 +48,7 @@ pub returns-in_err-tell-in-Told-clause-err : goal.returns-in_err-tell-in-Told-cl
 returns-in_err-tell-in-Told-clause-err c =
     let t = c.in_err-tell-in-Told.ensures in
     let p = err_from_is_err_and c.from_residual-in_err-tell-in-Told.result c.from_residual-in_err-tell-in-Told.ensures.1 in
-    let x = ready Client (the_view c.self.inside) c.args.self.now c.self.inside.limits c.self.invariant.0 c.self.invariant.1.same c.self.invariant.4.0 c.self.view_is c.requires.given_up in
+    let x = ready Client (the_view c.self.inside) c.args.self.now c.self.inside.limits c.self.invariant.0 c.self.invariant.1.same c.self.invariant.4.0 c.self.view_is c.requires.dropped in
     let w = received_whole x _ _ _ _ _ c.in-Some.is c.in_ok-received.ensures.received in
     let n = c.count-number.result in
     let y = carrying w.0 c.payload-payload.result.now c.payload-payload.ensures in
@@ -57,7 +57,7 @@ returns-in_err-tell-in-Told-clause-err c =
 
 pub returns-in_ok-tell-in-Told-clause-ok : goal.returns-in_ok-tell-in-Told-clause-ok
 returns-in_ok-tell-in-Told-clause-ok c =
-    let x = ready Client (the_view c.self.inside) c.args.self.now c.self.inside.limits c.self.invariant.0 c.self.invariant.1.same c.self.invariant.4.0 c.self.view_is c.requires.given_up in
+    let x = ready Client (the_view c.self.inside) c.args.self.now c.self.inside.limits c.self.invariant.0 c.self.invariant.1.same c.self.invariant.4.0 c.self.view_is c.requires.dropped in
     let w = received_whole x _ _ _ _ _ c.in-Some.is c.in_ok-received.ensures.received in
     let n = c.count-number.result in
     let y = carrying w.0 c.payload-payload.result.now c.payload-payload.ensures in

@@ -2,16 +2,16 @@ use Rattle.std.proofs.Common.{rules, ◌∙◌, ◌+◌, ℤ, Ok, Some, refl, sy
 use Rattle.std.proofs.{lemmas.Int.to_z-of_z, lemmas.Result.err_from_is_err_and}
 use Rattle.zk_jute.specs.declared.fault.ItemFault.{ItemFault}
 use Rattle.zk_talk.specs.{declared.limits.Limits.Limits, declared.message.Side.TheVariants.Server, declared.stream.Advance.TheVariants.Whole, Fault.fault_of, Streams.kept_now, Streams.held_in, Offered.IsOffered}
-use Rattle.zk_through.specs.{contracts.through.Through.the_view, declared.fate.ServerFate.ServerFate, Runs.ThroughState, Runs.given_up, Turns.after_answer, Fates.HasServerFate, Offered.TellsNext}
-use Rattle.zk_through.specs.declared.through.Went.TheVariants as went
+use Rattle.zk_through.specs.{contracts.through.Through.the_view, declared.fate.ServerFate.ServerFate, Runs.ThroughState, Runs.dropped, Turns.after_answer, Fates.HasServerFate, Offered.TellsNext}
+use Rattle.zk_through.specs.declared.through.StepOutcome.TheVariants as outcome
 use Rattle.zk_through.proofs.AnsweringServer.{server_passed, server_left, server_over, server_bad, server_refused}
-use Rattle.zk_through.proofs.{Given.given_went, Steps.ready, Offering.one_frame, Offering.whole_of, Offering.never_begun, Offering.lent, Offering.would}
+use Rattle.zk_through.proofs.{Given.given_outcome, Steps.ready, Offering.one_frame, Offering.whole_of, Offering.never_begun, Offering.lent, Offering.would}
 use Rattle.zk_through.proofs.through.Through.server_offer.Goals as goal
 
 pub returns-in-Unseen-clause-offered : goal.returns-in-Unseen-clause-offered
 returns-in-Unseen-clause-offered c =
     let T = the_view c.self.inside in
-    let G = given_up Server T in
+    let G = dropped Server T in
     let bytes = c.args.frame.now in
     let used = c.args.used in
     let same = c.self.invariant.2.same ∙ ap (λ (l : Limits). l.server) (sym c.self.invariant.0) in
@@ -26,13 +26,13 @@ returns-in-Unseen-clause-offered c =
     let zxid : SFits w64 c.in-Unseen.zxid = search rules in
     let err : SFits w32 c.in-Unseen.err = search rules in
     let keep = c.keep_whole.ensures ∙ ap (kept_now (held_in T.server bytes)) (sym o.2) in
-    let went' = server_over G bytes used _ w n c.count-number.ensures c.keep_whole.new.self after c.in-Unseen.xid c.in-Unseen.zxid c.in-Unseen.err fate keep in
-    rw (← c.self.view_is, c.of.ensures, to_z-of_z w32 c.in-Unseen.xid xid, to_z-of_z w64 c.in-Unseen.zxid zxid, to_z-of_z w32 c.in-Unseen.err err) (one_frame Server T bytes same used o, (o.2, given_went Server T bytes used (went.Unseen c.in-Unseen.xid c.in-Unseen.zxid c.in-Unseen.err) _ went'))
+    let outcome' = server_over G bytes used _ w n c.count-number.ensures c.keep_whole.new.self after c.in-Unseen.xid c.in-Unseen.zxid c.in-Unseen.err fate keep in
+    rw (← c.self.view_is, c.of.ensures, to_z-of_z w32 c.in-Unseen.xid xid, to_z-of_z w64 c.in-Unseen.zxid zxid, to_z-of_z w32 c.in-Unseen.err err) (one_frame Server T bytes same used o, (o.2, given_outcome Server T bytes used (outcome.Unseen c.in-Unseen.xid c.in-Unseen.zxid c.in-Unseen.err) _ outcome'))
 
 pub returns-in-Refused-clause-offered : goal.returns-in-Refused-clause-offered
 returns-in-Refused-clause-offered c =
     let T = the_view c.self.inside in
-    let G = given_up Server T in
+    let G = dropped Server T in
     let bytes = c.args.frame.now in
     let used = c.args.used in
     let same = c.self.invariant.2.same ∙ ap (λ (l : Limits). l.server) (sym c.self.invariant.0) in
@@ -51,7 +51,7 @@ returns-in-Refused-clause-offered c =
 pub returns-in-LeftOut-clause-offered : goal.returns-in-LeftOut-clause-offered
 returns-in-LeftOut-clause-offered c =
     let T = the_view c.self.inside in
-    let G = given_up Server T in
+    let G = dropped Server T in
     let bytes = c.args.frame.now in
     let used = c.args.used in
     let same = c.self.invariant.2.same ∙ ap (λ (l : Limits). l.server) (sym c.self.invariant.0) in
@@ -66,13 +66,13 @@ returns-in-LeftOut-clause-offered c =
     let fits : SFits w32 turn.xid = search rules in
     let less = c.answer.ensures.now ∙ ap (λ (z : ℤ). after_answer z c.self.inside.turns) (to_z-of_z w32 turn.xid fits) in
     let keep = c.keep_whole-in-LeftOut.ensures ∙ ap (kept_now (held_in T.server bytes)) (sym o.2) in
-    let went' = server_left G bytes used _ w n c.count-number.ensures c.keep_whole-in-LeftOut.new.self c.answer.new.self after _ turn fate keep less refl in
-    rw (← c.self.view_is, c.of-in-LeftOut.ensures) (one_frame Server T bytes same used o, (o.2, given_went Server T bytes used (went.Answered turn) _ went'))
+    let outcome' = server_left G bytes used _ w n c.count-number.ensures c.keep_whole-in-LeftOut.new.self c.answer.new.self after _ turn fate keep less refl in
+    rw (← c.self.view_is, c.of-in-LeftOut.ensures) (one_frame Server T bytes same used o, (o.2, given_outcome Server T bytes used (outcome.Answered turn) _ outcome'))
 
 pub returns-else-not-told-clause-offered : goal.returns-else-not-told-clause-offered
 returns-else-not-told-clause-offered c =
     let T = the_view c.self.inside in
-    let G = given_up Server T in
+    let G = dropped Server T in
     let bytes = c.args.frame.now in
     let used = c.args.used in
     let same = c.self.invariant.2.same ∙ ap (λ (l : Limits). l.server) (sym c.self.invariant.0) in
@@ -84,13 +84,13 @@ returns-else-not-told-clause-offered c =
     let after = c.server_fate.new.matched in
     let fate = subst (λ (z : ServerFate). HasServerFate c.self.inside.late c.self.inside.matched c.self.inside.turns n w.p z after) c.in-Told.is c.server_fate.ensures in
     let t = subst (λ b. TellsNext T.talk T.server Server bytes used (Ok b) c.tell_next.new.talk c.tell_next.new.stream) c.if-not-told.false c.in_ok-told-in-Told.ensures.told in
-    let went' = server_passed G bytes used _ w n c.count-number.ensures c.tell_next.new.stream c.tell_next.new.talk c.reply.new.self after c.in-Told.asked t.2 t.1 t.0 c.in-Told.xid fate c.reply.ensures.now in
-    rw (← c.self.view_is, c.of-in-Told.ensures) (one_frame Server T bytes same used o, (o.2, given_went Server T bytes used went.Message _ went'))
+    let outcome' = server_passed G bytes used _ w n c.count-number.ensures c.tell_next.new.stream c.tell_next.new.talk c.reply.new.self after c.in-Told.asked t.2 t.1 t.0 c.in-Told.xid fate c.reply.ensures.now in
+    rw (← c.self.view_is, c.of-in-Told.ensures) (one_frame Server T bytes same used o, (o.2, given_outcome Server T bytes used outcome.Message _ outcome'))
 
 pub returns-then-not-told-clause-offered : goal.returns-then-not-told-clause-offered
 returns-then-not-told-clause-offered c =
     let T = the_view c.self.inside in
-    let G = given_up Server T in
+    let G = dropped Server T in
     let bytes = c.args.frame.now in
     let used = c.args.used in
     let same = c.self.invariant.2.same ∙ ap (λ (l : Limits). l.server) (sym c.self.invariant.0) in
@@ -105,7 +105,7 @@ returns-then-not-told-clause-offered c =
 pub returns-in_err-told-in-Told-clause-offered : goal.returns-in_err-told-in-Told-clause-offered
 returns-in_err-told-in-Told-clause-offered c =
     let T = the_view c.self.inside in
-    let G = given_up Server T in
+    let G = dropped Server T in
     let bytes = c.args.frame.now in
     let used = c.args.used in
     let same = c.self.invariant.2.same ∙ ap (λ (l : Limits). l.server) (sym c.self.invariant.0) in

@@ -4,16 +4,16 @@ use Rattle.zk_jute.specs.declared.fault.ItemFault.{ItemFault}
 use Rattle.zk_talk.specs.{declared.limits.Limits.Limits, declared.message.Side.TheVariants.Server, Fault.fault_of}
 use Rattle.zk_talk.proofs.Answering.{received}
 use Rattle.zk_through.specs.{contracts.through.Through.the_view, declared.fate.ServerFate.ServerFate, Turns.after_answer, Fates.HasServerFate}
-use Rattle.zk_through.proofs.{Answering.bad_known, Refusals.refused_early, Steps.ready, Steps.went_within, Steps.received_whole, Steps.at_frame, Steps.carrying}
+use Rattle.zk_through.proofs.{Answering.bad_known, Refusals.refused_early, Steps.ready, Steps.outcome_within, Steps.received_whole, Steps.at_frame, Steps.carrying}
 use Rattle.zk_through.proofs.AnsweringServer.{server_passed, server_left, server_over, server_bad, server_refused}
 use Rattle.zk_through.proofs.through.Through.server_step.Goals as goal
 
 pub returns-in_default-clause-ok : goal.returns-in_default-clause-ok
 returns-in_default-clause-ok c =
     let T = the_view c.self.inside in
-    let x = ready Server (the_view c.self.inside) c.args.self.now c.self.inside.limits c.self.invariant.0 c.self.invariant.2.same c.self.invariant.4.0 c.self.view_is c.requires.given_up in
+    let x = ready Server (the_view c.self.inside) c.args.self.now c.self.inside.limits c.self.invariant.0 c.self.invariant.2.same c.self.invariant.4.0 c.self.view_is c.requires.dropped in
     let w = received Server _ _ _ _ _ c.in_default.is c.in_ok-received.ensures.received in
-    rw (← c.self.view_is, c.of.ensures, w.1) (went_within Server T (record T { server = c.receive.new.stream }) c.args.piece.now x w.0 refl refl)
+    rw (← c.self.view_is, c.of.ensures, w.1) (outcome_within Server T (record T { server = c.receive.new.stream }) c.args.piece.now x w.0 refl refl)
 
 pub returns-in_err-received-clause-err : goal.returns-in_err-received-clause-err
 returns-in_err-received-clause-err c =
@@ -28,7 +28,7 @@ keep-requires-in-LeftOut c = at_frame _ _ _ _ (received Server _ _ _ _ _ c.in-So
 
 pub returns-in-Refused-clause-err : goal.returns-in-Refused-clause-err
 returns-in-Refused-clause-err c =
-    let x = ready Server (the_view c.self.inside) c.args.self.now c.self.inside.limits c.self.invariant.0 c.self.invariant.2.same c.self.invariant.4.0 c.self.view_is c.requires.given_up in
+    let x = ready Server (the_view c.self.inside) c.args.self.now c.self.inside.limits c.self.invariant.0 c.self.invariant.2.same c.self.invariant.4.0 c.self.view_is c.requires.dropped in
     let w = received_whole x _ _ _ _ _ c.in-Some.is c.in_ok-received.ensures.received in
     let n = c.count-number.result in
     let y = carrying w.0 c.payload-payload.result.now c.payload-payload.ensures in
@@ -40,7 +40,7 @@ returns-in-Refused-clause-err c =
 
 pub returns-in-LeftOut-clause-ok : goal.returns-in-LeftOut-clause-ok
 returns-in-LeftOut-clause-ok c =
-    let x = ready Server (the_view c.self.inside) c.args.self.now c.self.inside.limits c.self.invariant.0 c.self.invariant.2.same c.self.invariant.4.0 c.self.view_is c.requires.given_up in
+    let x = ready Server (the_view c.self.inside) c.args.self.now c.self.inside.limits c.self.invariant.0 c.self.invariant.2.same c.self.invariant.4.0 c.self.view_is c.requires.dropped in
     let w = received_whole x _ _ _ _ _ c.in-Some.is c.in_ok-received.ensures.received in
     let n = c.count-number.result in
     let y = carrying w.0 c.payload-payload.result.now c.payload-payload.ensures in
@@ -54,7 +54,7 @@ returns-in-LeftOut-clause-ok c =
 pub returns-in_err-tell-in-Told-clause-err : goal.returns-in_err-tell-in-Told-clause-err
 returns-in_err-tell-in-Told-clause-err c =
     let p = err_from_is_err_and c.from_residual-in_err-tell-in-Told.result c.from_residual-in_err-tell-in-Told.ensures.1 in
-    let x = ready Server (the_view c.self.inside) c.args.self.now c.self.inside.limits c.self.invariant.0 c.self.invariant.2.same c.self.invariant.4.0 c.self.view_is c.requires.given_up in
+    let x = ready Server (the_view c.self.inside) c.args.self.now c.self.inside.limits c.self.invariant.0 c.self.invariant.2.same c.self.invariant.4.0 c.self.view_is c.requires.dropped in
     let w = received_whole x _ _ _ _ _ c.in-Some.is c.in_ok-received.ensures.received in
     let n = c.count-number.result in
     let y = carrying w.0 c.payload-payload.result.now c.payload-payload.ensures in
@@ -65,7 +65,7 @@ returns-in_err-tell-in-Told-clause-err c =
 
 pub returns-in_ok-tell-in-Told-clause-ok : goal.returns-in_ok-tell-in-Told-clause-ok
 returns-in_ok-tell-in-Told-clause-ok c =
-    let x = ready Server (the_view c.self.inside) c.args.self.now c.self.inside.limits c.self.invariant.0 c.self.invariant.2.same c.self.invariant.4.0 c.self.view_is c.requires.given_up in
+    let x = ready Server (the_view c.self.inside) c.args.self.now c.self.inside.limits c.self.invariant.0 c.self.invariant.2.same c.self.invariant.4.0 c.self.view_is c.requires.dropped in
     let w = received_whole x _ _ _ _ _ c.in-Some.is c.in_ok-received.ensures.received in
     let n = c.count-number.result in
     let y = carrying w.0 c.payload-payload.result.now c.payload-payload.ensures in
@@ -76,7 +76,7 @@ returns-in_ok-tell-in-Told-clause-ok c =
 
 pub returns-in-Unseen-clause-ok : goal.returns-in-Unseen-clause-ok
 returns-in-Unseen-clause-ok c =
-    let x = ready Server (the_view c.self.inside) c.args.self.now c.self.inside.limits c.self.invariant.0 c.self.invariant.2.same c.self.invariant.4.0 c.self.view_is c.requires.given_up in
+    let x = ready Server (the_view c.self.inside) c.args.self.now c.self.inside.limits c.self.invariant.0 c.self.invariant.2.same c.self.invariant.4.0 c.self.view_is c.requires.dropped in
     let w = received_whole x _ _ _ _ _ c.in-Some.is c.in_ok-received.ensures.received in
     let n = c.count-number.result in
     let y = carrying w.0 c.payload-payload.result.now c.payload-payload.ensures in

@@ -1,7 +1,0 @@
-use Rattle.std.proofs.Common.{refl}
-use Rattle.zk_records.specs.Records.{check_ask}
-use Rattle.zk_lines.proofs.Appended.{made, ◌then◌}
-use Rattle.zk_lines.proofs.request.CheckAskCopies.copy.Goals as goal
-
-pub returns-clause-copied : goal.returns-clause-copied
-returns-clause-copied c = made check_ask.items _ (λ _ _. (_, refl, refl)) (c.in_ok-copy_field.ensures.copied then c.in_ok-copy_field-2.ensures.copied)

@@ -1,0 +1,7 @@
+use Rattle.std.proofs.Common.{refl}
+use Rattle.zk_records.specs.Records.{check_ask}
+use Rattle.zk_lines.proofs.Appended.{made, ◌then◌}
+use Rattle.zk_lines.proofs.request.CheckAskEncode.encode.Goals as goal
+
+pub returns-clause-encoded : goal.returns-clause-encoded
+returns-clause-encoded c = made check_ask.items _ (λ _ _. (_, refl, refl)) (c.in_ok-encode_field.ensures.encoded then c.in_ok-encode_field-2.ensures.encoded)

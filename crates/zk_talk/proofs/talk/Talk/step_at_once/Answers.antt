@@ -1,9 +1,0 @@
-use Rattle.std.proofs.Common.{true, take}
-use Rattle.std.proofs.lemmas.Option.{IfSome_then}
-use Rattle.zk_talk.proofs.Stepping.{steps_first}
-use Rattle.zk_talk.proofs.talk.Talk.step_at_once.Goals as goal
-
-pub returns-in-None-clause-some : goal.returns-in-None-clause-some
-returns-in-None-clause-some c =
-    let old = c.args.self.now in
-    IfSome_then c.step_whole.result c.step_whole.ensures.some (λ used x. (x.0, x.1, steps_first c.args.side old c.step_whole.new.self (take used c.args.piece.now) true (rw (← c.give_up.ensures) x.2)))
